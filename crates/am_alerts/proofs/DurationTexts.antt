@@ -169,7 +169,7 @@ from-append [] (b ∷ bs) none at = ap (λ q. cond q (b ∷ bs) (from_digit bs))
 from-append (c ∷ cs) text none at =
     ap (λ q. cond q (c ∷ (cs ++ text)) (from_digit (cs ++ text))) none.0 ∙ from-append cs text none.1 at
 
--- no digit stands at the front of a symbol
+-- no digit is at the front of a symbol
 symbol-no_front : (unit : TimeUnit) (text : List ℕ) → front_digits (symbol_of unit ++ text) ≡ []
 symbol-no_front Year text = refl
 symbol-no_front Week text = refl
@@ -197,7 +197,7 @@ at_digit-parts : (parts : List DurationPart) → AllByRecursion (λ part. IsNume
 at_digit-parts [] counted = tt
 at_digit-parts (part ∷ parts) counted = at_digit-numeral part.digits (symbol_of part.unit) (flat_map part_text parts) counted.0
 
--- where a unit comes next in a list, it is found there, and the others stand behind it
+-- where a unit comes next in a list, it is found there, and the others are behind it
 record IsNext (unit : TimeUnit) (units : List TimeUnit) (all : List TimeUnit) : Type 0 where
   later : List TimeUnit
   found : unit_named (symbol_of unit) all ≡ Some (unit, later)

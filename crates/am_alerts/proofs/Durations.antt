@@ -173,7 +173,7 @@ cons_missed f q false m o apart missed h = refl
 cons_missed f true true m o apart missed h = let e = apart refl in cc
 cons_missed f false true m o apart missed h = missed h
 
--- where they are not, nothing behind the symbol has a value: no digit stands there
+-- where they are not, nothing behind the symbol has a value: no digit is there
 behind_symbol-missed : (f : List ℕ → Option ℕ) → ((b : ℕ) (bs : List ℕ) → is_ascii_digit b ≡ false → f (b ∷ bs) ≡ None)
     → (symbol text : List ℕ) → NoDigits symbol → bytes_eq symbol (before_digit text) ≡ false
     → option_and_then f (behind_symbol symbol text) ≡ None

@@ -7,9 +7,9 @@ use Rattle.std.proofs.lemmas.List.{append_assoc, at_drop_more, length-append, le
 use Rattle.am_alerts.specs.Forest.{Forest, bare, grow, count, height, listed}
 use Rattle.am_alerts.specs.Layout.{beside, laid}
 use Rattle.am_alerts.specs.Nested.{Branch, branch, branch_step, forest, rule_of, below_of, settled, settled_below, settled_route}
-use Rattle.am_alerts.specs.Planted.{place_of, tree_below}
+use Rattle.am_alerts.specs.RouteLayouts.{layout_of, tree_below}
 use Rattle.am_alerts.specs.RoutingTree.{TreeRoute}
-use Rattle.am_alerts.specs.declared.planting.Place.{Place}
+use Rattle.am_alerts.specs.declared.route_layout.RouteLayout.{RouteLayout}
 use Rattle.am_alerts.specs.declared.route.Child.{Child}
 use Rattle.am_alerts.specs.declared.route.Route.{Route}
 use Rattle.am_alerts.specs.declared.spans.Spans.{Spans}
@@ -40,7 +40,7 @@ low_on h r n some low =
     ]
 
 module _ (nodes : List Node) (i : ℕ) (n d : Node) (within : i < length nodes) (here : n ≡ get_or nodes i d) where
-  -- the nodes from a place on, as a forest
+  -- the nodes from a layout on, as a forest
   pub forest-drop : forest (drop i nodes) ≡ grow (rule_of n) (below_of n) (forest (drop (i + 1) nodes))
   forest-drop =
       at_drop_more (λ ns. forest ns) nodes i d within
@@ -98,7 +98,7 @@ module _ (above : Route) (ns : List Node) (m : Node) where
       ≡ beside (settled_below above (forest ns)) (tree_below above (rule_of m) (below_of m))
   settled_more = ap (settled_below above) (beside_forest ns m) ∙ beside_settled above (forest ns) (grow (rule_of m) (below_of m) bare)
 
-  -- the routes of one more node, and their places
+  -- the routes of one more node, and their layouts
   pub children_more : (before so_far now : List Child) → so_far ≡ before ++ map (λ r. r.child) (listed (settled_below above (forest ns)))
       → now ≡ so_far ++ map (λ r. r.child) (listed (tree_below above (rule_of m) (below_of m)))
       → now ≡ before ++ map (λ r. r.child) (listed (settled_below above (forest (ns ++ m ∷ []))))
@@ -110,28 +110,28 @@ module _ (above : Route) (ns : List Node) (m : Node) where
       ∙ ap (map (λ r. r.child)) (listed-beside (settled_below above (forest ns)) (tree_below above (rule_of m) (below_of m)))
       ∙ map-append (λ r. r.child) (listed (settled_below above (forest ns))) (listed (tree_below above (rule_of m) (below_of m)))))
 
-  pub places_more : (before so_far now : List Place) → so_far ≡ before ++ map place_of (laid (settled_below above (forest ns)))
-      → now ≡ so_far ++ map place_of (laid (tree_below above (rule_of m) (below_of m)))
-      → now ≡ before ++ map place_of (laid (settled_below above (forest (ns ++ m ∷ []))))
-  places_more before so_far now was added =
-      let first = map place_of (laid (settled_below above (forest ns))) in
-      let more = map place_of (laid (tree_below above (rule_of m) (below_of m))) in
+  pub layouts_more : (before so_far now : List RouteLayout) → so_far ≡ before ++ map layout_of (laid (settled_below above (forest ns)))
+      → now ≡ so_far ++ map layout_of (laid (tree_below above (rule_of m) (below_of m)))
+      → now ≡ before ++ map layout_of (laid (settled_below above (forest (ns ++ m ∷ []))))
+  layouts_more before so_far now was added =
+      let first = map layout_of (laid (settled_below above (forest ns))) in
+      let more = map layout_of (laid (tree_below above (rule_of m) (below_of m))) in
       added ∙ ap (λ cs. cs ++ more) was ∙ append_assoc before first more
-      ∙ ap (λ cs. before ++ cs) (sym (ap (λ f. map place_of (laid f)) settled_more
-      ∙ ap (map place_of) (laid-beside (settled_below above (forest ns)) (tree_below above (rule_of m) (below_of m)))
-      ∙ map-append place_of (laid (settled_below above (forest ns))) (laid (tree_below above (rule_of m) (below_of m)))))
+      ∙ ap (λ cs. before ++ cs) (sym (ap (λ f. map layout_of (laid f)) settled_more
+      ∙ ap (map layout_of) (laid-beside (settled_below above (forest ns)) (tree_below above (rule_of m) (below_of m)))
+      ∙ map-append layout_of (laid (settled_below above (forest ns))) (laid (tree_below above (rule_of m) (below_of m)))))
 
--- the place of a route is told once those below it are laid out
-pub place_told : (before now : List Place) (x : TreeRoute) (p : Place) (f : Forest TreeRoute) (size : ℕ) (shut : Spans)
-    → shut ≡ x.shut → now ≡ (before ++ p ∷ []) ++ map place_of (laid f) → size ≡ length now - length before - 1
-    → set now (length before) (record { below = size; shut = shut }) ≡ before ++ place_of (x, count f) ∷ map place_of (laid f)
-place_told before now x p f size shut own was told =
-    let others = map place_of (laid f) in
+-- the layout of a route is reported once those below it are laid out
+pub layout_counted : (before now : List RouteLayout) (x : TreeRoute) (p : RouteLayout) (f : Forest TreeRoute) (size : ℕ) (muted : Spans)
+    → muted ≡ x.muted → now ≡ (before ++ p ∷ []) ++ map layout_of (laid f) → size ≡ length now - length before - 1
+    → set now (length before) (record { below = size; muted = muted }) ≡ before ++ layout_of (x, count f) ∷ map layout_of (laid f)
+layout_counted before now x p f size muted own was fact =
+    let others = map layout_of (laid f) in
     let flat : now ≡ before ++ p ∷ others = was ∙ append_assoc before (p ∷ []) others in
     let all : length now ≡ length before + suc (length others) = ap length flat ∙ length-append before (p ∷ others) in
-    let many : length others ≡ count f = length-map (laid f) place_of ∙ length_laid f in
-    let is : size ≡ count f = told ∙ omega (arith, all, many) in
-    ap (λ ps. set ps (length before) (record { below = size; shut = shut })) flat
-    ∙ set_at before p others (record { below = size; shut = shut }) (length before) refl
-    ∙ ap (λ s. before ++ (let q : Place = record { below = size; shut = s } in q) ∷ others) own
-    ∙ ap (λ n. before ++ place_of (x, n) ∷ others) is
+    let many : length others ≡ count f = length-map (laid f) layout_of ∙ length_laid f in
+    let is : size ≡ count f = fact ∙ omega (arith, all, many) in
+    ap (λ ps. set ps (length before) (record { below = size; muted = muted })) flat
+    ∙ set_at before p others (record { below = size; muted = muted }) (length before) refl
+    ∙ ap (λ s. before ++ (let q : RouteLayout = record { below = size; muted = s } in q) ∷ others) own
+    ∙ ap (λ n. before ++ layout_of (x, n) ∷ others) is

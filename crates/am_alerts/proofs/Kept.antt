@@ -6,11 +6,11 @@ use Rattle.std.proofs.lemmas.List.{length-map}
 use Rattle.am_alerts.specs.Forest.{Forest, bare, grow, count, height, listed, level}
 use Rattle.am_alerts.specs.Layout.{laid, planted_of_laid}
 use Rattle.am_alerts.specs.Nested.{nested_of, settled, settled_below}
-use Rattle.am_alerts.specs.Planted.{IsLaid, IsPlanted, paired, place_of, tree_from}
+use Rattle.am_alerts.specs.RouteLayouts.{IsLaid, IsPlanted, paired, layout_of, tree_from}
 use Rattle.am_alerts.specs.RoutingTree.{RoutingTree, TreeRoute, children_of, fault_where, is_within, last_of, level_fault, plain}
 use Rattle.am_alerts.specs.RoutingTree.{tree_fault, tree_of}
 use Rattle.am_alerts.specs.declared.limits.TheConstants.{MAX_CHILDREN, MAX_DEPTH, MAX_ROUTES}
-use Rattle.am_alerts.specs.declared.planting.Place.{Place}
+use Rattle.am_alerts.specs.declared.route_layout.RouteLayout.{RouteLayout}
 use Rattle.am_alerts.specs.declared.route.Child.{Child}
 use Rattle.am_alerts.specs.declared.route.Route.{Route}
 use Rattle.am_alerts.specs.declared.tree.RouteSpec.{RouteSpec}
@@ -87,10 +87,10 @@ height_settled above (grow r below after) =
     ap (λ n. max (n + 1) (height (settled_below above after))) (height_settled (settled above r) below)
     ∙ ap (λ n. max (height below + 1) n) (height_settled above after)
 
-module _ (root : Route) (f : Forest RouteSpec) (cs : List Child) (ps : List Place)
-    (children : cs ≡ map (λ r. r.child) (listed (settled_below root f))) (places : ps ≡ map place_of (laid (settled_below root f))) where
+module _ (root : Route) (f : Forest RouteSpec) (cs : List Child) (ps : List RouteLayout)
+    (children : cs ≡ map (λ r. r.child) (listed (settled_below root f))) (layouts : ps ≡ map layout_of (laid (settled_below root f))) where
   paired_nested : paired cs ps ≡ laid (settled_below root f)
-  paired_nested = ap (λ ds. paired ds ps) children ∙ ap (λ qs. paired (map (λ r. r.child) (listed (settled_below root f))) qs) places
+  paired_nested = ap (λ ds. paired ds ps) children ∙ ap (λ qs. paired (map (λ r. r.child) (listed (settled_below root f))) qs) layouts
       ∙ paired_laid (settled_below root f)
 
   pub tree_from_nested : tree_from root (paired cs ps) ≡ nested_of root f

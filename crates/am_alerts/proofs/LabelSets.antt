@@ -14,7 +14,7 @@ use Rattle.std.proofs.lemmas.List.Sums.{list_all-from_AllPass}
 use Rattle.am_alerts.specs.declared.labels.Label.{Label}
 use Rattle.am_alerts.specs.Fault.{first_fault}
 use Rattle.am_alerts.specs.LabelOrder.{label_cmp_total, label_set_hash, same_label_set-decides}
-use Rattle.am_alerts.specs.Labels.{has_value, has_text_twice, has_rising_names, names_of, stands_in, with_values, is_label, pair_fault}
+use Rattle.am_alerts.specs.Labels.{has_value, has_text_twice, has_rising_names, names_of, occurs_in, with_values, is_label, pair_fault}
 use Rattle.am_alerts.specs.Labels.{same_label_set, set_fault, label_cmp, text_cmp, IsLabelSet, IsReadOf}
 use Rattle.am_alerts.specs.declared.limits.TheConstants.{MAX_LABELS}
 use Rattle.am_alerts.proofs.Faults.{none_of_both}
@@ -66,18 +66,18 @@ IsLabelSet-filter p ls h = record {
 abbrev count_named : List ℕ → List Label → ℕ
 count_named name ls = count_by (λ l. bytes_eq l.name name) ls
 
-count_named-none : (name : List ℕ) (ls : List Label) → stands_in name (names_of ls) ≡ false → count_named name ls ≡ 0
+count_named-none : (name : List ℕ) (ls : List Label) → occurs_in name (names_of ls) ≡ false → count_named name ls ≡ 0
 count_named-none name [] h = refl
 count_named-none name (l ∷ ls) h =
-    let parts = both_false (bytes_eq l.name name) (stands_in name (names_of ls)) h in
+    let parts = both_false (bytes_eq l.name name) (occurs_in name (names_of ls)) h in
     sum_by-cons (λ m. cond (bytes_eq m.name name) 1 0) l ls ∙ ap (λ b. cond b 1 0 + count_named name ls) parts.0
     ∙ ap (λ n. 0 + n) (count_named-none name ls parts.1)
 
--- where no name stands twice, each stands at most once
+-- where no name is twice, each is at most once
 count_named-once : (ls : List Label) → has_text_twice (names_of ls) ≡ false → (name : List ℕ) → count_named name ls ≤ 1
 count_named-once [] h name = omega arith
 count_named-once (l ∷ ls) h name =
-    let parts = both_false (stands_in l.name (names_of ls)) (has_text_twice (names_of ls)) h in
+    let parts = both_false (occurs_in l.name (names_of ls)) (has_text_twice (names_of ls)) h in
     let step = sum_by-cons (λ m. cond (bytes_eq m.name name) 1 0) l ls in
     by (bytes_eq l.name name) refl step (count_named-none l.name ls parts.0) (count_named-once ls parts.1 name)
   where
@@ -113,7 +113,7 @@ above y m not_below other = by (text_cmp m.name y.name) refl
     by Equal e = absurd (false≢true (sym other ∙ texts_ties m.name y.name ∙ ap is_eq e))
     by Greater e = ap is_lt (nat_list_cmp_total.antisymm y.name m.name ∙ ap ordering_reverse e)
 
--- labels in order whose names stand once rise by name
+-- labels in order whose names are once rise by name
 rising-sorted : (ls : List Label) → IsSortedBy (λ x y. is_lt (label_cmp x y)) ls → ((name : List ℕ) → count_named name ls ≤ 1)
     → has_rising_names ls ≡ true
 rising-sorted [] sorted once = refl

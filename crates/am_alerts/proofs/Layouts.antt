@@ -5,10 +5,10 @@ use Rattle.std.proofs.lemmas.List.{map-append, length-append, length-take-le, le
 use Rattle.std.proofs.lemmas.List.{drop-drop, drop_more, take_all}
 use Rattle.am_alerts.specs.Forest.{Forest, bare, grow, count, listed, level}
 use Rattle.am_alerts.specs.Layout.{laid, planted, planted_of_laid, first_trees-none, other_trees, other_trees-none}
-use Rattle.am_alerts.specs.Planted.{IsLaid, IsPlanted, below_in, paired, part, place_of, shut_in, tree_from}
+use Rattle.am_alerts.specs.RouteLayouts.{IsLaid, IsPlanted, below_in, paired, part, layout_of, muted_in, tree_from}
 use Rattle.am_alerts.specs.RoutingTree.{RoutingTree, TreeRoute, below_at, plain, children_of, last_of, tree_fault}
-use Rattle.am_alerts.specs.Spans.{shut_at}
-use Rattle.am_alerts.specs.declared.planting.Place.{Place}
+use Rattle.am_alerts.specs.Spans.{muted_at}
+use Rattle.am_alerts.specs.declared.route_layout.RouteLayout.{RouteLayout}
 use Rattle.am_alerts.specs.declared.route.Child.{Child}
 use Rattle.am_alerts.specs.declared.route.Route.{Route}
 
@@ -34,23 +34,23 @@ module _ {X : Type 0} where
   listed_level [] = refl
   listed_level (x ∷ xs) = ap (λ ys. x ∷ ys) (listed_level xs)
 
--- ---- children with their places
+-- ---- children with their layouts
 
-pub length_paired : (cs : List Child) (ps : List Place) → length (paired cs ps) ≡ length cs
+pub length_paired : (cs : List Child) (ps : List RouteLayout) → length (paired cs ps) ≡ length cs
 length_paired [] ps = refl
 length_paired (c ∷ cs) [] = ap suc (length_paired cs [])
 length_paired (c ∷ cs) (p ∷ ps) = ap suc (length_paired cs ps)
 
-pub children_paired : (cs : List Child) (ps : List Place) → map (λ t. t.0.child) (paired cs ps) ≡ cs
+pub children_paired : (cs : List Child) (ps : List RouteLayout) → map (λ t. t.0.child) (paired cs ps) ≡ cs
 children_paired [] ps = refl
 children_paired (c ∷ cs) [] = ap (λ r. c ∷ r) (children_paired cs [])
 children_paired (c ∷ cs) (p ∷ ps) = ap (λ r. c ∷ r) (children_paired cs ps)
 
--- the route that is kept at a place
-abbrev pub kept_route : Child → List Place → ℕ → TreeRoute
-kept_route c ps k = record { child = c; shut = shut_in ps k }
+-- the route that is kept at a layout
+abbrev pub kept_route : Child → List RouteLayout → ℕ → TreeRoute
+kept_route c ps k = record { child = c; muted = muted_in ps k }
 
-pub get_or_paired : (cs : List Child) (ps : List Place) (k : ℕ) (d : Child) (e : TreeRoute × ℕ) → k < length cs
+pub get_or_paired : (cs : List Child) (ps : List RouteLayout) (k : ℕ) (d : Child) (e : TreeRoute × ℕ) → k < length cs
     → get_or (paired cs ps) k e ≡ (kept_route (get_or cs k d) ps k, below_in ps k)
 get_or_paired [] ps k d e within = absurd (omega arith)
 get_or_paired (c ∷ cs) [] zero d e within = refl
@@ -58,7 +58,7 @@ get_or_paired (c ∷ cs) [] (suc k) d e within = get_or_paired cs [] k d e (omeg
 get_or_paired (c ∷ cs) (p ∷ ps) zero d e within = refl
 get_or_paired (c ∷ cs) (p ∷ ps) (suc k) d e within = get_or_paired cs ps k d e (omega arith)
 
-pub paired_again : (ts : List (TreeRoute × ℕ)) → paired (map (λ t. t.0.child) ts) (map place_of ts) ≡ ts
+pub paired_again : (ts : List (TreeRoute × ℕ)) → paired (map (λ t. t.0.child) ts) (map layout_of ts) ≡ ts
 paired_again [] = refl
 paired_again (t ∷ ts) = ap (λ r. t ∷ r) (paired_again ts)
 
@@ -69,11 +69,11 @@ children_twice (t ∷ ts) = ap (λ r. t.0.child ∷ r) (children_twice ts)
 pub children_laid : (f : Forest TreeRoute) → map (λ t. t.0.child) (laid f) ≡ map (λ r. r.child) (listed f)
 children_laid f = sym (children_twice (laid f)) ∙ ap (map (λ r. r.child)) (listed_of_laid f)
 
--- the children and the places of a forest are its layout
-pub paired_laid : (f : Forest TreeRoute) → paired (map (λ r. r.child) (listed f)) (map place_of (laid f)) ≡ laid f
-paired_laid f = ap (λ cs. paired cs (map place_of (laid f))) (sym (children_laid f)) ∙ paired_again (laid f)
+-- the children and the layouts of a forest are its layout
+pub paired_laid : (f : Forest TreeRoute) → paired (map (λ r. r.child) (listed f)) (map layout_of (laid f)) ≡ laid f
+paired_laid f = ap (λ cs. paired cs (map layout_of (laid f))) (sym (children_laid f)) ∙ paired_again (laid f)
 
--- children without places are one level
+-- children without layouts are one level
 pub planted_level : (cs : List Child) → planted (paired cs []) ≡ level (map plain cs)
 planted_level [] = refl
 planted_level (c ∷ cs) =
@@ -84,7 +84,7 @@ pub laid_level : (cs : List Child) → laid (level (map plain cs)) ≡ paired cs
 laid_level [] = refl
 laid_level (c ∷ cs) = ap (λ ts. (plain c, 0) ∷ ts) (laid_level cs)
 
-module _ (root : Route) (cs : List Child) (ps : List Place) (is_laid : IsLaid (paired cs ps)) where
+module _ (root : Route) (cs : List Child) (ps : List RouteLayout) (is_laid : IsLaid (paired cs ps)) where
   pub children_planted : children_of (tree_from root (paired cs ps)) ≡ cs
   children_planted =
       sym (children_laid (planted (paired cs ps))) ∙ ap (map (λ t. t.0.child)) is_laid ∙ children_paired cs ps
@@ -149,7 +149,7 @@ part-all ts = let size : length ts - 0 ≡ length ts = omega arith in take_all (
 pub part-none : (ts : List (TreeRoute × ℕ)) (at to : ℕ) → to ≤ at → part at to ts ≡ []
 part-none ts at to past = let none : to - at ≡ 0 = omega arith in ap (λ n. take n (drop at ts)) none
 
--- the route at a place in a part that is laid out, those below it and those after them
+-- the route at a layout in a part that is laid out, those below it and those after them
 pub record IsOpened (ts : List (TreeRoute × ℕ)) (at to end : ℕ) (x : TreeRoute) : Type 0 where
   pub ends : end ≤ to
   pub below : IsLaid (part (at + 1) end ts)
@@ -182,7 +182,7 @@ opened ts at to d before within is_laid =
       );
     }
 
--- ---- how many stand below a route of a layout: no more than there are
+-- ---- how many are below a route of a layout: no more than there are
 
 abbrev AreSmall : ℕ → List (TreeRoute × ℕ) → Type 0
 AreSmall n [] = Unit {0}
@@ -202,30 +202,30 @@ small-at n [] k a = omega arith
 small-at n (t ∷ ts) zero a = a.0
 small-at n (t ∷ ts) (suc k) a = small-at n ts k a.1
 
-places_paired : (cs : List Child) (ps : List Place) (k : ℕ) → k < length cs → get_or (map (λ t. t.1) (paired cs ps)) k 0 ≡ below_in ps k
-places_paired [] ps k within = absurd (omega arith)
-places_paired (c ∷ cs) [] zero within = refl
-places_paired (c ∷ cs) [] (suc k) within = places_paired cs [] k (omega arith)
-places_paired (c ∷ cs) (p ∷ ps) zero within = refl
-places_paired (c ∷ cs) (p ∷ ps) (suc k) within = places_paired cs ps k (omega arith)
+layouts_paired : (cs : List Child) (ps : List RouteLayout) (k : ℕ) → k < length cs → get_or (map (λ t. t.1) (paired cs ps)) k 0 ≡ below_in ps k
+layouts_paired [] ps k within = absurd (omega arith)
+layouts_paired (c ∷ cs) [] zero within = refl
+layouts_paired (c ∷ cs) [] (suc k) within = layouts_paired cs [] k (omega arith)
+layouts_paired (c ∷ cs) (p ∷ ps) zero within = refl
+layouts_paired (c ∷ cs) (p ∷ ps) (suc k) within = layouts_paired cs ps k (omega arith)
 
-shut_paired : (cs : List Child) (ps : List Place) (k : ℕ) → k < length cs → get_or (map (λ t. t.0.shut) (paired cs ps)) k [] ≡ shut_in ps k
-shut_paired [] ps k within = absurd (omega arith)
-shut_paired (c ∷ cs) [] zero within = refl
-shut_paired (c ∷ cs) [] (suc k) within = shut_paired cs [] k (omega arith)
-shut_paired (c ∷ cs) (p ∷ ps) zero within = refl
-shut_paired (c ∷ cs) (p ∷ ps) (suc k) within = shut_paired cs ps k (omega arith)
+muted_paired : (cs : List Child) (ps : List RouteLayout) (k : ℕ) → k < length cs → get_or (map (λ t. t.0.muted) (paired cs ps)) k [] ≡ muted_in ps k
+muted_paired [] ps k within = absurd (omega arith)
+muted_paired (c ∷ cs) [] zero within = refl
+muted_paired (c ∷ cs) [] (suc k) within = muted_paired cs [] k (omega arith)
+muted_paired (c ∷ cs) (p ∷ ps) zero within = refl
+muted_paired (c ∷ cs) (p ∷ ps) (suc k) within = muted_paired cs ps k (omega arith)
 
-shut_twice : (ts : List (TreeRoute × ℕ)) → map (λ r. r.shut) (map (λ t. t.0) ts) ≡ map (λ t. t.0.shut) ts
-shut_twice [] = refl
-shut_twice (t ∷ ts) = ap (λ r. t.0.shut ∷ r) (shut_twice ts)
+muted_twice : (ts : List (TreeRoute × ℕ)) → map (λ r. r.muted) (map (λ t. t.0) ts) ≡ map (λ t. t.0.muted) ts
+muted_twice [] = refl
+muted_twice (t ∷ ts) = ap (λ r. t.0.muted ∷ r) (muted_twice ts)
 
-shut_laid : (f : Forest TreeRoute) → map (λ t. t.0.shut) (laid f) ≡ map (λ r. r.shut) (listed f)
-shut_laid f = sym (shut_twice (laid f)) ∙ ap (map (λ r. r.shut)) (listed_of_laid f)
+muted_laid : (f : Forest TreeRoute) → map (λ t. t.0.muted) (laid f) ≡ map (λ r. r.muted) (listed f)
+muted_laid f = sym (muted_twice (laid f)) ∙ ap (map (λ r. r.muted)) (listed_of_laid f)
 
 -- ---- a routing tree and what it is kept as
 
-module _ (root : Route) (cs : List Child) (ps : List Place) (tree : RoutingTree) (view : tree_from root (paired cs ps) ≡ tree)
+module _ (root : Route) (cs : List Child) (ps : List RouteLayout) (tree : RoutingTree) (view : tree_from root (paired cs ps) ≡ tree)
     (kept : IsPlanted root (paired cs ps)) where
   pub kept_children : cs ≡ children_of tree
   kept_children = sym (children_planted root cs ps kept.0) ∙ ap children_of view
@@ -238,23 +238,23 @@ module _ (root : Route) (cs : List Child) (ps : List Place) (tree : RoutingTree)
 
   pub kept_below : (position : ℕ) → 0 < position → position ≤ last_of tree → below_in ps (position - 1) ≡ below_at tree position
   kept_below position some within =
-      sym (places_paired cs ps (position - 1) (omega (arith, kept_last)))
+      sym (layouts_paired cs ps (position - 1) (omega (arith, kept_last)))
       ∙ ap (λ ts. get_or (map (λ t. t.1) ts) (position - 1) 0) (sym kept.0)
       ∙ ap (λ t. below_at t position) view
 
-  pub kept_shut : (position : ℕ) → 0 < position → position ≤ last_of tree → shut_in ps (position - 1) ≡ shut_at tree position
-  kept_shut zero some within = absurd (omega arith)
-  kept_shut (suc k) some within =
+  pub kept_muted : (position : ℕ) → 0 < position → position ≤ last_of tree → muted_in ps (position - 1) ≡ muted_at tree position
+  kept_muted zero some within = absurd (omega arith)
+  kept_muted (suc k) some within =
       let e : suc k - 1 ≡ k = omega arith in
-      ap (shut_in ps) e
-      ∙ sym (shut_paired cs ps k (omega (arith, kept_last)))
-      ∙ ap (λ ts. get_or (map (λ t. t.0.shut) ts) k []) (sym kept.0)
-      ∙ ap (λ xs. get_or xs k []) (shut_laid (planted (paired cs ps)))
-      ∙ ap (λ t. shut_at t (suc k)) view
+      ap (muted_in ps) e
+      ∙ sym (muted_paired cs ps k (omega (arith, kept_last)))
+      ∙ ap (λ ts. get_or (map (λ t. t.0.muted) ts) k []) (sym kept.0)
+      ∙ ap (λ xs. get_or xs k []) (muted_laid (planted (paired cs ps)))
+      ∙ ap (λ t. muted_at t (suc k)) view
 
   pub below_at-small : (position : ℕ) → below_at tree position ≤ last_of tree
   below_at-small position = small-at (last_of tree) (laid tree.below) (position - 1) (small_laid (last_of tree) tree.below (omega arith))
 
--- the whole list is the part of it that stands in it
-pub part_paired : (cs : List Child) (ps : List Place) → part 0 (length cs) (paired cs ps) ≡ paired cs ps
+-- the whole list is the part of it that is in it
+pub part_paired : (cs : List Child) (ps : List RouteLayout) → part 0 (length cs) (paired cs ps) ≡ paired cs ps
 part_paired cs ps = ap (λ n. part 0 n (paired cs ps)) (sym (length_paired cs ps)) ∙ part-all (paired cs ps)

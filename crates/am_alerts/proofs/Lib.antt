@@ -41,7 +41,7 @@ pub mod Positions
 -- a search among the routes of a tree, step by step
 pub mod Searches
 -- spans that are apart: until when one lasts
-pub mod Shut
+pub mod Muted
 -- laws of routing trees
 pub mod TreeLaws
 -- routing trees

@@ -50,7 +50,7 @@ more_prefix ps before rest p e h =
     let is : ps ≡ before = e ∙ take_at before (p ∷ rest) (length ps) h in
     rw is (push_prefix before rest p)
 
--- what stands at the place of the next matcher's pattern is that pattern
+-- what is at the index of the next matcher's pattern is that pattern
 pub is_at-met : (ms : List MatcherParts) (i : ℕ) (d : MatcherParts) (count : ℕ) (ps : List (List ℕ)) (p : List ℕ) → i < length ms →
     pattern_of (get_or ms i d) ≡ Some p → AreMet ms i count ps → IsAt count ps p
 is_at-met ms i d count ps p h is met below =
@@ -105,47 +105,47 @@ are_met-some ms i d count ps p h is met =
       first = rw all (put_first p count ps before rest (met.first ∙ ap (take (length ps)) all) met.counted);
     }
 
-there_by : (p : List ℕ) (place : ℕ) (ps : List (List ℕ)) → IsAt place ps p → place ≤ length ps → (b : Bool) → (place == length ps) ≡ b →
-    get_or (with_pattern p place ps) place [] ≡ p
-there_by p place ps at h true is =
-    let end : length ps ≡ place = grind (arith, nat_tests) in
-    rw is (get_or_push ps p [] place end)
-there_by p place ps at h false is =
-    let below : place < length ps = grind (arith, nat_tests) in
+there_by : (p : List ℕ) (index : ℕ) (ps : List (List ℕ)) → IsAt index ps p → index ≤ length ps → (b : Bool) → (index == length ps) ≡ b →
+    get_or (with_pattern p index ps) index [] ≡ p
+there_by p index ps at h true is =
+    let end : length ps ≡ index = grind (arith, nat_tests) in
+    rw is (get_or_push ps p [] index end)
+there_by p index ps at h false is =
+    let below : index < length ps = grind (arith, nat_tests) in
     rw is (at below)
 
--- what stands at a pattern's place, once it was put there
-pub put_there : (p : List ℕ) (place : ℕ) (ps : List (List ℕ)) → place ≤ length ps → IsAt place ps p →
-    (place < length (with_pattern p place ps)) × (get_or (with_pattern p place ps) place [] ≡ p)
-put_there p place ps h at = (omega (arith, put_reached p place ps h), there_by p place ps at h (place == length ps) refl)
+-- what is at a pattern's index, once it was put there
+pub put_there : (p : List ℕ) (index : ℕ) (ps : List (List ℕ)) → index ≤ length ps → IsAt index ps p →
+    (index < length (with_pattern p index ps)) × (get_or (with_pattern p index ps) index [] ≡ p)
+put_there p index ps h at = (omega (arith, put_reached p index ps h), there_by p index ps at h (index == length ps) refl)
 
--- what is found of the pattern at its place is what the matcher tests
-pub met_value : (m : MatcherParts) (value p x : List ℕ) (place : ℕ) (old new : List (List ℕ)) → pattern_of m ≡ Some p →
-    IfSome (pattern_of m) (IsAt place old) → place ≤ length old → new ≡ with_pattern p place old → x ≡ get_or new place x →
+-- what is found of the pattern at its index is what the matcher tests
+pub met_value : (m : MatcherParts) (value p x : List ℕ) (index : ℕ) (old new : List (List ℕ)) → pattern_of m ≡ Some p →
+    IfSome (pattern_of m) (IsAt index old) → index ≤ length old → new ≡ with_pattern p index old → x ≡ get_or new index x →
     is_passed m.op (has_match x value) ≡ passes m.op m.value value
-met_value m value p x place old new is required h put read =
-    let at : IsAt place old p = rw is at required in
-    let there = put_there p place old h at in
-    let within : place < length new = rw put there.0 in
-    let x_is : x ≡ p = get_or_read new place x within read [] ∙ ap (λ xs. get_or xs place []) put ∙ there.1 in
+met_value m value p x index old new is required h put read =
+    let at : IsAt index old p = rw is at required in
+    let there = put_there p index old h at in
+    let within : index < length new = rw put there.0 in
+    let x_is : x ≡ p = get_or_read new index x within read [] ∙ ap (λ xs. get_or xs index []) put ∙ there.1 in
     rw x_is (passes-pattern m value p is)
 
 -- a search leaves what searches as it was
-pub met_put : (m : MatcherParts) (p x y : List ℕ) (place : ℕ) (old new : List (List ℕ)) → pattern_of m ≡ Some p →
-    new ≡ with_pattern p place old → x ≡ get_or new place x → y ≡ x → set new place y ≡ with_pattern_of (pattern_of m) place old
-met_put m p x y place old new is put read same =
-    ap (λ z. set new place z) (same ∙ read) ∙ set-get_or new place x ∙ put
-    ∙ ap (λ (o : Option (List ℕ)). with_pattern_of o place old) (sym is)
+pub met_put : (m : MatcherParts) (p x y : List ℕ) (index : ℕ) (old new : List (List ℕ)) → pattern_of m ≡ Some p →
+    new ≡ with_pattern p index old → x ≡ get_or new index x → y ≡ x → set new index y ≡ with_pattern_of (pattern_of m) index old
+met_put m p x y index old new is put read same =
+    ap (λ z. set new index z) (same ∙ read) ∙ set-get_or new index x ∙ put
+    ∙ ap (λ (o : Option (List ℕ)). with_pattern_of o index old) (sym is)
 
-place_of : (ms : List MatcherParts) (i : ℕ) (d : MatcherParts) (count : ℕ) (ps : List (List ℕ)) → i < length ms → AreMet ms i count ps →
+layout_of : (ms : List MatcherParts) (i : ℕ) (d : MatcherParts) (count : ℕ) (ps : List (List ℕ)) → i < length ms → AreMet ms i count ps →
     (o : Option (List ℕ)) → pattern_of (get_or ms i d) ≡ o → IfSome o (IsAt count ps)
-place_of ms i d count ps h met None is = tt
-place_of ms i d count ps h met (Some p) is = is_at-met ms i d count ps p h is met
+layout_of ms i d count ps h met None is = tt
+layout_of ms i d count ps h met (Some p) is = is_at-met ms i d count ps p h is met
 
--- the next matcher's pattern, if it has one, stands at its place
-pub met_place : (ms : List MatcherParts) (i : ℕ) (m : MatcherParts) (count : ℕ) (ps : List (List ℕ)) → i < length ms →
+-- the next matcher's pattern, if it has one, is at its index
+pub met_index : (ms : List MatcherParts) (i : ℕ) (m : MatcherParts) (count : ℕ) (ps : List (List ℕ)) → i < length ms →
     m ≡ get_or ms i m → AreMet ms i count ps → IfSome (pattern_of m) (IsAt count ps)
-met_place ms i m count ps h read met = place_of ms i m count ps h met (pattern_of m) (ap pattern_of (sym read))
+met_index ms i m count ps h read met = layout_of ms i m count ps h met (pattern_of m) (ap pattern_of (sym read))
 
 step_of : (ms : List MatcherParts) (i : ℕ) (d : MatcherParts) (count : ℕ) (ps : List (List ℕ)) → i < length ms → AreMet ms i count ps →
     (o : Option (List ℕ)) → pattern_of (get_or ms i d) ≡ o → AreMet ms (i + 1) (past o count) (with_pattern_of o count ps)

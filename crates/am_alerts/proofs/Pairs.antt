@@ -7,7 +7,7 @@ use Rattle.std.proofs.lemmas.List.{at_drop_more, take_more, map-append, length-m
 use Rattle.std.specs.List.Sorted.{IsSorted, IsSortedBy}
 use Rattle.std.specs.Ordering.{is_lt}
 use Rattle.std.proofs.lemmas.List.Elements.{filter-append}
-use Rattle.am_alerts.specs.Labels.{has_value, has_text_twice, names_of, stands_in, with_values, label_cmp, label_in, labels_in}
+use Rattle.am_alerts.specs.Labels.{has_value, has_text_twice, names_of, occurs_in, with_values, label_cmp, label_in, labels_in}
 
 -- the pairs of texts, as clauses see them
 abbrev pub Pairs : Type 0
@@ -43,13 +43,13 @@ with_values-more ps i p d within here =
     ∙ ap with_values (map-append label_in (take i ps) (p ∷ []))
     ∙ filter-append has_value (labels_in (take i ps)) (label_in p ∷ [])
 
--- a name stands among them where a pair has a value and that name
-pub stands_in-names : (name : List ℕ) (ps : Pairs) → stands_in name (names_of (with_values (labels_in ps))) ≡ has_name_in name ps
-stands_in-names name [] = refl
-stands_in-names name (p ∷ ps) = by (has_value (label_in p)) (stands_in-names name ps)
+-- a name is among them where a pair has a value and that name
+pub occurs_in-names : (name : List ℕ) (ps : Pairs) → occurs_in name (names_of (with_values (labels_in ps))) ≡ has_name_in name ps
+occurs_in-names name [] = refl
+occurs_in-names name (p ∷ ps) = by (has_value (label_in p)) (occurs_in-names name ps)
   where
-    by : (b : Bool) → stands_in name (names_of (with_values (labels_in ps))) ≡ has_name_in name ps
-        → stands_in name (names_of (cond b (label_in p ∷ with_values (labels_in ps)) (with_values (labels_in ps))))
+    by : (b : Bool) → occurs_in name (names_of (with_values (labels_in ps))) ≡ has_name_in name ps
+        → occurs_in name (names_of (cond b (label_in p ∷ with_values (labels_in ps)) (with_values (labels_in ps))))
         ≡ ((b && bytes_eq p.0.now name) || has_name_in name ps)
     by true e = ap (λ r. bytes_eq p.0.now name || r) e
     by false e = e
@@ -61,10 +61,10 @@ has_name_twice_in-cons p ps = by (has_value (label_in p))
     by : (b : Bool)
         → has_text_twice (names_of (cond b (label_in p ∷ with_values (labels_in ps)) (with_values (labels_in ps))))
         ≡ ((b && has_name_in p.0.now ps) || has_name_twice_in ps)
-    by true = ap (λ r. r || has_name_twice_in ps) (stands_in-names p.0.now ps)
+    by true = ap (λ r. r || has_name_twice_in ps) (occurs_in-names p.0.now ps)
     by false = refl
 
--- the pair at a place, and those behind it
+-- the pair at an index, and those behind it
 pub has_name_twice_in-drop : (ps : Pairs) (i : ℕ) (p d : Bor (List ℕ) × Bor (List ℕ)) → i < length ps → p ≡ get_or ps i d
     → has_name_twice_in (drop i ps)
     ≡ ((has_value (label_in p) && has_name_in p.0.now (drop (i + 1) ps)) || has_name_twice_in (drop (i + 1) ps))
@@ -74,7 +74,7 @@ has_name_twice_in-drop ps i p d within here =
 
 module _ (ps : Pairs) (i : ℕ) (d : Bor (List ℕ) × Bor (List ℕ)) (within : i < length ps)
     (same : has_name_twice_in (drop i ps) ≡ has_name_twice_in ps) where
-  -- the name of the pair at a place comes again
+  -- the name of the pair at an index comes again
   pub has_name_twice_in-found : has_value (label_in (get_or ps i d)) ≡ true → has_name_in (get_or ps i d).0.now (drop (i + 1) ps) ≡ true
       → true ≡ has_name_twice_in ps
   has_name_twice_in-found valued again =
@@ -82,7 +82,7 @@ module _ (ps : Pairs) (i : ℕ) (d : Bor (List ℕ) × Bor (List ℕ)) (within :
       sym (sym same ∙ has_name_twice_in-drop ps i (get_or ps i d) d within refl
       ∙ ap (λ b. (b && has_name_in (get_or ps i d).0.now (drop (i + 1) ps)) || later) valued ∙ ap (λ b. b || later) again)
 
-  -- the pair at a place has no value
+  -- the pair at an index has no value
   pub has_name_twice_in-unvalued : has_value (label_in (get_or ps i d)) ≡ false → has_name_twice_in (drop (i + 1) ps) ≡ has_name_twice_in ps
   has_name_twice_in-unvalued unvalued =
       let later = has_name_twice_in (drop (i + 1) ps) in

@@ -9,7 +9,7 @@ use Rattle.regex.specs.Strings.{regex_pattern, regex_names, regex_source}
 use Rattle.regex.specs.declared.string.regex.Regex.{Regex}
 use Rattle.am_alerts.specs.Pattern.{IsCompiled, finds, has_match, is_pattern, is_shallow, read_pattern}
 
--- what is read stands for a pattern
+-- what is read represents a pattern
 abbrev IsReading : Re → Names → Option (Nested Re × Names) → Type 0
 IsReading re names o =
     IsSomeAnd o (λ (found, others). (found.depth ≤ 250) × SameCaptures re found.value × (names ≡ others) × (group_count re ≤ length names))
@@ -31,7 +31,7 @@ shallow re names (Some found) is = grind (arith, nat_tests, is.0)
 pub is_pattern-compiled : (r : Regex) → IsCompiled r → is_pattern (regex_source r) ≡ true
 is_pattern-compiled r compiled = shallow _ _ _ (reading r compiled)
 
--- a search for it finds what its text stands for
+-- a search for it finds what its text represents
 pub has_match-compiled : (r : Regex) → IsCompiled r → (text : List ℕ) → ((k : ℕ) → get_or text k 0 < 256) →
     is_some (find_str (regex_pattern r) text 0) ≡ has_match (regex_source r) text
 has_match-compiled r compiled = finds_alike _ _ _ (reading r compiled)

@@ -21,7 +21,7 @@ use Rattle.regex_syntax.specs.Verdict.{default_config}
 use Rattle.am_alerts.specs.Pattern.{anchored}
 use Rattle.am_alerts.specs.Plain.{is_plain}
 
--- a place in a pattern without named groups, under the default options
+-- an index in a pattern without named groups, under the default options
 abbrev pub at_text : Text → Place
 at_text t = record { config = default_config; names = None ∷ []; text = t }
 

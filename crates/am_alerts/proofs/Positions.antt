@@ -36,7 +36,7 @@ matching-ascend p (grow r below after) labels =
     subst (λ h. Ascend mid h (matching mid after labels)) e (matching-ascend mid after labels) in
     let reached : Ascend p mid (or_self p (matching (p + 1) below labels)) =
     ascend-self p mid (matching (p + 1) below labels) (matching-ascend (p + 1) below labels) in
-    by (match_all r.child.matchers labels) r.child.goes_on later reached
+    by (match_all r.child.matchers labels) r.child.continues later reached
   where
     by : (m on : Bool) → Ascend (p + 1 + count below) (p + (count below + 1 + count after)) (matching (p + 1 + count below) after labels)
         → Ascend p (p + 1 + count below) (or_self p (matching (p + 1) below labels))

@@ -5,19 +5,19 @@ use Rattle.std.proofs.lemmas.List.{append_assoc, append-nil, get_or_default}
 use Rattle.am_alerts.specs.Forest.{count}
 use Rattle.am_alerts.specs.Layout.{planted}
 use Rattle.am_alerts.specs.Matcher.{match_all}
-use Rattle.am_alerts.specs.Planted.{IsLaid, below_in, paired, part}
+use Rattle.am_alerts.specs.RouteLayouts.{IsLaid, below_in, paired, part}
 use Rattle.am_alerts.specs.RoutingTree.{TreeRoute, matching, or_self, plain}
 use Rattle.am_alerts.specs.declared.labels.Label.{Label}
-use Rattle.am_alerts.specs.declared.planting.Place.{Place}
+use Rattle.am_alerts.specs.declared.route_layout.RouteLayout.{RouteLayout}
 use Rattle.am_alerts.specs.declared.route.Child.{Child}
 use Rattle.am_alerts.proofs.Layouts.{IsOpened, opened, kept_route, get_or_paired, length_paired, part-none}
 
-module _ (cs : List Child) (ps : List Place) (at to end : ℕ) (x : Child) (before : at < to) (within : to ≤ length cs)
+module _ (cs : List Child) (ps : List RouteLayout) (at to end : ℕ) (x : Child) (before : at < to) (within : to ≤ length cs)
     (here : x ≡ get_or cs at x) (end-is : end ≡ at + 1 + below_in ps at) (is_laid : IsLaid (part at to (paired cs ps))) where
   abbrev ts : List (TreeRoute × ℕ)
   ts = paired cs ps
 
-  -- what stands at the place, below it and after it
+  -- what is at the layout, below it and after it
   pub opened_here : IsOpened (paired cs ps) at to end (kept_route x ps at)
   opened_here =
       let d : TreeRoute × ℕ = (plain x, 0) in
@@ -35,7 +35,7 @@ module _ (cs : List Child) (ps : List Place) (at to end : ℕ) (x : Child) (befo
     reached = or_self (at + 1) (matching (at + 2) (planted (part (at + 1) end (paired cs ps))) labels)
 
     matching-step : matching (at + 1) (planted (part at to (paired cs ps))) labels
-        ≡ cond (match_all x.matchers labels) (reached ++ cond x.goes_on later []) later
+        ≡ cond (match_all x.matchers labels) (reached ++ cond x.continues later []) later
     matching-step =
         let o = opened_here in
         let below = planted (part (at + 1) end (paired cs ps)) in
@@ -44,32 +44,32 @@ module _ (cs : List Child) (ps : List Place) (at to end : ℕ) (x : Child) (befo
         let next : at + 1 + 1 + count below ≡ end + 1 = omega (arith, o.size) in
         ap (λ f. matching (at + 1) f labels) o.whole
         ∙ ap (λ n. cond (match_all x.matchers labels)
-        (or_self (at + 1) (matching n below labels) ++ cond x.goes_on (matching (at + 1 + 1 + count below) after labels) [])
+        (or_self (at + 1) (matching n below labels) ++ cond x.continues (matching (at + 1 + 1 + count below) after labels) [])
         (matching (at + 1 + 1 + count below) after labels)) two
-        ∙ ap (λ n. cond (match_all x.matchers labels) (reached ++ cond x.goes_on (matching n after labels) []) (matching n after labels))
+        ∙ ap (λ n. cond (match_all x.matchers labels) (reached ++ cond x.continues (matching n after labels) []) (matching n after labels))
         next
 
     module _ (found whole : List ℕ) (so_far : found ++ matching (at + 1) (planted (part at to (paired cs ps))) labels ≡ whole) where
       -- the route matches and ends the search
-      pub matching-ends : match_all x.matchers labels ≡ true → x.goes_on ≡ false → found ++ reached ≡ whole
+      pub matching-ends : match_all x.matchers labels ≡ true → x.continues ≡ false → found ++ reached ≡ whole
       matching-ends matches ends =
           sym (sym so_far ∙ ap (λ r. found ++ r) (matching-step
-          ∙ ap (λ b. cond b (reached ++ cond x.goes_on later []) later) matches ∙ ap (λ b. reached ++ cond b later []) ends
+          ∙ ap (λ b. cond b (reached ++ cond x.continues later []) later) matches ∙ ap (λ b. reached ++ cond b later []) ends
           ∙ append-nil reached))
 
       -- it matches, and the search goes on
-      pub matching-goes_on : match_all x.matchers labels ≡ true → x.goes_on ≡ true → (found ++ reached) ++ later ≡ whole
-      matching-goes_on matches on =
+      pub matching-continues : match_all x.matchers labels ≡ true → x.continues ≡ true → (found ++ reached) ++ later ≡ whole
+      matching-continues matches on =
           append_assoc found reached later ∙ sym (sym so_far ∙ ap (λ r. found ++ r) (matching-step
-          ∙ ap (λ b. cond b (reached ++ cond x.goes_on later []) later) matches ∙ ap (λ b. reached ++ cond b later []) on))
+          ∙ ap (λ b. cond b (reached ++ cond x.continues later []) later) matches ∙ ap (λ b. reached ++ cond b later []) on))
 
       -- it doesn't match
       pub matching-passes : match_all x.matchers labels ≡ false → found ++ later ≡ whole
       matching-passes fails =
-          sym (sym so_far ∙ ap (λ r. found ++ r) (matching-step ∙ ap (λ b. cond b (reached ++ cond x.goes_on later []) later) fails))
+          sym (sym so_far ∙ ap (λ r. found ++ r) (matching-step ∙ ap (λ b. cond b (reached ++ cond x.continues later []) later) fails))
 
--- those below a route stand in the part
-pub ends_within : (cs : List Child) (ps : List Place) (at to : ℕ) → at < to → to ≤ length cs → IsLaid (part at to (paired cs ps))
+-- those below a route are in the part
+pub ends_within : (cs : List Child) (ps : List RouteLayout) (at to : ℕ) → at < to → to ≤ length cs → IsLaid (part at to (paired cs ps))
     → at + 1 + below_in ps at ≤ to
 ends_within [] ps at to before within is_laid = absurd (omega arith)
 ends_within (c ∷ cs) ps at to before within is_laid =
@@ -78,7 +78,7 @@ ends_within (c ∷ cs) ps at to before within is_laid =
     (opened_here (c ∷ cs) ps at to (at + 1 + below_in ps at) x before within here refl is_laid).ends
 
 -- no route is left
-pub matching-all : (cs : List Child) (ps : List Place) (at to : ℕ) (labels : List Label) (found whole : List ℕ) → to ≤ at
+pub matching-all : (cs : List Child) (ps : List RouteLayout) (at to : ℕ) (labels : List Label) (found whole : List ℕ) → to ≤ at
     → found ++ matching (at + 1) (planted (part at to (paired cs ps))) labels ≡ whole → found ≡ whole
 matching-all cs ps at to labels found whole past so_far =
     sym (append-nil found) ∙ sym (ap (λ ts. found ++ matching (at + 1) (planted ts) labels) (part-none (paired cs ps) at to past)) ∙ so_far

@@ -24,7 +24,7 @@ matching_level : (p : ℕ) (cs : List Child) (labels : List Label) → matching 
 matching_level p [] labels = refl
 matching_level p (c ∷ cs) labels =
     let e : p + 1 + 0 ≡ p + 1 = omega arith in
-    ap (λ later. cond (match_all c.matchers labels) (p ∷ cond c.goes_on later []) later)
+    ap (λ later. cond (match_all c.matchers labels) (p ∷ cond c.continues later []) later)
     (ap (λ n. matching n (level (map plain cs)) labels) e ∙ matching_level (p + 1) cs labels)
 
 pub tried_in_order : (root : Route) (cs : List Child) (labels : List Label) →
@@ -111,7 +111,7 @@ none-self s (x ∷ xs) ys = refl
 any_match-is : (p : ℕ) (f : Forest TreeRoute) (labels : List Label) → any_match f labels ≡ not (is_none (matching p f labels))
 any_match-is p bare labels = refl
 any_match-is p (grow r below after) labels =
-    by (match_all r.child.matchers labels) r.child.goes_on (any_match-is (p + 1 + count below) after labels)
+    by (match_all r.child.matchers labels) r.child.continues (any_match-is (p + 1 + count below) after labels)
   where
     by : (m on : Bool) → any_match after labels ≡ not (is_none (matching (p + 1 + count below) after labels))
         → (m || any_match after labels)
@@ -195,10 +195,10 @@ reaches-is s k bare labels = refl
 reaches-is s zero (grow r below after) labels =
     let e : s + 0 ≡ s = omega arith in
     ap (λ q. has q (matching s (grow r below after) labels)) e
-    ∙ at_self r below after labels s (match_all r.child.matchers labels) r.child.goes_on
+    ∙ at_self r below after labels s (match_all r.child.matchers labels) r.child.continues
 reaches-is s (suc k) (grow r below after) labels =
     let m = match_all r.child.matchers labels in
-    let on = r.child.goes_on in
+    let on = r.child.continues in
     elim (cases_lt (count below) (suc k)) [
       | inr within ↦
           let q : s + suc k ≡ s + 1 + (suc k - 1) = omega arith in

@@ -14,7 +14,7 @@ use Rattle.am_alerts.specs.declared.route.Child.{Child}
 use Rattle.am_alerts.specs.declared.route.Route.{Route}
 use Rattle.am_alerts.specs.declared.route.GroupBy.TheVariants.{All}
 use Rattle.am_alerts.specs.declared.limits.TheConstants.{MAX_ROUTES, MAX_DEPTH}
-use Rattle.am_alerts.specs.Labels.{has_text_twice, stands_in}
+use Rattle.am_alerts.specs.Labels.{has_text_twice, occurs_in}
 use Rattle.am_alerts.specs.Route.{groups_by, has_good_intervals}
 use Rattle.am_alerts.specs.Forest.{height, listed}
 use Rattle.am_alerts.specs.RoutingTree.{RoutingTree, TreeRoute, children_of, fault_where, have_good_intervals, is_within, last_of}
@@ -69,31 +69,31 @@ pub filter-groups_by_all : (labels : List Label) → filter (groups_by All) labe
 filter-groups_by_all [] = refl
 filter-groups_by_all (l ∷ ls) = ap (λ r. l ∷ r) (filter-groups_by_all ls)
 
--- ---- names that stand twice
+-- ---- names that are twice
 
--- a name stands among the names of children where a child has it
-pub stands_in-children : (name : List ℕ) (cs : List Child)
-    → stands_in name (map (λ c. c.route.name) cs) ≡ list_any (λ c. bytes_eq c.route.name name) cs
-stands_in-children name [] = refl
-stands_in-children name (c ∷ cs) = ap (λ r. bytes_eq c.route.name name || r) (stands_in-children name cs)
+-- a name is among the names of children where a child has it
+pub occurs_in-children : (name : List ℕ) (cs : List Child)
+    → occurs_in name (map (λ c. c.route.name) cs) ≡ list_any (λ c. bytes_eq c.route.name name) cs
+occurs_in-children name [] = refl
+occurs_in-children name (c ∷ cs) = ap (λ r. bytes_eq c.route.name name || r) (occurs_in-children name cs)
 
 module _ (cs : List Child) (i : ℕ) (d : Child) (within : i < length cs)
     (same : has_text_twice (map (λ c. c.route.name) (drop i cs)) ≡ has_text_twice (map (λ c. c.route.name) cs)) where
   twice-drop : has_text_twice (map (λ c. c.route.name) (drop i cs))
-      ≡ (stands_in (get_or cs i d).route.name (map (λ c. c.route.name) (drop (i + 1) cs))
+      ≡ (occurs_in (get_or cs i d).route.name (map (λ c. c.route.name) (drop (i + 1) cs))
       || has_text_twice (map (λ c. c.route.name) (drop (i + 1) cs)))
   twice-drop = at_drop_more (λ xs. has_text_twice (map (λ c. c.route.name) xs)) cs i d within
 
-  -- the name of the child at a place comes again
+  -- the name of the child at an index comes again
   pub twice-found : list_any (λ c. bytes_eq c.route.name (get_or cs i d).route.name) (drop (i + 1) cs) ≡ true
       → true ≡ has_text_twice (map (λ c. c.route.name) cs)
   twice-found again =
       sym (sym same ∙ twice-drop ∙ ap (λ b. b || has_text_twice (map (λ c. c.route.name) (drop (i + 1) cs)))
-      (stands_in-children (get_or cs i d).route.name (drop (i + 1) cs) ∙ again))
+      (occurs_in-children (get_or cs i d).route.name (drop (i + 1) cs) ∙ again))
 
   -- it doesn't come again
   pub twice-once : list_any (λ c. bytes_eq c.route.name (get_or cs i d).route.name) (drop (i + 1) cs) ≡ false
       → has_text_twice (map (λ c. c.route.name) (drop (i + 1) cs)) ≡ has_text_twice (map (λ c. c.route.name) cs)
   twice-once once =
       sym (sym same ∙ twice-drop ∙ ap (λ b. b || has_text_twice (map (λ c. c.route.name) (drop (i + 1) cs)))
-      (stands_in-children (get_or cs i d).route.name (drop (i + 1) cs) ∙ once))
+      (occurs_in-children (get_or cs i d).route.name (drop (i + 1) cs) ∙ once))

@@ -11,7 +11,7 @@ abbrev pub count : {X : Type 0} → Forest X → ℕ
 count bare = 0
 count (grow x below after) = count below + 1 + count after
 
--- at how many levels they stand
+-- at how many levels they are
 abbrev pub height : {X : Type 0} → Forest X → ℕ
 height bare = 0
 height (grow x below after) = max (height below + 1) (height after)

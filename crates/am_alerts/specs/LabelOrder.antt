@@ -16,7 +16,7 @@ use Rattle.am_alerts.specs.Labels.{label_cmp, label_set_cmp, same_label, same_la
 abbrev pub TiesAreEqual : Type 0
 TiesAreEqual = (a b : List Label) → (label_set_cmp a b ≡ Equal) ↔ (a ≡ b)
 
--- the test of two label sets tells whether they are the same list of labels
+-- the test of two label sets says whether they are the same list of labels
 abbrev pub TestsEquality : Type 0
 TestsEquality = (a b : List Label) → (same_label_set a b ≡ true) ↔ (a ≡ b)
 
@@ -57,8 +57,8 @@ pub label_set_cmp-equal : TiesAreEqual
 label_set_cmp-equal a b =
     let tied = same_label_set-cmp a b in
     let same = same_label_set-decides a b in
-    let told = Equal-is (label_set_cmp a b) in
-    (λ e. same.0 (tied ∙ told.1 e), λ e. told.0 (sym tied ∙ same.1 e))
+    let fact = Equal-is (label_set_cmp a b) in
+    (λ e. same.0 (tied ∙ fact.1 e), λ e. fact.0 (sym tied ∙ same.1 e))
 
 pub label_set_cmp-prefix : PrefixFirst
 label_set_cmp-prefix [] l rest = refl

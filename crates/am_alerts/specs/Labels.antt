@@ -19,7 +19,7 @@ use Rattle.am_alerts.specs.declared.limits.TheConstants.{MAX_LABELS, MAX_LABEL_B
 abbrev pub begins_name : ℕ → Bool
 begins_name b = is_ascii_alphabetic b || b == 95
 
--- whether a byte may stand in a label name behind the first: a letter, `_` or a digit
+-- whether a byte may be in a label name behind the first: a letter, `_` or a digit
 abbrev pub is_name_byte : ℕ → Bool
 is_name_byte b = begins_name b || is_ascii_digit b
 
@@ -28,14 +28,14 @@ abbrev pub is_label_name : List ℕ → Bool
 is_label_name [] = false
 is_label_name (b ∷ bs) = begins_name b && list_all is_name_byte bs
 
--- whether a text stands in a list of texts
-abbrev pub stands_in : List ℕ → List (List ℕ) → Bool
-stands_in text texts = list_any (λ t. bytes_eq t text) texts
+-- whether a text is in a list of texts
+abbrev pub occurs_in : List ℕ → List (List ℕ) → Bool
+occurs_in text texts = list_any (λ t. bytes_eq t text) texts
 
--- whether a text stands twice in a list of texts
+-- whether a text is twice in a list of texts
 abbrev pub has_text_twice : List (List ℕ) → Bool
 has_text_twice [] = false
-has_text_twice (text ∷ texts) = stands_in text texts || has_text_twice texts
+has_text_twice (text ∷ texts) = occurs_in text texts || has_text_twice texts
 
 -- the value of the label of this name, if there is one
 abbrev pub value_in : List ℕ → List Label → Option (List ℕ)
@@ -104,9 +104,9 @@ label_in pair = record { name = pair.0.now; value = pair.1.now }
 abbrev pub labels_in : List (Bor (List ℕ) × Bor (List ℕ)) → List Label
 labels_in pairs = map label_in pairs
 
--- the labels whose names stand in a list
+-- the labels whose names are in a list
 abbrev pub only_named : List (List ℕ) → List Label → List Label
-only_named names labels = filter (λ l. stands_in l.name names) labels
+only_named names labels = filter (λ l. occurs_in l.name names) labels
 
 -- whether each label's name is below the names of all later ones
 abbrev pub has_rising_names : List Label → Bool

@@ -1,6 +1,6 @@
 -- The limits and the faults' numbers, by their values.
 use Rattle.std.specs.Prelude.{◌≡◌, [], ◌∷◌}
-use Rattle.am_alerts.specs.declared.limits.TheConstants.{MAX_MOMENT, MAX_DURATION, MAX_LABELS, MAX_LABEL_BYTES, MAX_MATCHERS, MAX_NAMES}
+use Rattle.am_alerts.specs.declared.limits.TheConstants.{MAX_TIME, MAX_DURATION, MAX_LABELS, MAX_LABEL_BYTES, MAX_MATCHERS, MAX_LABEL_NAMES}
 use Rattle.am_alerts.specs.declared.limits.TheConstants.{MAX_CHILDREN, MAX_ROUTES, MAX_DEPTH, MAX_SPANS}
 use Rattle.am_alerts.specs.declared.law.TheConstants.{LABEL_FAULTS, ALERT_FAULTS, MATCHER_FAULTS}
 use Rattle.am_alerts.specs.declared.law.TheConstants.{ROUTE_FAULTS, SPANS_FAULTS, DURATION_FAULTS}
@@ -11,16 +11,16 @@ use Rattle.am_alerts.specs.declared.route.RouteFault.TheVariants as route
 use Rattle.am_alerts.specs.declared.duration.DurationFault.TheVariants as duration
 use Rattle.am_alerts.specs.declared.spans.SpansFault.TheVariants as spans
 
--- law: a moment is at most 10^15 ms and a duration at most 10^12; 64 labels, names and values of 1,024 bytes, 32 matchers in a list, 64
+-- law: a time is at most 10^15 ms and a duration at most 10^12; 64 labels, names and values of 1,024 bytes, 32 matchers in a list, 64
 -- names in a list, 63 children of a root of one level, 1,023 routes below a root, at 64 levels, and 8,192 spans of a route
 abbrev pub LimitsAre : Type 0
 LimitsAre =
-    (MAX_MOMENT ≡ 1_000_000_000_000_000)
+    (MAX_TIME ≡ 1_000_000_000_000_000)
     × (MAX_DURATION ≡ 1_000_000_000_000)
     × (MAX_LABELS ≡ 64)
     × (MAX_LABEL_BYTES ≡ 1_024)
     × (MAX_MATCHERS ≡ 32)
-    × (MAX_NAMES ≡ 64)
+    × (MAX_LABEL_NAMES ≡ 64)
     × (MAX_CHILDREN ≡ 63)
     × (MAX_ROUTES ≡ 1_023)
     × (MAX_DEPTH ≡ 64)
@@ -34,7 +34,7 @@ LabelFaultsAre =
 
 -- law: the numbers of the faults of alerts
 abbrev pub AlertFaultsAre : Type 0
-AlertFaultsAre = ALERT_FAULTS ≡ (alert.NoLabels, 1) ∷ (alert.BadMoment, 2) ∷ (alert.EndBeforeStart, 3) ∷ []
+AlertFaultsAre = ALERT_FAULTS ≡ (alert.NoLabels, 1) ∷ (alert.BadTime, 2) ∷ (alert.EndBeforeStart, 3) ∷ []
 
 -- law: the numbers of the faults of matchers
 abbrev pub MatcherFaultsAre : Type 0
@@ -52,4 +52,4 @@ DurationFaultsAre = DURATION_FAULTS ≡ (duration.BadDuration, 1) ∷ (duration.
 
 -- law: the numbers of the faults of spans
 abbrev pub SpansFaultsAre : Type 0
-SpansFaultsAre = SPANS_FAULTS ≡ (spans.BadOrder, 1) ∷ (spans.TooMany, 2) ∷ (spans.BadMoment, 3) ∷ (spans.NoMemory, 4) ∷ []
+SpansFaultsAre = SPANS_FAULTS ≡ (spans.BadOrder, 1) ∷ (spans.TooMany, 2) ∷ (spans.BadTime, 3) ∷ (spans.NoMemory, 4) ∷ []

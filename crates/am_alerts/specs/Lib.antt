@@ -29,7 +29,7 @@ pub mod Pattern
 -- patterns that are plain texts with bars between them
 pub mod Plain
 -- a routing tree as it is kept: a list of routes, and the number of those below each
-pub mod Planted
+pub mod RouteLayouts
 -- a route and its options, and the group that it makes of a label set
 pub mod Route
 -- routing trees: the routes of a label set, and why routes are no tree

@@ -38,7 +38,7 @@ compares_texts m = takes_text m.op || is_plain_pattern m.value
 abbrev pub compare_texts : List MatcherParts → Bool
 compare_texts ms = list_all compares_texts ms
 
--- whether a label's value passes a matcher's test; a pattern p stands for `^(?:p)$`
+-- whether a label's value passes a matcher's test; a pattern p represents `^(?:p)$`
 abbrev pub passes : Operator → List ℕ → List ℕ → Bool
 passes Equal wanted value = bytes_eq value wanted
 passes NotEqual wanted value = not (bytes_eq value wanted)

@@ -55,7 +55,7 @@ settled above r = settled_options above r.name r.options
 -- the same with its matchers, its `continue` and when it is muted
 abbrev pub settled_route : Route → RouteSpec → TreeRoute
 settled_route above r =
-    record { child = record { route = settled above r; matchers = r.matchers; goes_on = r.goes_on }; shut = r.shut }
+    record { child = record { route = settled above r; matchers = r.matchers; continues = r.continues }; muted = r.muted }
 
 -- the routes below one that says everything (dispatch.NewRoute)
 abbrev pub settled_below : Route → Forest RouteSpec → Forest TreeRoute

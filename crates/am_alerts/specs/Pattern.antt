@@ -30,7 +30,7 @@ abbrev pub finds : Option (Nested Re × Names) → List ℕ → Bool
 finds None text = false
 finds (Some (re, names)) text = is_some (find_str re.value text 0)
 
--- match of a pattern: whether the pattern that a text stands for has a match in another one
+-- match of a pattern: whether the pattern that a text represents has a match in another one
 abbrev pub has_match : List ℕ → List ℕ → Bool
 has_match p text = finds (read_pattern p) text
 
@@ -42,7 +42,7 @@ IsCompiled r = (regex_config r ≡ default_config) × IsReadFromSource r
 abbrev pub SearchesFor : Regex → Matcher → Type 0
 SearchesFor r m = IsCompiled r × (matcher_pattern m ≡ regex_pattern r)
 
--- a pattern matches a part of a text that begins between characters, up to some place
+-- a pattern matches a part of a text that begins between characters, up to some index
 abbrev pub MatchesSome : Option (Nested Re × Names) → List ℕ → Type 0
 MatchesSome o text = IsSomeAnd o (λ (re, _). (i : ℕ) × (j : ℕ) × IsCharBoundary text i × Matches text re.value i j)
 

@@ -4,7 +4,7 @@ use Rattle.std.specs.List.{list_all, list_any, slice_split}
 use lib.Pointwise.{pointwise}
 use Rattle.regex_syntax.specs.Reading.{◌∈◌}
 
--- an ASCII character that stands for itself wherever it stands outside brackets
+-- an ASCII character that represents itself wherever it is outside brackets
 abbrev pub is_plain : ℕ → Bool
 is_plain c = nat_lt c 128 && not (c ∈ "\\.+*?()|[]{}^$")
 

@@ -1,13 +1,13 @@
 -- Routes, and the groups that they make.
 use Rattle.std.specs.Prelude.{ℕ, Bool, true, ◌&&◌, List, [], ◌++◌, length, filter, codes, nat_lt, nat_le}
 use Rattle.std.specs.List.{list_all}
-use Rattle.am_alerts.specs.Labels.{is_label_name, stands_in}
+use Rattle.am_alerts.specs.Labels.{is_label_name, occurs_in}
 use Rattle.am_alerts.specs.LabelText.{label_set_text}
 use Rattle.am_alerts.specs.declared.labels.Label.{Label}
 use Rattle.am_alerts.specs.declared.route.Route.{Route}
 use Rattle.am_alerts.specs.declared.route.GroupBy.{GroupBy}
 use Rattle.am_alerts.specs.declared.route.GroupBy.TheVariants.{All, Names}
-use Rattle.am_alerts.specs.declared.limits.TheConstants.{MAX_NAMES, MAX_DURATION}
+use Rattle.am_alerts.specs.declared.limits.TheConstants.{MAX_LABEL_NAMES, MAX_DURATION}
 
 -- the names by which a route groups, as it lists them; `...` lists none
 abbrev pub grouping_names : GroupBy → List (List ℕ)
@@ -17,7 +17,7 @@ grouping_names (Names names) = names
 -- whether a route groups by a label: by each for `...`, else where its name is listed
 abbrev pub groups_by : GroupBy → Label → Bool
 groups_by All l = true
-groups_by (Names names) l = stands_in l.name names
+groups_by (Names names) l = occurs_in l.name names
 
 -- group: the labels of a set by which a route groups it; a name that the set lacks is absent
 abbrev pub group_labels_of : Route → List Label → List Label
@@ -33,7 +33,7 @@ has_grouping_names route = list_all is_label_name (grouping_names route.group_by
 
 -- whether the list of grouping names is within its limit
 abbrev pub has_few_names : Route → Bool
-has_few_names route = nat_le (length (grouping_names route.group_by)) MAX_NAMES
+has_few_names route = nat_le (length (grouping_names route.group_by)) MAX_LABEL_NAMES
 
 -- whether a duration is within its limit and not zero
 abbrev pub is_interval : ℕ → Bool

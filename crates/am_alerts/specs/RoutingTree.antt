@@ -20,7 +20,7 @@ use Rattle.am_alerts.specs.declared.limits.TheConstants.{MAX_CHILDREN, MAX_DEPTH
 -- a route below the root, and the spans of time in which it is muted
 pub record TreeRoute : Type 0 where
   pub child : Child
-  pub shut : List Span
+  pub muted : List Span
 
 -- a routing tree as contracts see it
 pub record RoutingTree : Type 0 where
@@ -29,7 +29,7 @@ pub record RoutingTree : Type 0 where
 
 -- a route below the root that is never muted
 abbrev pub plain : Child → TreeRoute
-plain c = record { child = c; shut = [] }
+plain c = record { child = c; muted = [] }
 
 -- a root and its children as a routing tree: one level
 abbrev pub tree_of : Route → List Child → RoutingTree
@@ -51,7 +51,7 @@ routes_in tree = tree.root ∷ map (λ c. c.route) (children_of tree)
 abbrev pub route_at : RoutingTree → ℕ → Route
 route_at tree position = slice_index_or (routes_in tree) position tree.root
 
--- how many routes stand below the one at a position, which isn't the root's: they are at the positions right behind it
+-- how many routes are below the one at a position, which isn't the root's: they are at the positions right behind it
 abbrev pub below_at : RoutingTree → ℕ → ℕ
 below_at tree position = slice_index_or (map (λ t. t.1) (laid tree.below)) (position - 1) 0
 
@@ -68,7 +68,7 @@ matching position bare labels = []
 matching position (grow r below after) labels =
     let later = matching (position + 1 + count below) after labels in
     if match_all r.child.matchers labels
-    then or_self position (matching (position + 1) below labels) ++ (if r.child.goes_on then later else [])
+    then or_self position (matching (position + 1) below labels) ++ (if r.child.continues then later else [])
     else later
 
 -- routes: the positions of a label set's routes, ascending, as Alertmanager's dispatcher finds them; the root alone where none matches
@@ -80,7 +80,7 @@ abbrev pub matching_from : ℕ → List Child → List Label → List ℕ
 matching_from position [] labels = []
 matching_from position (c ∷ cs) labels =
     if match_all c.matchers labels
-    then position ∷ (if c.goes_on then matching_from (position + 1) cs labels else [])
+    then position ∷ (if c.continues then matching_from (position + 1) cs labels else [])
     else matching_from (position + 1) cs labels
 
 -- whether a child's name and its grouping names are label names
@@ -108,7 +108,7 @@ are_small root children = has_few_names root && list_all is_small_child children
 abbrev pub have_good_intervals : Route → List Child → Bool
 have_good_intervals root children = has_good_intervals root && list_all (λ c. has_good_intervals c.route) children
 
--- why a root and the routes below it are no routing tree; `fits`: whether these are few and stand at few levels
+-- why a root and the routes below it are no routing tree; `fits`: whether these are few and are at few levels
 abbrev pub fault_where : Bool → Route → List Child → Option RouteFault
 fault_where fits root children =
     if not (has_good_names root children) then Some BadName
@@ -116,7 +116,7 @@ fault_where fits root children =
     else (if not (fits && are_small root children) then Some TooMany
     else (if not (have_good_intervals root children) then Some BadInterval else None)))
 
--- whether so many routes stand below the root at most, at so many levels at most
+-- whether so many routes are below the root at most, at so many levels at most
 abbrev pub is_within : ℕ → ℕ → RoutingTree → Bool
 is_within most deepest tree = nat_le (last_of tree) most && nat_le (height tree.below) deepest
 

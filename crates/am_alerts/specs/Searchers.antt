@@ -12,15 +12,15 @@ patterns_of ms = filter_map pattern_of ms
 abbrev pub AreFirstPatterns : List (List ℕ) → List MatcherParts → Type 0
 AreFirstPatterns patterns ms = patterns ≡ take (length patterns) (patterns_of ms)
 
--- what stands at a place of a list is this pattern, unless the list ends before
+-- what is at an index of a list is this pattern, unless the list ends before
 abbrev pub IsAt : ℕ → List (List ℕ) → List ℕ → Type 0
-IsAt place patterns p = place < length patterns → slice_index_or patterns place [] ≡ p
+IsAt index patterns p = index < length patterns → slice_index_or patterns index [] ≡ p
 
--- the patterns with one more behind them, if its place is there
+-- the patterns with one more behind them, if its index is there
 abbrev pub with_pattern : List ℕ → ℕ → List (List ℕ) → List (List ℕ)
-with_pattern p place patterns = if place == length patterns then patterns ++ p ∷ [] else patterns
+with_pattern p index patterns = if index == length patterns then patterns ++ p ∷ [] else patterns
 
 -- the same of a matcher's pattern, if it has one
 abbrev pub with_pattern_of : Option (List ℕ) → ℕ → List (List ℕ) → List (List ℕ)
-with_pattern_of None place patterns = patterns
-with_pattern_of (Some p) place patterns = with_pattern p place patterns
+with_pattern_of None index patterns = patterns
+with_pattern_of (Some p) index patterns = with_pattern p index patterns

@@ -45,15 +45,15 @@ TheRestIsItsOwn =
     (root : Route) (rules : Forest RouteSpec) →
     (map (λ c. c.route.name) (children_of (nested_of root rules)) ≡ map (λ r. r.name) (listed rules))
     × (map (λ c. c.matchers) (children_of (nested_of root rules)) ≡ map (λ r. r.matchers) (listed rules))
-    × (map (λ c. c.goes_on) (children_of (nested_of root rules)) ≡ map (λ r. r.goes_on) (listed rules))
-    × (map (λ r. r.shut) (listed (nested_of root rules).below) ≡ map (λ r. r.shut) (listed rules))
+    × (map (λ c. c.continues) (children_of (nested_of root rules)) ≡ map (λ r. r.continues) (listed rules))
+    × (map (λ r. r.muted) (listed (nested_of root rules).below) ≡ map (λ r. r.muted) (listed rules))
 
 -- whether one of these routes matches
 abbrev pub any_match : Forest TreeRoute → List Label → Bool
 any_match bare labels = false
 any_match (grow r below after) labels = match_all r.child.matchers labels || any_match after labels
 
--- whether the route at a place, from 0 on, is reached: it and all above it match, none right below it does, and beside each of these
+-- whether the route at an index, from 0 on, is reached: it and all above it match, none right below it does, and beside each of these
 -- none before it does that has no `continue`
 abbrev pub reaches : ℕ → Forest TreeRoute → List Label → Bool
 reaches k bare labels = false
@@ -61,7 +61,7 @@ reaches k (grow r below after) labels =
     let here = match_all r.child.matchers labels in
     if nat_eq k 0 then here && not (any_match below labels)
     else (if nat_le k (count below) then here && reaches (k - 1) below labels
-    else not (here && not r.child.goes_on) && reaches (k - 1 - count below) after labels)
+    else not (here && not r.child.continues) && reaches (k - 1 - count below) after labels)
 
 -- whether the route at a position is reached; the root is where no route right below it matches
 abbrev pub is_reached : RoutingTree → List Label → ℕ → Bool

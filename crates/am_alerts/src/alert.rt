@@ -5,19 +5,19 @@ ghost use Rattle.am_alerts.specs.Fault.{ok_unless};
 ghost use Rattle.am_alerts.specs.Labels.{IsLabelSet};
 
 use crate::labels::Labels;
-use crate::limits::MAX_MOMENT;
+use crate::limits::MAX_TIME;
 use crate::sequence::Copied;
 use std::alloc::{AllocError, Global};
 use std::marker::Model;
 use thiserror::Error;
 
-/// Why labels and moments make no alert.
+/// Why labels and times make no alert.
 #[derive(Clone, Copy, Debug, PartialEq, Eq, Error)]
 pub enum AlertFault {
     #[error("an alert needs a label")]
     NoLabels = 1,
     #[error("a moment is above 10^15")]
-    BadMoment = 2,
+    BadTime = 2,
     #[error("the alert ends before it starts")]
     EndBeforeStart = 3,
 }
@@ -45,7 +45,7 @@ impl Model for Alert {
 }
 
 impl Alert {
-    /// An alert of these labels. Refused in this order: `NoLabels`, `BadMoment` (above 10^15),
+    /// An alert of these labels. Refused in this order: `NoLabels`, `BadTime` (above 10^15),
     /// `EndBeforeStart` (an end at the start is accepted). Takes no memory.
     pub fn new(labels: Labels, starts: u64, ends: Option<u64>) -> Result<Alert, AlertFault>
         ensures { result ≡ ok_unless (alert_fault (alert_of labels starts ends)) (alert_of labels starts ends) }
@@ -54,8 +54,8 @@ impl Alert {
             return Err(AlertFault::NoLabels);
         }
         let end = ends.unwrap_or(starts);
-        if starts > MAX_MOMENT || end > MAX_MOMENT {
-            return Err(AlertFault::BadMoment);
+        if starts > MAX_TIME || end > MAX_TIME {
+            return Err(AlertFault::BadTime);
         }
         if end < starts {
             return Err(AlertFault::EndBeforeStart);
@@ -78,7 +78,7 @@ impl Alert {
     /// When the alert starts, in milliseconds.
     pub fn starts(&self) -> u64
         ensures starts { result ≡ self.now.starts }
-        ensures bounded { result ≤ MAX_MOMENT }
+        ensures bounded { result ≤ MAX_TIME }
     {
         self.starts
     }
@@ -86,7 +86,7 @@ impl Alert {
     /// When the alert ends, in milliseconds, if that is known.
     pub fn ends(&self) -> Option<u64>
         ensures ends { result ≡ self.now.ends }
-        ensures bounded { IfSome result (λ end. end ≤ MAX_MOMENT) }
+        ensures bounded { IfSome result (λ end. end ≤ MAX_TIME) }
         ensures behind { IfSome result (λ end. self.now.starts ≤ end) }
     {
         self.ends
@@ -113,7 +113,7 @@ impl Alert {
         })
     }
 
-    /// A copy of this alert as one that fires at a moment at which it isn't resolved: it has no end.
+    /// A copy of this alert as one that fires at a time at which it isn't resolved: it has no end.
     pub fn copy_without_end(&self, alloc: Global) -> Result<Alert, AllocError>
         ensures { IfOk result (λ alert. alert ≡ alert_of self.now.labels self.now.starts None) }
     {

@@ -1,7 +1,7 @@
 //! The limits, the faults' numbers and the laws of routing trees, which verifiers read.
 ghost use Rattle.am_alerts.specs.Laws.{LimitsAre, LabelFaultsAre, AlertFaultsAre, MatcherFaultsAre};
 ghost use Rattle.am_alerts.specs.Laws.{RouteFaultsAre, SpansFaultsAre, DurationFaultsAre};
-ghost use Rattle.am_alerts.specs.Spans.{OneLevelIsNeverShut, SpansEndWhereTheySay};
+ghost use Rattle.am_alerts.specs.Spans.{OneLevelIsNeverMuted, SpansEndWhereTheySay};
 ghost use Rattle.am_alerts.specs.TreeLaws.{OneLevelIsTriedInOrder, OptionsAreTheNearest, TheRestIsItsOwn, EachRouteIsReachedOrNot};
 
 use crate::alert::AlertFault;
@@ -22,7 +22,7 @@ const LABEL_FAULTS: [(LabelFault, u8); 6] = [
 
 const ALERT_FAULTS: [(AlertFault, u8); 3] = [
     (AlertFault::NoLabels, AlertFault::NoLabels as u8),
-    (AlertFault::BadMoment, AlertFault::BadMoment as u8),
+    (AlertFault::BadTime, AlertFault::BadTime as u8),
     (AlertFault::EndBeforeStart, AlertFault::EndBeforeStart as u8),
 ];
 
@@ -43,7 +43,7 @@ const ROUTE_FAULTS: [(RouteFault, u8); 4] = [
 const SPANS_FAULTS: [(SpansFault, u8); 4] = [
     (SpansFault::BadOrder, SpansFault::BadOrder as u8),
     (SpansFault::TooMany, SpansFault::TooMany as u8),
-    (SpansFault::BadMoment, SpansFault::BadMoment as u8),
+    (SpansFault::BadTime, SpansFault::BadTime as u8),
     (SpansFault::NoMemory, SpansFault::NoMemory as u8),
 ];
 
@@ -52,7 +52,7 @@ const DURATION_FAULTS: [(DurationFault, u8); 2] = [
     (DurationFault::TooLong, DurationFault::TooLong as u8),
 ];
 
-/// What each limit is: of moments and durations in milliseconds, of bytes, and of how many labels,
+/// What each limit is: of times and durations in milliseconds, of bytes, and of how many labels,
 /// matchers, names, children and spans there may be.
 pub fn limits_are()
     ensures { LimitsAre }
@@ -88,13 +88,13 @@ pub fn each_route_is_reached_or_not()
     ensures { EachRouteIsReachedOrNot }
 {}
 
-/// Where a route is muted at a moment, the end that `shut_until` gives lies ahead, stays the same
-/// at each moment up to it, and the route isn't muted then.
+/// Where a route is muted at a time, the end that `muted_until` gives lies ahead, stays the same
+/// at each time up to it, and the route isn't muted then.
 pub fn spans_end_where_they_say()
     ensures { SpansEndWhereTheySay }
 {}
 
 /// No route of a tree of one level is ever muted.
-pub fn one_level_is_never_shut()
-    ensures { OneLevelIsNeverShut }
+pub fn one_level_is_never_muted()
+    ensures { OneLevelIsNeverMuted }
 {}

@@ -1,7 +1,7 @@
 //! The bounds of times, durations, labels and lists.
 
-/// The greatest moment of an alert or a silence, in milliseconds.
-pub const MAX_MOMENT: u64 = 1_000_000_000_000_000;
+/// The greatest time of an alert or a silence, in milliseconds.
+pub const MAX_TIME: u64 = 1_000_000_000_000_000;
 
 /// The greatest duration, in milliseconds.
 pub const MAX_DURATION: u64 = 1_000_000_000_000;
@@ -16,15 +16,15 @@ pub const MAX_LABEL_BYTES: usize = 1_024;
 pub const MAX_MATCHERS: usize = 32;
 
 /// How many names `group_by` or an inhibition rule's `equal` may have.
-pub const MAX_NAMES: usize = 64;
+pub const MAX_LABEL_NAMES: usize = 64;
 
 /// How many children the root route of one level may have.
 pub const MAX_CHILDREN: usize = 63;
 
-/// How many routes may stand below the root of a tree.
+/// How many routes may be below the root of a tree.
 pub const MAX_ROUTES: usize = 1_023;
 
-/// At how many levels they may stand.
+/// At how many levels they may be.
 pub const MAX_DEPTH: usize = 64;
 
 /// In how many spans of time a route may be muted.

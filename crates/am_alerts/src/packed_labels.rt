@@ -89,7 +89,7 @@ impl PackedLabels {
         self.len() == 0
     }
 
-    /// The name and the value of the label at this place.
+    /// The name and the value of the label at this index.
     pub fn pair(&self, index: usize) -> (&str, &str)
         requires { index < length self.now }
         ensures { (d : Label) → label_in result ≡ slice_index_or self.now index d }

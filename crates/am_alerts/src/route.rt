@@ -10,7 +10,7 @@ ghost use Rattle.am_alerts.specs.RoutingTree.{has_good_child_names, has_good_nam
 ghost use Rattle.am_alerts.specs.RoutingTree.{have_good_intervals, fault_where};
 
 use crate::labels::is_label_name;
-use crate::limits::{MAX_DURATION, MAX_MATCHERS, MAX_NAMES};
+use crate::limits::{MAX_DURATION, MAX_LABEL_NAMES, MAX_MATCHERS};
 use crate::matcher::Matcher;
 pub use crate::routes::Routes;
 use crate::sequence::Sequence;
@@ -23,7 +23,7 @@ use thiserror::Error;
 pub enum GroupBy {
     /// All of them, written `...`.
     All,
-    /// These names; a name that stands twice counts once.
+    /// These names; a name that is twice counts once.
     Names(Sequence<Text>),
 }
 
@@ -45,7 +45,7 @@ pub struct Child {
     pub route: Route,
     pub matchers: Sequence<Matcher>,
     /// Whether the search goes on behind this child, which is written `continue`.
-    pub goes_on: bool,
+    pub continues: bool,
 }
 
 /// Why routes make no routing tree.
@@ -89,7 +89,7 @@ impl Route {
     }
 }
 
-/// Why a root and the routes below it make no routing tree. `fits`: whether these are few and stand
+/// Why a root and the routes below it make no routing tree. `fits`: whether these are few and are
 /// at few levels.
 pub(crate) fn fault_where(fits: bool, root: &Route, children: &[Child]) -> Option<RouteFault>
     ensures { result ≡ fault_where fits root.now children.now }
@@ -170,7 +170,7 @@ fn has_few_names(route: &Route) -> bool
 {
     match &route.group_by {
         GroupBy::All => true,
-        GroupBy::Names(names) => names.len() <= MAX_NAMES,
+        GroupBy::Names(names) => names.len() <= MAX_LABEL_NAMES,
     }
 }
 

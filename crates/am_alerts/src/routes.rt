@@ -9,17 +9,17 @@ ghost use Rattle.std.specs.List.Sorted.{IsStrictlyIncreasing};
 ghost use Rattle.am_alerts.specs.Fault.{ok_unless};
 ghost use Rattle.am_alerts.specs.Nested.{forest, nested_of};
 ghost use Rattle.am_alerts.specs.Layout.{planted};
-ghost use Rattle.am_alerts.specs.Planted.{IsLaid, paired, part};
+ghost use Rattle.am_alerts.specs.RouteLayouts.{IsLaid, paired, part};
 ghost use Rattle.am_alerts.specs.Route.{group_labels_of, key_text_of, has_good_intervals};
 ghost use Rattle.am_alerts.specs.RoutingTree.{tree_of, children_of, last_of, route_at, below_at, matching, or_self, routes_of};
 ghost use Rattle.am_alerts.specs.RoutingTree.{level_fault, tree_fault};
-ghost use Rattle.am_alerts.specs.Spans.{shut_at};
+ghost use Rattle.am_alerts.specs.Spans.{muted_at};
 
 use crate::labels::Labels;
 use crate::limits::{MAX_CHILDREN, MAX_DEPTH, MAX_ROUTES};
 use crate::matcher::all_match;
-use crate::planting::{Place, below_in, is_low, push_nodes, shut_in};
 use crate::route::{Child, GroupBy, Route, RouteFault, fault_where};
+use crate::route_layout::{RouteLayout, below_in, is_low, muted_in, push_nodes};
 use crate::sequence::Sequence;
 use crate::spans::Span;
 use crate::tree::{Node, TreeFault};
@@ -32,7 +32,7 @@ use std::marker::Model;
 pub struct Routes {
     root: Route,
     children: Sequence<Child>,
-    places: Sequence<Place>,
+    layouts: Sequence<RouteLayout>,
 }
 
 impl Model for Routes {
@@ -44,11 +44,11 @@ impl Model for Routes {
 
     ghost coded = { Prim.hlevel (codes, forest_code) };
 
-    ghost use Rattle.am_alerts.specs.Planted.{IsPlanted, paired, tree_from};
+    ghost use Rattle.am_alerts.specs.RouteLayouts.{IsPlanted, paired, tree_from};
 
-    ghost view = { λ r. tree_from r.root (paired r.children r.places) };
+    ghost view = { λ r. tree_from r.root (paired r.children r.layouts) };
 
-    ghost invariant = { λ r. IsPlanted r.root (paired r.children r.places) };
+    ghost invariant = { λ r. IsPlanted r.root (paired r.children r.layouts) };
 }
 
 impl Routes {
@@ -71,11 +71,11 @@ impl Routes {
         match fault_where(fits, &root, children.as_slice()) {
             Some(fault) => Err(fault),
             None => {
-                let places = Vec::new(*children.allocator());
+                let layouts = Vec::new(*children.allocator());
                 Ok(Routes {
                     root,
                     children: Sequence::from(children),
-                    places: Sequence::from(places),
+                    layouts: Sequence::from(layouts),
                 })
             }
         }
@@ -83,7 +83,7 @@ impl Routes {
 
     /// The routing tree of a root, which says everything, and the routes below it, at any depth:
     /// what a route doesn't say it has from the nearest route above it that does. `Unfit`: refused
-    /// as `new` does, but that up to 1,023 routes may stand below the root, at up to 64 levels.
+    /// as `new` does, but that up to 1,023 routes may be below the root, at up to 64 levels.
     /// `NoMemory`: out of memory, which may come before the others.
     pub fn nested(alloc: Global, root: Route, routes: Vec<Node>) -> Result<Routes, TreeFault>
         ensures value { IfOk result (λ made. made ≡ nested_of root (forest routes.items)) }
@@ -93,20 +93,20 @@ impl Routes {
     {
         let low = is_low(routes.as_slice(), MAX_DEPTH);
         let mut children = Vec::new(alloc);
-        let mut places = Vec::new(alloc);
-        push_nodes(alloc, &mut children, &mut places, &root, routes)?;
+        let mut layouts = Vec::new(alloc);
+        push_nodes(alloc, &mut children, &mut layouts, &root, routes)?;
         let fits = fit(children.len(), low);
         match fault_where(fits, &root, children.as_slice()) {
             Some(fault) => Err(TreeFault::Unfit(fault)),
             None => Ok(Routes {
                 root,
                 children: Sequence::from(children),
-                places: Sequence::from(places),
+                layouts: Sequence::from(layouts),
             }),
         }
     }
 
-    /// The last position: how many routes stand below the root.
+    /// The last position: how many routes are below the root.
     pub fn last(&self) -> u32
         ensures last { result ≡ last_of self.now }
         ensures few { result ≤ MAX_ROUTES }
@@ -114,14 +114,14 @@ impl Routes {
         self.children.len() as u32
     }
 
-    /// How many routes stand below the one at a position, which exists and isn't the root's: they
+    /// How many routes are below the one at a position, which exists and isn't the root's: they
     /// are at the positions right behind it.
     pub fn below(&self, position: u32) -> u32
         requires some { 0 < position }
         requires exists { position ≤ last_of self.now }
         ensures { result ≡ below_at self.now position }
     {
-        below_in(self.places.as_slice(), position as usize - 1) as u32
+        below_in(self.layouts.as_slice(), position as usize - 1) as u32
     }
 
     /// The route at a position, which exists.
@@ -139,14 +139,14 @@ impl Routes {
 
     /// The spans of time in which the route at a position, which exists, is muted, in their order.
     /// The root never is.
-    pub fn shut(&self, position: u32) -> &[Span]
+    pub fn muted(&self, position: u32) -> &[Span]
         requires { position ≤ last_of self.now }
-        ensures { result.now ≡ shut_at self.now position }
+        ensures { result.now ≡ muted_at self.now position }
     {
         if position == 0 {
             &[]
         } else {
-            shut_in(self.places.as_slice(), position as usize - 1)
+            muted_in(self.layouts.as_slice(), position as usize - 1)
         }
     }
 
@@ -215,13 +215,13 @@ impl Routes {
         routes_found(
             alloc,
             self.children.as_slice(),
-            self.places.as_slice(),
+            self.layouts.as_slice(),
             labels,
         )
     }
 }
 
-/// Whether so many routes may stand below a root; `low`: whether they stand at few levels.
+/// Whether so many routes may be below a root; `low`: whether they are at few levels.
 fn fit(count: usize, low: bool) -> bool
     ensures { result ≡ (nat_le count MAX_ROUTES && low) }
 {
@@ -232,20 +232,20 @@ fn fit(count: usize, low: bool) -> bool
 fn routes_found(
     alloc: Global,
     children: &[Child],
-    places: &[Place],
+    layouts: &[RouteLayout],
     labels: &Labels,
 ) -> Result<Vec<u32>, AllocError>
     requires few { length children.now ≤ MAX_ROUTES }
-    requires laid { IsLaid (paired children.now places.now) }
+    requires laid { IsLaid (paired children.now layouts.now) }
     ensures { IfOk result (λ positions. positions.items
-        ≡ or_self 0 (matching 1 (planted (paired children.now places.now)) labels.now)) }
+        ≡ or_self 0 (matching 1 (planted (paired children.now layouts.now)) labels.now)) }
 {
     let mut found = Vec::new(alloc);
     push_matching(
         alloc,
         &mut found,
         children,
-        places,
+        layouts,
         0,
         children.len(),
         labels,
@@ -256,14 +256,14 @@ fn routes_found(
     Ok(found)
 }
 
-/// Adds the positions of a label set's routes among those of one level and below them, which stand
-/// in the lists from one place up to another.
+/// Adds the positions of a label set's routes among those of one level and below them, which are
+/// in the lists from one index up to another.
 #[cycle(search)]
 fn push_matching(
     alloc: Global,
     found: &mut Vec<u32>,
     children: &[Child],
-    places: &[Place],
+    layouts: &[RouteLayout],
     from: usize,
     to: usize,
     labels: &Labels,
@@ -271,17 +271,17 @@ fn push_matching(
     requires few { length children.now ≤ MAX_ROUTES }
     requires ordered { from ≤ to }
     requires within { to ≤ length children.now }
-    requires laid { IsLaid (part from to (paired children.now places.now)) }
+    requires laid { IsLaid (part from to (paired children.now layouts.now)) }
     ensures { IfOk result (λ _. found.new.items ≡ found.old.items
-        ++ matching (from + 1) (planted (part from to (paired children.now places.now))) labels.now) }
+        ++ matching (from + 1) (planted (part from to (paired children.now layouts.now))) labels.now) }
 {
     let mut at = from;
     while at < to {
-        let end = at + 1 + below_in(places, at);
+        let end = at + 1 + below_in(layouts, at);
         let child = &children[at];
         if all_match(alloc, child.matchers.as_slice(), labels)? {
-            push_reached(alloc, found, children, places, at, end, labels)?;
-            if !child.goes_on {
+            push_reached(alloc, found, children, layouts, at, end, labels)?;
+            if !child.continues {
                 return Ok(());
             }
         }
@@ -297,7 +297,7 @@ fn push_reached(
     alloc: Global,
     found: &mut Vec<u32>,
     children: &[Child],
-    places: &[Place],
+    layouts: &[RouteLayout],
     at: usize,
     end: usize,
     labels: &Labels,
@@ -305,12 +305,12 @@ fn push_reached(
     requires few { length children.now ≤ MAX_ROUTES }
     requires ordered { at < end }
     requires within { end ≤ length children.now }
-    requires laid { IsLaid (part (at + 1) end (paired children.now places.now)) }
+    requires laid { IsLaid (part (at + 1) end (paired children.now layouts.now)) }
     ensures { IfOk result (λ _. found.new.items ≡ found.old.items ++ or_self (at + 1)
-        (matching (at + 2) (planted (part (at + 1) end (paired children.now places.now))) labels.now)) }
+        (matching (at + 2) (planted (part (at + 1) end (paired children.now layouts.now))) labels.now)) }
 {
     let before = found.len();
-    push_matching(alloc, found, children, places, at + 1, end, labels)?;
+    push_matching(alloc, found, children, layouts, at + 1, end, labels)?;
     if found.len() == before {
         found.push(at as u32 + 1)?;
     }

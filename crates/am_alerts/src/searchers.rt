@@ -80,43 +80,43 @@ fn all_match_by<'m>(
     Ok(true)
 }
 
-/// Whether a label set matches a matcher. If that has a pattern, what searches for it stands at
-/// `place`, or is put there if the list ends before it.
+/// Whether a label set matches a matcher. If that has a pattern, what searches for it is at
+/// `index`, or is put there if the list ends before it.
 fn matches_by<'m>(
     alloc: Global,
     matcher: &'m Matcher,
-    place: usize,
+    index: usize,
     searchers: &mut Vec<Searcher<'m>>,
     labels: &Labels,
 ) -> Result<bool, AllocError>
-    requires reached { place ≤ vec_len searchers.old }
-    requires place { IfSome (pattern_of matcher.now) (IsAt place searchers.old.items) }
+    requires reached { index ≤ vec_len searchers.old }
+    requires index { IfSome (pattern_of matcher.now) (IsAt index searchers.old.items) }
     ensures value { IfOk result (λ matched. matched ≡ matches_parts matcher.now labels.now) }
     ensures answers { IsTrue (compares_texts matcher.now) → IsOk result }
     ensures put { OnOk result (searchers.new.items
-        ≡ with_pattern_of (pattern_of matcher.now) place searchers.old.items) }
+        ≡ with_pattern_of (pattern_of matcher.now) index searchers.old.items) }
     ensures unchanged { OnErr result (searchers.new.items ≡ searchers.old.items) }
 {
     let Some(pattern) = matcher.pattern() else {
         return matcher.matches(alloc, labels);
     };
-    reach(alloc, pattern, place, searchers)?;
-    let found = searchers[place].has_match(matcher.value_in(labels));
+    reach(alloc, pattern, index, searchers)?;
+    let found = searchers[index].has_match(matcher.value_in(labels));
     Ok(matcher.is_passed(found))
 }
 
-/// Puts what searches for a pattern behind the others, if these end at its place.
+/// Puts what searches for a pattern behind the others, if these end at its index.
 fn reach<'m>(
     alloc: Global,
     pattern: &'m Pattern,
-    place: usize,
+    index: usize,
     searchers: &mut Vec<Searcher<'m>>,
 ) -> Result<(), AllocError>
     ensures put { OnOk result
-        (searchers.new.items ≡ with_pattern pattern.now place searchers.old.items) }
+        (searchers.new.items ≡ with_pattern pattern.now index searchers.old.items) }
     ensures unchanged { OnErr result (searchers.new.items ≡ searchers.old.items) }
 {
-    if place == searchers.len() {
+    if index == searchers.len() {
         searchers.push(Searcher::new(alloc, pattern)?)?;
     }
     Ok(())

@@ -3,7 +3,7 @@
 //!
 //! Contracts see a `Vec` with its address and its capacity, so a copy would not equal its source. A
 //! sequence is made of a `Vec` and gives it back without memory. The trait `Copied` gives copies
-//! that contracts can't tell from their source.
+//! that contracts can't distinguish from their source.
 ghost use Rattle.std.specs.Prelude.{◌≡◌, [], length, ◌↔◌, IsTrue, IfOk};
 ghost use Rattle.std.specs.Hash as fed;
 ghost use Rattle.std.specs.Hash.{items_Alike};
@@ -16,7 +16,7 @@ use std::hash::{Hash, Hasher};
 use std::marker::Model;
 
 /// A list of values. To a contract it is just the list, so that a copy equals its source,
-/// whatever memory the two stand in. Lists are ordered as their elements are, a proper
+/// whatever memory the two are in. Lists are ordered as their elements are, a proper
 /// prefix first.
 #[derive(Drop, Debug)]
 pub struct Sequence<T> {
@@ -68,7 +68,7 @@ impl<T> Sequence<T> {
     }
 }
 
-/// A type whose values have copies that contracts can't tell from them.
+/// A type whose values have copies that contracts can't distinguish from them.
 pub trait Copied: Drop + Sized {
     /// A copy of this value.
     fn copied(&self, alloc: Global) -> Result<Self, AllocError>

@@ -1,24 +1,24 @@
-//! Spans of time in which a route is muted. `RouteSpec` has them, and the route at a position tells
+//! Spans of time in which a route is muted. `RouteSpec` has them, and the route at a position says
 //! them.
 //!
 //! Several routes may share one list. A route without spans takes no memory for them.
 ghost use Rattle.std.specs.Prelude.{◌≡◌, ◌⊎◌, [], IfErr, IfOk, IsTrue, is_some, Some, length, nat_le};
-ghost use Rattle.am_alerts.specs.Spans.{are_apart, begins_behind, end_in_time, holds, is_shut, shut_until, spans_fault};
+ghost use Rattle.am_alerts.specs.Spans.{are_apart, begins_behind, end_in_time, holds, is_muted, muted_until, spans_fault};
 
-use crate::limits::{MAX_MOMENT, MAX_SPANS};
+use crate::limits::{MAX_SPANS, MAX_TIME};
 use std::alloc::{AllocError, Global};
 use std::marker::Model;
 use std::sync::Arc;
 use thiserror::Error;
 
-/// A span of time, in milliseconds: from a moment on, up to its end, which it leaves out.
+/// A span of time, in milliseconds: from a time on, up to its end, which it leaves out.
 #[derive(Clone, Copy, Debug, PartialEq, Eq)]
 pub struct Span {
     pub from: u64,
     pub to: u64,
 }
 
-/// Why spans are none that a route may have. The first of these that holds is told.
+/// Why spans are none that a route may have. The first of these that holds is reported.
 #[derive(Clone, Copy, Debug, PartialEq, Eq, Error)]
 pub enum SpansFault {
     #[error("a span is empty, or doesn't begin behind the end of the one before")]
@@ -26,7 +26,7 @@ pub enum SpansFault {
     #[error("there are more than 8192 spans")]
     TooMany,
     #[error("a span ends behind 10^15 ms")]
-    BadMoment,
+    BadTime,
     #[error("out of memory")]
     NoMemory,
 }
@@ -55,7 +55,7 @@ impl Model for Spans {
 }
 
 impl Span {
-    /// Whether the span holds a moment.
+    /// Whether the span holds a time.
     pub fn holds(&self, t: u64) -> bool
         ensures { result ≡ holds self.now t }
     {
@@ -76,7 +76,7 @@ impl Spans {
     /// - `BadOrder`: a span is empty, or doesn't begin behind the end of the one before, so that
     ///   they overlap or touch.
     /// - `TooMany`: there are more than 8,192.
-    /// - `BadMoment`: one ends behind 10^15 ms.
+    /// - `BadTime`: one ends behind 10^15 ms.
     /// - `NoMemory`: out of memory.
     pub fn new(alloc: Global, list: Vec<Span>) -> Result<Spans, SpansFault>
         ensures value { IfOk result (λ spans. (spans ≡ list.items) × (spans_fault list.items ≡ None)) }
@@ -117,10 +117,10 @@ impl Spans {
     }
 }
 
-/// Until when the span lasts that holds a moment, if one does: the route is muted until then.
-pub fn shut_until(spans: &[Span], t: u64) -> Option<u64>
-    ensures until { result ≡ shut_until spans.now t }
-    ensures shut { is_some result ≡ is_shut spans.now t }
+/// Until when the span lasts that holds a time, if one does: the route is muted until then.
+pub fn muted_until(spans: &[Span], t: u64) -> Option<u64>
+    ensures until { result ≡ muted_until spans.now t }
+    ensures muted { is_some result ≡ is_muted spans.now t }
 {
     let mut rest = spans;
     while let [span, behind @ ..] = rest {
@@ -142,7 +142,7 @@ fn fault_of(spans: &[Span]) -> Option<SpansFault>
         return Some(SpansFault::TooMany);
     }
     if !end_in_time(spans) {
-        return Some(SpansFault::BadMoment);
+        return Some(SpansFault::BadTime);
     }
     None
 }
@@ -151,7 +151,7 @@ fn end_in_time(spans: &[Span]) -> bool
     ensures { result ≡ end_in_time spans.now }
 {
     for span in spans {
-        if span.to > MAX_MOMENT {
+        if span.to > MAX_TIME {
             return false;
         }
     }
@@ -171,7 +171,7 @@ fn are_apart(spans: &[Span]) -> bool
     true
 }
 
-/// Whether the first of these spans, if there is one, begins behind a moment.
+/// Whether the first of these spans, if there is one, begins behind a time.
 fn begins_behind(spans: &[Span], end: u64) -> bool
     ensures { result ≡ begins_behind end spans.now }
 {

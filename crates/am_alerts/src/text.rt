@@ -16,7 +16,7 @@ use std::hash::{Hash, Hasher};
 use std::marker::Model;
 
 /// A text in UTF-8. Two texts are equal to a contract where their bytes are, whatever
-/// memory they stand in. They are ordered by bytes, a proper prefix first.
+/// memory they are in. They are ordered by bytes, a proper prefix first.
 #[derive(Drop)]
 pub struct Text {
     string: String,

@@ -25,9 +25,9 @@ pub struct RouteSpec {
     pub options: Options,
     pub matchers: Sequence<Matcher>,
     /// Whether the search goes on among the routes beside it, which is written `continue`.
-    pub goes_on: bool,
+    pub continues: bool,
     /// When it is muted. The routes below it don't have this from it.
-    pub shut: Spans,
+    pub muted: Spans,
 }
 
 /// A route below the root, with the routes right below it in their order.

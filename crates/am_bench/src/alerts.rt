@@ -1,6 +1,6 @@
 //! The alerts that are inserted, and the silences of some of them.
 use crate::requests::values;
-use crate::words::{Trouble, both};
+use crate::words::{BenchError, both};
 use am_alerts::alert::Alert;
 use am_alerts::labels::{LabelFault, Labels};
 use am_alerts::matcher::{Matcher, Operator};
@@ -33,18 +33,18 @@ pub struct Load {
 }
 
 impl Load {
-    /// The alerts at these places of an order, in which one comes so far behind another. Each is in
+    /// The alerts at these indexes of an order, in which one comes so far behind another. Each is in
     /// the group of its number modulo the number of groups.
     pub fn build(
         &self,
         alloc: Global,
-        places: Range<usize>,
+        indexes: Range<usize>,
         stride: usize,
         ends: Option<u64>,
-    ) -> Result<Vec<Alert>, Trouble> {
+    ) -> Result<Vec<Alert>, BenchError> {
         let mut alerts = Vec::new(alloc);
-        for place in places {
-            let number = place
+        for index in indexes {
+            let number = index
                 .saturating_mul(stride)
                 .checked_rem(self.alerts)
                 .unwrap_or(0);
@@ -61,7 +61,7 @@ impl Load {
     }
 }
 
-/// What tells one alert from another.
+/// What says one alert from another.
 #[derive(Drop)]
 pub struct Sample {
     /// The number of its group, which is in the alertname.
@@ -76,12 +76,12 @@ pub struct Sample {
 
 impl Sample {
     /// The alert of these numbers, which starts so many milliseconds after 0.
-    pub fn build(&self, alloc: Global, ends: Option<u64>) -> Result<Alert, Trouble> {
+    pub fn build(&self, alloc: Global, ends: Option<u64>) -> Result<Alert, BenchError> {
         let labels = self.labels(alloc)?;
-        Alert::new(labels, self.number as u64, ends).map_err(|_| Trouble::BadLine)
+        Alert::new(labels, self.number as u64, ends).map_err(|_| BenchError::BadLine)
     }
 
-    fn labels(&self, alloc: Global) -> Result<Labels, Trouble> {
+    fn labels(&self, alloc: Global) -> Result<Labels, BenchError> {
         let begin = self.begin;
         let names = both(
             alertname(alloc, self.group),
@@ -111,7 +111,7 @@ fn labels<'a>(
     job: &'a str,
     severity: &'a str,
     more: &'a str,
-) -> Result<Labels, Trouble> {
+) -> Result<Labels, BenchError> {
     let pairs = [
         ("alertname", alertname),
         ("cluster", "eu-west-1"),
@@ -124,38 +124,38 @@ fn labels<'a>(
     ];
     match Labels::read(alloc, &pairs) {
         Ok(labels) => Ok(labels),
-        Err(LabelFault::NoMemory) => Err(Trouble::NoMemory),
-        Err(_) => Err(Trouble::BadLine),
+        Err(LabelFault::NoMemory) => Err(BenchError::NoMemory),
+        Err(_) => Err(BenchError::BadLine),
     }
 }
 
 /// The label value of a group.
-fn alertname(alloc: Global, number: usize) -> Result<String, Trouble> {
+fn alertname(alloc: Global, number: usize) -> Result<String, BenchError> {
     Ok(format!(in alloc; "A{number:04}")?)
 }
 
 /// The label value of an instance.
-fn instance(alloc: Global, begin: &str, number: usize) -> Result<String, Trouble> {
+fn instance(alloc: Global, begin: &str, number: usize) -> Result<String, BenchError> {
     Ok(format!(in alloc; "{begin}host-{number:05}:9100")?)
 }
 
 /// The label value of a job.
-fn job(alloc: Global, begin: &str, number: usize) -> Result<String, Trouble> {
+fn job(alloc: Global, begin: &str, number: usize) -> Result<String, BenchError> {
     Ok(format!(in alloc; "{begin}exporter-{number:05}")?)
 }
 
 /// Matches the label sets in which this label has this value, in a list.
-pub fn matchers(alloc: Global, name: &str, value: &str) -> Result<Vec<Matcher>, Trouble> {
+pub fn matchers(alloc: Global, name: &str, value: &str) -> Result<Vec<Matcher>, BenchError> {
     Ok(values::matchers(alloc, name, value)?)
 }
 
 /// Matches the label sets in which a pattern matches this label, in a list.
-pub fn patterns(alloc: Global, name: &str, pattern: &str) -> Result<Vec<Matcher>, Trouble> {
+pub fn patterns(alloc: Global, name: &str, pattern: &str) -> Result<Vec<Matcher>, BenchError> {
     Ok(values::matchers_by(alloc, name, Operator::Like, pattern)?)
 }
 
 /// The text of a name or a value.
-pub fn text(alloc: Global, text: &str) -> Result<Text, Trouble> {
+pub fn text(alloc: Global, text: &str) -> Result<Text, BenchError> {
     Ok(Text::new(alloc, text)?)
 }
 
@@ -166,10 +166,10 @@ pub fn listed<T: Drop>(alloc: Global, value: T) -> Result<Vec<T>, AllocError> {
     Ok(list)
 }
 
-/// The silence of this id, which mutes an instance up to a moment.
-pub fn silence(alloc: Global, id: u64, number: usize, end: u64) -> Result<Silence, Trouble> {
+/// The silence of this id, which mutes an instance up to a time.
+pub fn silence(alloc: Global, id: u64, number: usize, end: u64) -> Result<Silence, BenchError> {
     let value = instance(alloc, "", number)?;
     let matchers = matchers(alloc, "instance", value.as_str());
     drop(value);
-    Silence::new(id, matchers?, 0, end).map_err(|_| Trouble::BadLine)
+    Silence::new(id, matchers?, 0, end).map_err(|_| BenchError::BadLine)
 }

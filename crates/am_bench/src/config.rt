@@ -1,6 +1,6 @@
 //! The configuration of a board.
 use crate::alerts::{CRITICAL, WARNING, listed, matchers, patterns, text};
-use crate::words::{Trouble, both};
+use crate::words::{BenchError, both};
 use am_alerts::matcher::Matcher;
 use am_alerts::route::{Child, GroupBy, Route, Routes};
 use am_alerts::sequence::Sequence;
@@ -25,14 +25,14 @@ const FAN: usize = 16;
 const LONG: u64 = 1_000_000_000;
 
 /// One route, which groups by alertname and cluster, and one receiver with one integration.
-pub fn plain(alloc: Global) -> Result<Config, Trouble> {
+pub fn plain(alloc: Global) -> Result<Config, BenchError> {
     let (routes, receivers) = both(routes(alloc, Vec::new(alloc)), receivers(alloc))?;
     Ok(config(routes, receivers, Vec::new(alloc)))
 }
 
 /// The same, with a rule by which critical alerts inhibit warnings of their cluster and instance, and
 /// with a route by which critical alerts aren't flushed.
-pub fn inhibiting(alloc: Global) -> Result<Config, Trouble> {
+pub fn inhibiting(alloc: Global) -> Result<Config, BenchError> {
     let critical = critical(alloc)?;
     let routes = routes(alloc, critical);
     let ((routes, receivers), rules) = both(both(routes, receivers(alloc)), rules(alloc))?;
@@ -40,23 +40,23 @@ pub fn inhibiting(alloc: Global) -> Result<Config, Trouble> {
 }
 
 /// The same as `plain`, with 16 routes that each alert goes to, one after the other.
-pub fn fanned(alloc: Global) -> Result<Config, Trouble> {
+pub fn fanned(alloc: Global) -> Result<Config, BenchError> {
     let children = fan(alloc)?;
     let (routes, receivers) = both(routes(alloc, children), receivers(alloc))?;
     Ok(config(routes, receivers, Vec::new(alloc)))
 }
 
 /// The same as `plain`, with so many rules of which both sides have a pattern.
-pub fn patterned(alloc: Global, rules: usize) -> Result<Config, Trouble> {
+pub fn patterned(alloc: Global, rules: usize) -> Result<Config, BenchError> {
     let rules = pattern_rules(alloc, rules)?;
     let (routes, receivers) = both(routes(alloc, Vec::new(alloc)), receivers(alloc))?;
     Ok(config(routes, receivers, rules))
 }
 
 /// The root with these children.
-fn routes(alloc: Global, children: Vec<Child>) -> Result<Routes, Trouble> {
+fn routes(alloc: Global, children: Vec<Child>) -> Result<Routes, BenchError> {
     let (root, children) = both(route(alloc, "root", WAIT), Ok(children))?;
-    Routes::new(root, children).map_err(|_| Trouble::BadLine)
+    Routes::new(root, children).map_err(|_| BenchError::BadLine)
 }
 
 fn config(routes: Routes, receivers: Sequence<Receiver>, rules: Vec<InhibitRule>) -> Config {
@@ -69,13 +69,13 @@ fn config(routes: Routes, receivers: Sequence<Receiver>, rules: Vec<InhibitRule>
     }
 }
 
-fn receivers(alloc: Global) -> Result<Sequence<Receiver>, Trouble> {
+fn receivers(alloc: Global) -> Result<Sequence<Receiver>, BenchError> {
     let (name, integrations) = both(text(alloc, "team"), integrations(alloc))?;
     let receivers = listed(alloc, Receiver { name, integrations })?;
     Ok(Sequence::from(receivers))
 }
 
-fn integrations(alloc: Global) -> Result<Sequence<Integration>, Trouble> {
+fn integrations(alloc: Global) -> Result<Sequence<Integration>, BenchError> {
     let kind = text(alloc, "hook")?;
     let send_resolved = true;
     let integrations = listed(
@@ -89,7 +89,7 @@ fn integrations(alloc: Global) -> Result<Sequence<Integration>, Trouble> {
 }
 
 /// A route to the receiver, which groups by alertname and cluster.
-pub fn route(alloc: Global, name: &str, group_wait: u64) -> Result<Route, Trouble> {
+pub fn route(alloc: Global, name: &str, group_wait: u64) -> Result<Route, BenchError> {
     let texts = both(text(alloc, name), text(alloc, "team"));
     let grouping = names(alloc, &["alertname", "cluster"]);
     let ((name, receiver), grouping) = both(texts, grouping)?;
@@ -104,13 +104,13 @@ pub fn route(alloc: Global, name: &str, group_wait: u64) -> Result<Route, Troubl
 }
 
 /// The route of critical alerts, in a list.
-pub fn critical(alloc: Global) -> Result<Vec<Child>, Trouble> {
+pub fn critical(alloc: Global) -> Result<Vec<Child>, BenchError> {
     let child = child(alloc, "critical", LONG, CRITICAL, false)?;
     Ok(listed(alloc, child)?)
 }
 
 /// Routes of warnings, after each of which the next one is tried.
-fn fan(alloc: Global) -> Result<Vec<Child>, Trouble> {
+fn fan(alloc: Global) -> Result<Vec<Child>, BenchError> {
     let mut children = Vec::new(alloc);
     for number in 0..FAN {
         children.push(numbered(alloc, number)?)?;
@@ -118,7 +118,7 @@ fn fan(alloc: Global) -> Result<Vec<Child>, Trouble> {
     Ok(children)
 }
 
-fn numbered(alloc: Global, number: usize) -> Result<Child, Trouble> {
+fn numbered(alloc: Global, number: usize) -> Result<Child, BenchError> {
     let name = format!(in alloc; "r{number}")?;
     let child = child(alloc, name.as_str(), WAIT, WARNING, true);
     drop(name);
@@ -131,31 +131,31 @@ fn child(
     name: &str,
     group_wait: u64,
     severity: &str,
-    goes_on: bool,
-) -> Result<Child, Trouble> {
+    continues: bool,
+) -> Result<Child, BenchError> {
     let matchers = matchers(alloc, "severity", severity);
     let (route, matchers) = both(route(alloc, name, group_wait), matchers)?;
     Ok(Child {
         route,
         matchers: Sequence::from(matchers),
-        goes_on,
+        continues,
     })
 }
 
 /// The rule, in a list.
-fn rules(alloc: Global) -> Result<Vec<InhibitRule>, Trouble> {
+fn rules(alloc: Global) -> Result<Vec<InhibitRule>, BenchError> {
     let rule = rule(alloc)?;
     Ok(listed(alloc, rule)?)
 }
 
-fn rule(alloc: Global) -> Result<InhibitRule, Trouble> {
+fn rule(alloc: Global) -> Result<InhibitRule, BenchError> {
     let source = matchers(alloc, "severity", CRITICAL);
     let matchers = both(source, matchers(alloc, "severity", WARNING));
     rule_of(alloc, matchers)
 }
 
 /// Rules of which both sides have a pattern.
-fn pattern_rules(alloc: Global, count: usize) -> Result<Vec<InhibitRule>, Trouble> {
+fn pattern_rules(alloc: Global, count: usize) -> Result<Vec<InhibitRule>, BenchError> {
     let mut rules = Vec::new(alloc);
     for _ in 0..count {
         let source = patterns(alloc, "severity", "critical|page");
@@ -169,13 +169,13 @@ fn pattern_rules(alloc: Global, count: usize) -> Result<Vec<InhibitRule>, Troubl
 /// the other.
 pub fn rule_of(
     alloc: Global,
-    matchers: Result<(Vec<Matcher>, Vec<Matcher>), Trouble>,
-) -> Result<InhibitRule, Trouble> {
+    matchers: Result<(Vec<Matcher>, Vec<Matcher>), BenchError>,
+) -> Result<InhibitRule, BenchError> {
     let ((source, target), equal) = both(matchers, names(alloc, &["cluster", "instance"]))?;
-    InhibitRule::new(source, target, equal).map_err(|_| Trouble::BadLine)
+    InhibitRule::new(source, target, equal).map_err(|_| BenchError::BadLine)
 }
 
-fn names(alloc: Global, texts: &[&str]) -> Result<Vec<Text>, Trouble> {
+fn names(alloc: Global, texts: &[&str]) -> Result<Vec<Text>, BenchError> {
     let mut names = Vec::new(alloc);
     for text in texts {
         names.push(Text::new(alloc, text)?)?;

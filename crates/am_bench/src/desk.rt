@@ -1,6 +1,6 @@
 //! A board, and what is done with it many times over.
 ghost use Rattle.std.specs.Prelude.{◌≡◌};
-ghost use Rattle.am_bench.specs.declared.desk.TheConstants.{HOME};
+ghost use Rattle.am_bench.specs.declared.desk.TheConstants.{BOARD_ID};
 
 use crate::tally::Tally;
 use crate::watch::Longest;
@@ -18,7 +18,7 @@ use std::alloc::Global;
 use std::time::CpuClock;
 
 /// The id of the board, which its tickets name.
-const HOME: u64 = 1;
+const BOARD_ID: u64 = 1;
 
 /// The pass of each call.
 const PASS: u32 = 0;
@@ -30,13 +30,13 @@ pub struct Desk {
     /// Of the inserts, or of the begins.
     pub calls: Longest,
     pub finishes: Longest,
-    ghost ours: { board.id ≡ HOME },
+    ghost ours: { board.id ≡ BOARD_ID },
 }
 
 impl Desk {
     /// A board of this configuration, with nothing in it, of which each call is timed or none.
     pub fn open(alloc: Global, config: Config, is_timed: bool) -> Result<Desk, BoardFault> {
-        let board = Board::new(alloc, config, HOME)?;
+        let board = Board::new(alloc, config, BOARD_ID)?;
         let (calls, finishes) = (Longest::new(is_timed), Longest::new(is_timed));
         Ok(Desk {
             board,
@@ -135,7 +135,13 @@ impl Desk {
     }
 
     /// Records each notice as delivered, and finishes the flush.
-    fn send(&mut self, clock: &impl CpuClock, own: OwnTicket<HOME>, now: u64, tally: &mut Tally) {
+    fn send(
+        &mut self,
+        clock: &impl CpuClock,
+        own: OwnTicket<BOARD_ID>,
+        now: u64,
+        tally: &mut Tally,
+    ) {
         let mut own = own;
         deliver_all(&mut own, now, tally);
         let started = self.finishes.start(clock);
@@ -164,12 +170,12 @@ impl Desk {
 }
 
 /// Records each notice of a ticket as delivered.
-fn deliver_all(own: &mut OwnTicket<HOME>, now: u64, tally: &mut Tally) {
-    for place in 0..own.ticket().notices().len() {
-        if let Some(notice) = own.ticket().notices().get(place) {
+fn deliver_all(own: &mut OwnTicket<BOARD_ID>, now: u64, tally: &mut Tally) {
+    for index in 0..own.ticket().notices().len() {
+        if let Some(notice) = own.ticket().notices().get(index) {
             let alerts = notice.firing.len().saturating_add(notice.resolved.len());
             let report = Report {
-                desk: notice.desk,
+                board_id: notice.board_id,
                 ticket: notice.ticket,
                 integration: notice.integration,
                 outcome: Outcome::Delivered,

@@ -5,7 +5,7 @@ use crate::desk::Desk;
 use crate::piece::{FIRST, SECOND, THIRD, flush, insert};
 use crate::storm::take_history;
 use crate::watch::Watch;
-use crate::words::Trouble;
+use crate::words::BenchError;
 use am_board::config::Config;
 use am_board::record::{Forgotten, Maintained};
 use std::alloc::Global;
@@ -37,7 +37,7 @@ pub fn run_flushes(
     config: Config,
     is_timed: bool,
     load: Load,
-) -> Result<(), Trouble> {
+) -> Result<(), BenchError> {
     let mut desk = Desk::open(alloc, config, is_timed)?;
     let ran = run_steps(rt, alloc, &mut desk, &load);
     drop(desk);
@@ -49,7 +49,7 @@ fn run_steps(
     alloc: Global,
     desk: &mut Desk,
     load: &Load,
-) -> Result<(), Trouble> {
+) -> Result<(), BenchError> {
     insert_thrice(rt, alloc, desk, load)?;
     take_history(rt, alloc, desk)?;
     flush(rt, alloc, desk, "first flush", FIRST, load.alerts)?;
@@ -64,7 +64,7 @@ fn insert_thrice(
     alloc: Global,
     desk: &mut Desk,
     load: &Load,
-) -> Result<(), Trouble> {
+) -> Result<(), BenchError> {
     let new = load.build(alloc, 0..load.alerts, 1, None)?;
     insert(rt, alloc, desk, "new inserts", 0, new)?;
     let same = load.build(alloc, 0..load.alerts, 1, None)?;
@@ -79,7 +79,7 @@ fn end_one(
     alloc: Global,
     desk: &mut Desk,
     load: &Load,
-) -> Result<(), Trouble> {
+) -> Result<(), BenchError> {
     let ended = load.build(alloc, 0..1, 1, Some(ONE))?;
     insert(rt, alloc, desk, "one end", ONE, ended)?;
     flush(rt, alloc, desk, "its flush", THIRD, load.alerts)?;
@@ -92,7 +92,7 @@ fn end_all(
     alloc: Global,
     desk: &mut Desk,
     load: &Load,
-) -> Result<(), Trouble> {
+) -> Result<(), BenchError> {
     let ended = load.build(alloc, 0..load.alerts, STRIDE, Some(ALL))?;
     insert(rt, alloc, desk, "ends", ALL, ended)?;
     let tally = flush(rt, alloc, desk, "resolved flush", FOURTH, load.alerts)?;
@@ -106,14 +106,14 @@ fn collect(
     alloc: Global,
     desk: &mut Desk,
     groups: usize,
-) -> Result<(), Trouble> {
+) -> Result<(), BenchError> {
     let watch = Watch::start(rt);
     let maintained = desk.maintain(alloc, EXPIRED)?;
     watch.stop(rt, "maintenance", groups);
-    tell_maintained(rt, maintained)
+    print_maintained(rt, maintained)
 }
 
-fn tell_maintained(rt: &impl Print, maintained: Maintained) -> Result<(), Trouble> {
+fn print_maintained(rt: &impl Print, maintained: Maintained) -> Result<(), BenchError> {
     let (groups, entries) = (maintained.groups, maintained.entries);
     println!(rt; "maintenance: groups {groups}, rows {entries}")?;
     Ok(())
@@ -126,14 +126,14 @@ fn forget(
     desk: &mut Desk,
     step: &str,
     now: u64,
-) -> Result<(), Trouble> {
+) -> Result<(), BenchError> {
     let watch = Watch::start(rt);
     let forgotten = desk.forget(alloc, now)?;
     watch.stop(rt, step, forgotten.alerts);
-    tell_forgotten(rt, step, forgotten)
+    print_forgotten(rt, step, forgotten)
 }
 
-fn tell_forgotten(rt: &impl Print, step: &str, forgotten: Forgotten) -> Result<(), Trouble> {
+fn print_forgotten(rt: &impl Print, step: &str, forgotten: Forgotten) -> Result<(), BenchError> {
     let (alerts, silences) = (forgotten.alerts, forgotten.silences);
     println!(rt; "{step}: alerts {alerts}, silences {silences}")?;
     Ok(())

@@ -2,8 +2,8 @@
 use crate::alerts::{CRITICAL, Sample, WARNING};
 use crate::config::inhibiting;
 use crate::desk::Desk;
-use crate::piece::{FIRST, flush, insert, tell_muted};
-use crate::words::Trouble;
+use crate::piece::{FIRST, flush, insert, print_muted};
+use crate::words::BenchError;
 use am_alerts::alert::Alert;
 use std::alloc::Global;
 use std::rt::Clock;
@@ -18,7 +18,7 @@ pub fn run_inhibition(
     alloc: Global,
     sources: usize,
     targets: usize,
-) -> Result<(), Trouble> {
+) -> Result<(), BenchError> {
     let mut desk = Desk::open(alloc, inhibiting(alloc)?, false)?;
     let ran = run_steps(rt, alloc, &mut desk, sources, targets);
     drop(desk);
@@ -31,17 +31,17 @@ fn run_steps(
     desk: &mut Desk,
     sources: usize,
     targets: usize,
-) -> Result<(), Trouble> {
+) -> Result<(), BenchError> {
     let first = build_sources(alloc, sources)?;
     insert(rt, alloc, desk, "sources", 0, first)?;
     let then = build_targets(alloc, targets, sources)?;
     insert(rt, alloc, desk, "targets", 0, then)?;
     let tally = flush(rt, alloc, desk, "inhibited flush", FIRST, targets)?;
-    tell_muted(rt, targets, &tally)
+    print_muted(rt, targets, &tally)
 }
 
 /// Alerts that inhibit, each of an instance of its own.
-fn build_sources(alloc: Global, count: usize) -> Result<Vec<Alert>, Trouble> {
+fn build_sources(alloc: Global, count: usize) -> Result<Vec<Alert>, BenchError> {
     let mut alerts = Vec::new(alloc);
     for number in 0..count {
         let sample = Sample {
@@ -57,7 +57,7 @@ fn build_sources(alloc: Global, count: usize) -> Result<Vec<Alert>, Trouble> {
 }
 
 /// Alerts of the instances of so many sources, from the last one on.
-fn build_targets(alloc: Global, count: usize, sources: usize) -> Result<Vec<Alert>, Trouble> {
+fn build_targets(alloc: Global, count: usize, sources: usize) -> Result<Vec<Alert>, BenchError> {
     let mut alerts = Vec::new(alloc);
     for number in 0..count {
         let back = number.checked_rem(sources).unwrap_or(0).saturating_add(1);

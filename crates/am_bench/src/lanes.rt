@@ -8,9 +8,9 @@ use crate::piece::{FIRST, SECOND};
 use crate::requests::delivery::Pager;
 use crate::tally::Tally;
 use crate::watch::Watch;
-use crate::words::{Trouble, both};
+use crate::words::{BenchError, both};
 use am_alerts::alert::Alert;
-use am_alerts::limits::MAX_MOMENT;
+use am_alerts::limits::MAX_TIME;
 use am_board::begin::Begun;
 use am_board::config::{Config, MAX_GROUPS};
 use am_board::fault::Fault;
@@ -25,7 +25,7 @@ use std::thread::{Threads, for_each_mut};
 use std::time::CpuClock;
 
 /// The id of the desk.
-const HOME: u64 = 2;
+const BOARD_ID: u64 = 2;
 
 /// When the same alerts come again, in milliseconds.
 const AGAIN: u64 = 100_000;
@@ -38,7 +38,7 @@ const LATER: u64 = SECOND + 100_000;
 struct Lane<N: Name> {
     pass: Pass<N>,
     alerts: Vec<Alert>,
-    /// The moment of its calls.
+    /// The time of its calls.
     now: u64,
     /// How many groups were made for its alerts.
     made: usize,
@@ -52,19 +52,19 @@ pub fn run_lanes<R: Print + Eprint + Clock + CpuClock + Threads + Wait + Sync>(
     alloc: Global,
     load: Load,
     threads: usize,
-) -> Result<(), Trouble> {
+) -> Result<(), BenchError> {
     let (config, blank) = both(plain(alloc), blank(alloc, threads))?;
     run_on::<Brand, R>(rt, alloc, load, config, blank)
 }
 
 /// The blank of a desk with so many passes.
-fn blank(alloc: Global, passes: usize) -> Result<Blank, Trouble> {
+fn blank(alloc: Global, passes: usize) -> Result<Blank, BenchError> {
     if passes > 16 {
-        return Err(Trouble::BadLine);
+        return Err(BenchError::BadLine);
     }
-    match Blank::new(alloc, HOME, passes as u32) {
+    match Blank::new(alloc, BOARD_ID, passes as u32) {
         Ok(blank) => Ok(blank),
-        Err(_) => Err(Trouble::BadLine),
+        Err(_) => Err(BenchError::BadLine),
     }
 }
 
@@ -74,22 +74,22 @@ fn run_on<N: Name + Send + Sync, R: Print + Eprint + Clock + CpuClock + Threads 
     load: Load,
     config: Config,
     blank: Blank,
-) -> Result<(), Trouble>
+) -> Result<(), BenchError>
     requires { (blank ≡ N.plan) × (terms config blank.id ≡ N.terms) }
 {
     let Ok((desk, passes)) = Desk::<N>::open(alloc, config, blank) else {
-        return Err(Trouble::BadLine);
+        return Err(BenchError::BadLine);
     };
     let ran = match lanes(alloc, passes) {
         Ok(mut lanes) => run_steps(rt, alloc, &desk, lanes.as_mut_slice(), &load),
-        Err(trouble) => Err(trouble),
+        Err(fault) => Err(fault),
     };
     drop(desk);
     ran
 }
 
 /// A lane for each pass.
-fn lanes<N: Name>(alloc: Global, passes: Vec<Pass<N>>) -> Result<Vec<Lane<N>>, Trouble> {
+fn lanes<N: Name>(alloc: Global, passes: Vec<Pass<N>>) -> Result<Vec<Lane<N>>, BenchError> {
     let mut lanes = Vec::new(alloc);
     for pass in passes {
         let lane = Lane {
@@ -111,7 +111,7 @@ fn run_steps<N: Name + Send + Sync, R: Print + Eprint + Clock + CpuClock + Threa
     desk: &Desk<N>,
     lanes: &mut [Lane<N>],
     load: &Load,
-) -> Result<(), Trouble> {
+) -> Result<(), BenchError> {
     fill(alloc, lanes, load, 1)?;
     run(rt, alloc, desk, lanes, "new inserts", 0, load.alerts)?;
     fill(alloc, lanes, load, STRIDE)?;
@@ -128,13 +128,13 @@ fn run_steps<N: Name + Send + Sync, R: Print + Eprint + Clock + CpuClock + Threa
     run(rt, alloc, desk, lanes, "quiet flush", LATER, load.alerts)
 }
 
-/// Hands the alerts out to the lanes: to each those of some places of the order of this stride.
+/// Hands the alerts out to the lanes: to each those of some indexes of the order of this stride.
 fn fill<N: Name>(
     alloc: Global,
     lanes: &mut [Lane<N>],
     load: &Load,
     stride: usize,
-) -> Result<(), Trouble> {
+) -> Result<(), BenchError> {
     let count = lanes.len();
     for (number, lane) in lanes.iter_mut().enumerate() {
         let from = load
@@ -153,7 +153,7 @@ fn fill<N: Name>(
     Ok(())
 }
 
-/// Has each lane do its part, and tells what all of them did.
+/// Has each lane do its part, and says what all of them did.
 fn run<N: Name + Send + Sync, R: Print + Eprint + Clock + CpuClock + Threads + Wait + Sync>(
     rt: &R,
     alloc: Global,
@@ -162,14 +162,14 @@ fn run<N: Name + Send + Sync, R: Print + Eprint + Clock + CpuClock + Threads + W
     step: &str,
     now: u64,
     alerts: usize,
-) -> Result<(), Trouble> {
+) -> Result<(), BenchError> {
     for lane in lanes.iter_mut() {
         lane.now = now;
     }
     let watch = Watch::start(rt);
     run_beside(rt, alloc, desk, lanes);
     watch.stop(rt, step, alerts);
-    tell_lanes(rt, lanes, step)
+    print_lanes(rt, lanes, step)
 }
 
 /// Each lane in a thread of its own.
@@ -190,21 +190,25 @@ fn run_beside<N: Name + Send + Sync, R: Threads + Wait + Sync>(
     }
 }
 
-/// Tells what the lanes did since this was told last.
-fn tell_lanes<N: Name>(rt: &impl Print, lanes: &mut [Lane<N>], step: &str) -> Result<(), Trouble> {
+/// Prints what the lanes did since this was reported last.
+fn print_lanes<N: Name>(
+    rt: &impl Print,
+    lanes: &mut [Lane<N>],
+    step: &str,
+) -> Result<(), BenchError> {
     let mut made: usize = 0;
     let mut tally = Tally::new();
     for lane in lanes {
         if let Some(fault) = lane.fault {
-            return Err(Trouble::Refused(fault));
+            return Err(BenchError::Refused(fault));
         }
         made = made.saturating_add(replace(&mut lane.made, 0));
         tally.add(&replace(&mut lane.tally, Tally::new()));
     }
-    tell_sum(rt, step, made, &tally)
+    print_sum(rt, step, made, &tally)
 }
 
-fn tell_sum(rt: &impl Print, step: &str, made: usize, tally: &Tally) -> Result<(), Trouble> {
+fn print_sum(rt: &impl Print, step: &str, made: usize, tally: &Tally) -> Result<(), BenchError> {
     println!(rt; "{step}: groups made {made}, {tally}")?;
     Ok(())
 }
@@ -262,8 +266,8 @@ impl<N: Name> Lane<N> {
     /// Sends each notice, and finishes the flush.
     fn send<R: Wait>(&mut self, rt: &R, desk: &Desk<N>, own: OwnTicket<N>) {
         let mut own = own;
-        for place in 0..own.ticket().notices().len() {
-            if let Some(notice) = own.ticket().notices().get(place) {
+        for index in 0..own.ticket().notices().len() {
+            if let Some(notice) = own.ticket().notices().get(index) {
                 if let Some(report) = send_notice(&mut self.tally, notice, self.now) {
                     let _ = own.record(report);
                 }
@@ -278,7 +282,7 @@ impl<N: Name> Lane<N> {
 
 /// Delivers a notice that has something to send.
 fn send_notice(tally: &mut Tally, notice: &Notice, now: u64) -> Option<Report> {
-    if notice.nothing() || now > MAX_MOMENT {
+    if notice.nothing() || now > MAX_TIME {
         return None;
     }
     tally.add_notice(notice.firing.len().saturating_add(notice.resolved.len()));

@@ -8,7 +8,7 @@
 //!   forgotten, while all others stay; inserts of the same alerts with an end, in that other order; a
 //!   flush by which all of them leave; a maintenance that drops all groups and rows, and a forgetting of
 //!   all alerts.
-//! - `longest ALERTS GROUPS`: the same, with each insert, begin and finish timed, and the longest told.
+//! - `longest ALERTS GROUPS`: the same, with each insert, begin and finish timed, and the longest reported.
 //! - `wide ALERTS GROUPS`: the same with eight labels, of which four have values of some 100 bytes.
 //! - `routes ALERTS GROUPS`: the same where each alert goes to 16 routes, so many groups of each.
 //! - `patterns ALERTS GROUPS RULES`: the same with so many inhibition rules. Both sides of each have a
@@ -53,12 +53,12 @@ use std::rt::Clock;
 use std::sync::Wait;
 use std::thread::Threads;
 use std::time::CpuClock;
-use words::Trouble;
+use words::BenchError;
 
 /// The line that asks for the calls whose requests for memory are counted.
 const REQUESTS: &str = "requests";
 
-fn main(rt: HostRuntime) -> Result<(), Trouble> {
+fn main(rt: HostRuntime) -> Result<(), BenchError> {
     let probe = Probe::new(rt.stdout());
     run_all(&rt, &probe, rt.alloc())
 }
@@ -68,12 +68,12 @@ fn run_all<R: Input + Print + Eprint + Clock + CpuClock + Threads + Wait + Sync>
     rt: &R,
     probe: &Probe,
     alloc: Global,
-) -> Result<(), Trouble> {
+) -> Result<(), BenchError> {
     for line in rt.lines(alloc) {
         match line {
             Ok(line) if line.as_str() == REQUESTS => requests::make_calls(probe, rt, alloc)?,
             Ok(line) => run_line(rt, alloc, line.as_str())?,
-            Err(_) => return Err(Trouble::Unreadable),
+            Err(_) => return Err(BenchError::Unreadable),
         }
     }
     Ok(())

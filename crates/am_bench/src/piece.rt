@@ -9,7 +9,7 @@ use crate::silences::run_silences;
 use crate::storm::run_storm;
 use crate::tally::Tally;
 use crate::watch::Watch;
-use crate::words::{Trouble, Words};
+use crate::words::{BenchError, Words};
 use am_alerts::alert::Alert;
 use std::alloc::Global;
 use std::rt::Clock;
@@ -32,7 +32,7 @@ pub fn run_line<R: Print + Eprint + Clock + CpuClock + Threads + Wait + Sync>(
     rt: &R,
     alloc: Global,
     line: &str,
-) -> Result<(), Trouble> {
+) -> Result<(), BenchError> {
     let mut words = Words::of(line);
     let name = words.word();
     let first = words.size()?;
@@ -42,7 +42,7 @@ pub fn run_line<R: Print + Eprint + Clock + CpuClock + Threads + Wait + Sync>(
         groups: second,
         begin: "",
     };
-    tell_line(rt, line)?;
+    print_line(rt, line)?;
     match name {
         "storm" => run_storm(rt, alloc, load, words.size()?),
         "desk" => run_lanes(rt, alloc, load, words.size()?),
@@ -59,7 +59,7 @@ fn run_kind(
     name: &str,
     load: Load,
     words: &mut Words<'_>,
-) -> Result<(), Trouble> {
+) -> Result<(), BenchError> {
     match name {
         "flushes" => run_flushes(rt, alloc, plain(alloc)?, false, load),
         "longest" => run_flushes(rt, alloc, plain(alloc)?, true, load),
@@ -75,18 +75,18 @@ fn run_kind(
         ),
         "routes" => run_flushes(rt, alloc, fanned(alloc)?, false, load),
         "patterns" => run_flushes(rt, alloc, patterned(alloc, words.size()?)?, false, load),
-        _ => Err(Trouble::BadLine),
+        _ => Err(BenchError::BadLine),
     }
 }
 
 /// Writes a line to the standard output and error.
-fn tell_line(rt: &(impl Print + Eprint), line: &str) -> Result<(), Trouble> {
+fn print_line(rt: &(impl Print + Eprint), line: &str) -> Result<(), BenchError> {
     println!(rt; "{line}")?;
     eprintln!(rt; "{line}")?;
     Ok(())
 }
 
-/// Inserts alerts from a moment on.
+/// Inserts alerts from a time on.
 pub fn insert(
     rt: &(impl Print + Eprint + Clock + CpuClock),
     alloc: Global,
@@ -94,21 +94,21 @@ pub fn insert(
     step: &str,
     now: u64,
     alerts: Vec<Alert>,
-) -> Result<(), Trouble> {
+) -> Result<(), BenchError> {
     let count = alerts.len();
     let watch = Watch::start(rt);
     let made = desk.insert_all(rt, alloc, now, alerts)?;
     watch.stop(rt, step, count);
-    desk.calls.tell(rt, "insert");
-    tell_made(rt, step, count, made)
+    desk.calls.print(rt, "insert");
+    print_made(rt, step, count, made)
 }
 
-fn tell_made(rt: &impl Print, step: &str, count: usize, made: usize) -> Result<(), Trouble> {
+fn print_made(rt: &impl Print, step: &str, count: usize, made: usize) -> Result<(), BenchError> {
     println!(rt; "{step}: accepted {count}, groups made {made}")?;
     Ok(())
 }
 
-/// Flushes all groups that are due from a moment on, which have so many alerts.
+/// Flushes all groups that are due from a time on, which have so many alerts.
 pub fn flush(
     rt: &(impl Print + Eprint + Clock + CpuClock),
     alloc: Global,
@@ -116,24 +116,24 @@ pub fn flush(
     step: &str,
     now: u64,
     alerts: usize,
-) -> Result<Tally, Trouble> {
+) -> Result<Tally, BenchError> {
     let watch = Watch::start(rt);
     let tally = desk.flush_all(rt, alloc, now)?;
     watch.stop(rt, step, alerts);
-    desk.calls.tell(rt, "begin");
-    desk.finishes.tell(rt, "finish");
-    tell_tally(rt, step, &tally)?;
+    desk.calls.print(rt, "begin");
+    desk.finishes.print(rt, "finish");
+    print_tally(rt, step, &tally)?;
     Ok(tally)
 }
 
-fn tell_tally(rt: &impl Print, step: &str, tally: &Tally) -> Result<(), Trouble> {
+fn print_tally(rt: &impl Print, step: &str, tally: &Tally) -> Result<(), BenchError> {
     println!(rt; "{step}: {tally}")?;
     Ok(())
 }
 
-/// Tells how many of these alerts are muted: at their first flush nobody was told of them.
-pub fn tell_muted(rt: &impl Print, alerts: usize, tally: &Tally) -> Result<(), Trouble> {
-    let muted = alerts.saturating_sub(tally.told);
+/// Prints how many of these alerts are muted: at their first flush nobody was notified of them.
+pub fn print_muted(rt: &impl Print, alerts: usize, tally: &Tally) -> Result<(), BenchError> {
+    let muted = alerts.saturating_sub(tally.notified);
     println!(rt; "muted: {muted}")?;
     Ok(())
 }

@@ -2,8 +2,8 @@
 //! logs, boards, desks and tickets, and those that are handed an allocator. A call that only
 //! hands out a number or a reference has nothing to ask with, and is left out. The name is written before the
 //! call, and the answer after it, so that requests for memory which come between the two writes are the
-//! call's. A few calls that take memory stand among them, as `with memory`: they show that requests are seen.
-//! Calls that a limit refuses stand there as `without memory`: `.ci/frugal` refuses each request that they make.
+//! call's. A few calls that take memory are among them, as `with memory`: they show that requests are seen.
+//! Calls that a limit refuses are there as `without memory`: `.ci/frugal` refuses each request that they make.
 
 mod alerts;
 mod board;
@@ -17,12 +17,12 @@ mod ticket;
 pub mod values;
 
 use crate::requests::probe::Probe;
-use crate::words::Trouble;
+use crate::words::BenchError;
 use std::alloc::Global;
 use std::sync::Wait;
 
 /// Makes the calls, lowest crates first.
-pub fn make_calls<R: Wait>(probe: &Probe, rt: &R, alloc: Global) -> Result<(), Trouble> {
+pub fn make_calls<R: Wait>(probe: &Probe, rt: &R, alloc: Global) -> Result<(), BenchError> {
     alerts::make_calls(probe, alloc)?;
     routes::make_calls(probe, alloc)?;
     silences::make_calls(probe, alloc)?;

@@ -2,9 +2,9 @@
 use crate::alerts::{Load, STRIDE, listed, silence};
 use crate::config::plain;
 use crate::desk::Desk;
-use crate::piece::{FIRST, SECOND, THIRD, flush, insert, tell_muted};
+use crate::piece::{FIRST, SECOND, THIRD, flush, insert, print_muted};
 use crate::watch::Watch;
-use crate::words::Trouble;
+use crate::words::BenchError;
 use am_mute::silence::Silence;
 use std::alloc::Global;
 use std::rt::Clock;
@@ -19,7 +19,7 @@ pub fn run_silences(
     alloc: Global,
     load: Load,
     silences: usize,
-) -> Result<(), Trouble> {
+) -> Result<(), BenchError> {
     let mut desk = Desk::open(alloc, plain(alloc)?, false)?;
     let ran = run_steps(rt, alloc, &mut desk, &load, silences);
     drop(desk);
@@ -32,7 +32,7 @@ fn run_steps(
     desk: &mut Desk,
     load: &Load,
     silences: usize,
-) -> Result<(), Trouble> {
+) -> Result<(), BenchError> {
     let set = build_silences(alloc, silences)?;
     mute(rt, alloc, desk, "new silences", set)?;
     let new = load.build(alloc, 0..load.alerts, STRIDE, None)?;
@@ -46,9 +46,9 @@ fn flush_thrice(
     alloc: Global,
     desk: &mut Desk,
     alerts: usize,
-) -> Result<(), Trouble> {
+) -> Result<(), BenchError> {
     let tally = flush(rt, alloc, desk, "first flush", FIRST, alerts)?;
-    tell_muted(rt, alerts, &tally)?;
+    print_muted(rt, alerts, &tally)?;
     flush(rt, alloc, desk, "unchanged flush", SECOND, alerts)?;
     mute(rt, alloc, desk, "a changed silence", build_changed(alloc)?)?;
     flush(rt, alloc, desk, "changed flush", THIRD, alerts)?;
@@ -62,26 +62,26 @@ fn mute(
     desk: &mut Desk,
     step: &str,
     silences: Vec<Silence>,
-) -> Result<(), Trouble> {
+) -> Result<(), BenchError> {
     let count = silences.len();
     let watch = Watch::start(rt);
     let replaced = desk.silence_all(alloc, 0, silences)?;
     watch.stop(rt, step, count);
-    tell_replaced(rt, step, count, replaced)
+    print_replaced(rt, step, count, replaced)
 }
 
-fn tell_replaced(
+fn print_replaced(
     rt: &impl Print,
     step: &str,
     count: usize,
     replaced: usize,
-) -> Result<(), Trouble> {
+) -> Result<(), BenchError> {
     println!(rt; "{step}: accepted {count}, replaced {replaced}")?;
     Ok(())
 }
 
 /// Silences that last longer than the piece, each of one alert.
-fn build_silences(alloc: Global, count: usize) -> Result<Vec<Silence>, Trouble> {
+fn build_silences(alloc: Global, count: usize) -> Result<Vec<Silence>, BenchError> {
     let mut silences = Vec::new(alloc);
     for id in 0..count {
         silences.push(silence(alloc, id as u64, id.saturating_mul(STEP), 2 * THIRD)?)?;
@@ -90,7 +90,7 @@ fn build_silences(alloc: Global, count: usize) -> Result<Vec<Silence>, Trouble> 
 }
 
 /// The first silence, as one that has ended.
-fn build_changed(alloc: Global) -> Result<Vec<Silence>, Trouble> {
+fn build_changed(alloc: Global) -> Result<Vec<Silence>, BenchError> {
     let changed = silence(alloc, 0, 0, SECOND)?;
     Ok(listed(alloc, changed)?)
 }

@@ -4,7 +4,7 @@ use crate::config::plain;
 use crate::desk::Desk;
 use crate::piece::insert;
 use crate::watch::Watch;
-use crate::words::Trouble;
+use crate::words::BenchError;
 use std::alloc::Global;
 use std::ops::RangeInclusive;
 use std::rt::Clock;
@@ -19,7 +19,7 @@ pub fn run_storm(
     alloc: Global,
     load: Load,
     rounds: usize,
-) -> Result<(), Trouble> {
+) -> Result<(), BenchError> {
     let mut desk = Desk::open(alloc, plain(alloc)?, false)?;
     let ran = run_steps(rt, alloc, &mut desk, &load, rounds);
     drop(desk);
@@ -32,7 +32,7 @@ fn run_steps(
     desk: &mut Desk,
     load: &Load,
     rounds: usize,
-) -> Result<(), Trouble> {
+) -> Result<(), BenchError> {
     let new = load.build(alloc, 0..load.alerts, 1, None)?;
     insert(rt, alloc, desk, "new inserts", 0, new)?;
     insert_again(rt, alloc, desk, load, 1..=rounds)?;
@@ -54,7 +54,7 @@ fn insert_again(
     desk: &mut Desk,
     load: &Load,
     rounds: RangeInclusive<usize>,
-) -> Result<(), Trouble> {
+) -> Result<(), BenchError> {
     for round in rounds {
         let same = load.build(alloc, 0..load.alerts, STRIDE, None)?;
         let now = ROUND.saturating_mul(round as u64);
@@ -68,16 +68,16 @@ pub fn take_history(
     rt: &(impl Print + Eprint + Clock + CpuClock),
     alloc: Global,
     desk: &mut Desk,
-) -> Result<(), Trouble> {
+) -> Result<(), BenchError> {
     let watch = Watch::start(rt);
     let taken = desk.take_history(alloc)?;
     watch.stop(rt, "take_history", 1);
     let records = taken.len();
     drop(taken);
-    tell_records(rt, records)
+    print_records(rt, records)
 }
 
-fn tell_records(rt: &impl Print, records: usize) -> Result<(), Trouble> {
+fn print_records(rt: &impl Print, records: usize) -> Result<(), BenchError> {
     println!(rt; "take_history: records {records}")?;
     Ok(())
 }

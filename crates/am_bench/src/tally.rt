@@ -1,16 +1,16 @@
 //! What a flush of all groups came to.
 use std::fmt::{Display, Error, Formatter, Write};
 
-/// What begins and finishes at one moment came to.
+/// What begins and finishes at one time came to.
 #[derive(Clone, Copy)]
 pub struct Tally {
     /// Groups with a flush.
     pub flushed: usize,
-    /// Groups of which nobody was told.
+    /// Groups of which nobody was notified.
     pub quiet: usize,
     pub notices: usize,
     /// Alerts in notices.
-    pub told: usize,
+    pub notified: usize,
     /// Alerts that left their groups.
     pub left: usize,
 }
@@ -21,7 +21,7 @@ impl Tally {
             flushed: 0,
             quiet: 0,
             notices: 0,
-            told: 0,
+            notified: 0,
             left: 0,
         }
     }
@@ -33,7 +33,7 @@ impl Tally {
 
     pub fn add_notice(&mut self, alerts: usize) {
         self.notices = self.notices.saturating_add(1);
-        self.told = self.told.saturating_add(alerts);
+        self.notified = self.notified.saturating_add(alerts);
     }
 
     pub fn add_flush(&mut self, removed: usize) {
@@ -46,7 +46,7 @@ impl Tally {
         self.flushed = self.flushed.saturating_add(other.flushed);
         self.quiet = self.quiet.saturating_add(other.quiet);
         self.notices = self.notices.saturating_add(other.notices);
-        self.told = self.told.saturating_add(other.told);
+        self.notified = self.notified.saturating_add(other.notified);
         self.left = self.left.saturating_add(other.left);
     }
 }
@@ -54,8 +54,8 @@ impl Tally {
 impl Display for Tally {
     fn fmt<W: Write>(&self, f: &mut Formatter<W>) -> Result<(), Error> {
         let (flushed, quiet, notices) = (self.flushed, self.quiet, self.notices);
-        let (told, left) = (self.told, self.left);
+        let (notified, left) = (self.notified, self.left);
         write!(f, "flushed {flushed}, quiet {quiet}, ")?;
-        write!(f, "notices {notices}, alerts told {told}, left {left}")
+        write!(f, "notices {notices}, alerts told {notified}, left {left}")
     }
 }

@@ -4,7 +4,7 @@ use std::time::{CpuClock, Duration, Instant};
 
 /// What the clocks show.
 #[derive(Clone, Copy)]
-struct Moment {
+struct Time {
     wall: Instant,
     /// The processor time of this thread.
     processor: Duration,
@@ -14,7 +14,7 @@ struct Moment {
 #[derive(Clone, Copy)]
 pub struct Watch {
     /// Nothing where a clock can't be read.
-    started: Option<Moment>,
+    started: Option<Time>,
 }
 
 impl Watch {
@@ -25,28 +25,28 @@ impl Watch {
         }
     }
 
-    /// Ends the step, and tells how long it took for each of so many: by the wall's clock, and of a
+    /// Ends the step, and says how long it took for each of so many: by the wall's clock, and of a
     /// processor; and the processor's time of all. Where a clock or the standard error fails nothing is
-    /// told.
+    /// reported.
     pub fn stop(&self, rt: &(impl Eprint + Clock + CpuClock), step: &str, count: usize) {
         let ended = look(rt);
         if let (Some(started), Some(ended)) = (self.started, ended) {
             let wall = each(ended.wall.duration_since(started.wall), count);
             let processor = ended.processor.saturating_sub(started.processor);
-            tell(rt, step, count, wall, processor);
+            print(rt, step, count, wall, processor);
         }
     }
 }
 
-fn tell(rt: &impl Eprint, step: &str, count: usize, wall: u128, processor: Duration) {
+fn print(rt: &impl Eprint, step: &str, count: usize, wall: u128, processor: Duration) {
     let (each, all) = (each(processor, count), processor.as_micros());
     let _ = eprintln!(rt;
         "{step}: {count}, each {wall} ns, of a processor {each} ns, all {all} us"
     );
 }
 
-fn look(clock: &(impl Clock + CpuClock)) -> Option<Moment> {
-    Some(Moment {
+fn look(clock: &(impl Clock + CpuClock)) -> Option<Time> {
+    Some(Time {
         wall: Instant::now(clock).ok()?,
         processor: clock.thread_cpu_time().ok()?,
     })
@@ -90,8 +90,8 @@ impl Longest {
         }
     }
 
-    /// Tells the longest call, if calls are timed, and begins anew.
-    pub fn tell(&mut self, rt: &impl Eprint, call: &str) {
+    /// Prints the longest call, if calls are timed, and begins anew.
+    pub fn print(&mut self, rt: &impl Eprint, call: &str) {
         if self.is_on {
             let longest = self.time.as_nanos();
             let _ = eprintln!(rt; "longest {call}: {longest} ns");

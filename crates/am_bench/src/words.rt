@@ -5,7 +5,7 @@ use std::io;
 
 /// Why a bench ends before its time.
 #[derive(Clone, Copy, Debug)]
-pub enum Trouble {
+pub enum BenchError {
     /// A request for memory was refused.
     NoMemory,
     /// The input can't be read.
@@ -18,42 +18,42 @@ pub enum Trouble {
     Unwritten,
 }
 
-impl From<AllocError> for Trouble {
-    fn from(_error: AllocError) -> Trouble {
-        Trouble::NoMemory
+impl From<AllocError> for BenchError {
+    fn from(_error: AllocError) -> BenchError {
+        BenchError::NoMemory
     }
 }
 
-impl<T: Drop> From<AllocFailed<T>> for Trouble {
-    fn from(_refused: AllocFailed<T>) -> Trouble {
-        Trouble::NoMemory
+impl<T: Drop> From<AllocFailed<T>> for BenchError {
+    fn from(_refused: AllocFailed<T>) -> BenchError {
+        BenchError::NoMemory
     }
 }
 
-impl From<Fault> for Trouble {
-    fn from(fault: Fault) -> Trouble {
-        Trouble::Refused(fault)
+impl From<Fault> for BenchError {
+    fn from(fault: Fault) -> BenchError {
+        BenchError::Refused(fault)
     }
 }
 
-impl From<BoardFault> for Trouble {
-    fn from(fault: BoardFault) -> Trouble {
+impl From<BoardFault> for BenchError {
+    fn from(fault: BoardFault) -> BenchError {
         match fault {
-            BoardFault::NoMemory => Trouble::NoMemory,
-            BoardFault::BadConfig(_) => Trouble::BadLine,
+            BoardFault::NoMemory => BenchError::NoMemory,
+            BoardFault::BadConfig(_) => BenchError::BadLine,
         }
     }
 }
 
-impl From<TakeFault> for Trouble {
-    fn from(_fault: TakeFault) -> Trouble {
-        Trouble::NoMemory
+impl From<TakeFault> for BenchError {
+    fn from(_fault: TakeFault) -> BenchError {
+        BenchError::NoMemory
     }
 }
 
-impl From<io::Error> for Trouble {
-    fn from(_error: io::Error) -> Trouble {
-        Trouble::Unwritten
+impl From<io::Error> for BenchError {
+    fn from(_error: io::Error) -> BenchError {
+        BenchError::Unwritten
     }
 }
 
@@ -78,7 +78,7 @@ impl<'a> Words<'a> {
         Words { rest: line }
     }
 
-    /// The next word. Words stand one space apart.
+    /// The next word. Words are one space apart.
     pub fn word(&mut self) -> &'a str {
         let (word, rest) = self.rest.split_once(' ').unwrap_or((self.rest, ""));
         self.rest = rest;
@@ -86,7 +86,9 @@ impl<'a> Words<'a> {
     }
 
     /// The next word, as a size.
-    pub fn size(&mut self) -> Result<usize, Trouble> {
-        self.word().parse::<usize>().map_err(|_| Trouble::BadLine)
+    pub fn size(&mut self) -> Result<usize, BenchError> {
+        self.word()
+            .parse::<usize>()
+            .map_err(|_| BenchError::BadLine)
     }
 }

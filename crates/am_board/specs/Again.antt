@@ -6,7 +6,7 @@ use Rattle.am_alerts.specs.AlertData.{AlertData}
 use Rattle.am_alerts.specs.declared.labels.Label.{Label}
 use Rattle.am_model.specs.Causes.{makes_too_many}
 use Rattle.am_model.specs.Insert.{put_into_group, inserted, after_insert}
-use Rattle.am_model.specs.State.{MemberState, has_group, moment}
+use Rattle.am_model.specs.State.{MemberState, has_group, time}
 use Rattle.am_model.specs.declared.config.Config.{Config}
 use Rattle.am_model.specs.declared.group.GroupName.{GroupName}
 use Rattle.am_model.specs.declared.record.Inserted.{Inserted}
@@ -16,17 +16,17 @@ use Rattle.am_board.specs.declared.state.State.{State}
 use Rattle.am_board.specs.Group.{names_of, label_sets}
 use Rattle.am_board.specs.GroupList.{GroupList}
 use Rattle.am_board.specs.Marks.{marks_of}
-use Rattle.am_board.specs.Inserting.{place_in, IsReservedState}
-use Rattle.am_board.specs.Members.{place_of}
+use Rattle.am_board.specs.Inserting.{index_in, IsReservedState}
+use Rattle.am_board.specs.Members.{index_of}
 use Rattle.am_board.specs.Refinement.{group_state, state_of}
 
--- the group at a place has the alert of these labels at a place
+-- the group at an index has the alert of these labels at an index
 abbrev pub HasAt : List Label → Spot → List Group → Type 0
-HasAt labels spot groups = (d : Group) → place_of labels (slice_index_or groups spot.group d).members.items ≡ Some spot.member
+HasAt labels spot groups = (d : Group) → index_of labels (slice_index_or groups spot.group d).members.items ≡ Some spot.member
 
 -- the group of a name was found, and the alert of these labels in it
 pub record IsSpot (groups : List Group) (name : GroupName) (labels : List Label) (spot : Spot) : Type 0 where
-  pub group : place_in name groups ≡ Some spot.group
+  pub group : index_in name groups ≡ Some spot.group
   pub within : spot.group < length groups
   pub member : HasAt labels spot groups
 
@@ -47,8 +47,8 @@ PutsInEach config t m names (Err e) old new = new ≡ old
 -- an alert was put in place of the known one and of the one in each of its groups; there is room for the record
 pub record IsPutAgain (config : Config) (now : ℕ) (alert : AlertData) (answer : Inserted) (old new : State) : Type 0 where
   pub few : makes_too_many config (state_of old) alert ≡ false
-  pub told : inserted config (state_of old) alert ≡ answer
-  pub state : state_of new ≡ after_insert config (state_of old) (moment (state_of old) now) alert
+  pub returned : inserted config (state_of old) alert ≡ answer
+  pub state : state_of new ≡ after_insert config (state_of old) (time (state_of old) now) alert
   pub names : names_of new.groups.items ≡ names_of old.groups.items
   pub marks : marks_of new.groups.items ≡ marks_of old.groups.items
   pub log : new.log ≡ old.log
@@ -59,6 +59,6 @@ pub record IsPutAgain (config : Config) (now : ℕ) (alert : AlertData) (answer 
 
 -- an alert was put so, or the state holds what it held
 abbrev pub PutsAgain : Config → ℕ → AlertData → Result (Option Inserted) AllocError → State → State → Type 0
-PutsAgain config now alert (Ok (Some told)) old new = IsPutAgain config now alert told old new
+PutsAgain config now alert (Ok (Some returned)) old new = IsPutAgain config now alert returned old new
 PutsAgain config now alert (Ok None) old new = IsReservedState old new
 PutsAgain config now alert (Err e) old new = IsReservedState old new

@@ -14,7 +14,7 @@ use Rattle.am_board.specs.declared.due.DueKey.{DueKey}
 use Rattle.am_board.specs.declared.dedup.Update.{Update}
 use Rattle.am_model.specs.declared.config.Config.{Config}
 use Rattle.am_model.specs.declared.config.Integration.{Integration}
-use Rattle.am_board.specs.declared.flush.Asked.{Asked}
+use Rattle.am_board.specs.declared.flush.Notified.{Notified}
 use Rattle.am_board.specs.declared.flush.LeavingAlert.{LeavingAlert}
 use Rattle.am_board.specs.declared.flush.OpenFlush.{OpenFlush}
 use Rattle.am_board.specs.declared.flush.AlertSets.{AlertSets}
@@ -23,12 +23,12 @@ use Rattle.am_board.specs.declared.unmuted.UnmutedMembers.{UnmutedMembers}
 use Rattle.am_board.specs.declared.group.Group.{Group}
 use Rattle.am_model.specs.declared.group.GroupName.{GroupName}
 use Rattle.am_board.specs.declared.group.Member.{Member}
-use Rattle.am_model.specs.Begin.{copied, firing_of, resolved_of, label_sets, asked_of, deadline_of, flush_asking, notice_for}
+use Rattle.am_model.specs.Begin.{copied, firing_of, resolved_of, label_sets, notified_of, deadline_of, flush_notifying, notice_for}
 use Rattle.am_model.specs.Begin.{due_cmp, taken}
 use Rattle.am_model.specs.Notice.{NoticeData}
 use Rattle.am_board.specs.Refinement.{member_state, flush_state, state_of, group_state}
 use Rattle.am_model.specs.Lists.{without, least}
-use Rattle.am_model.specs.State.{GroupState, State, FlushState, moment, is_flushing}
+use Rattle.am_model.specs.State.{GroupState, State, FlushState, time, is_flushing}
 use Rattle.am_model.specs.declared.fault.Fault.{Fault}
 use Rattle.am_model.specs.declared.fault.Fault.TheVariants.{NoMemory, TooManyOpen}
 use Rattle.am_board.specs.declared.plan.PlannedFlush.{PlannedFlush}
@@ -82,7 +82,7 @@ pub record AreRising (unmuted : Unmuted) : Type 0 where
   pub firing : IsTrue (is_ascending label_set_cmp (label_sets unmuted.firing))
   pub resolved : IsTrue (is_ascending label_set_cmp (label_sets unmuted.resolved))
 
--- an integration that is asked, without what it is
+-- an integration that is notified, without what it is
 abbrev pub update_of : ℕ × Integration → Update
 update_of i = record { integration = i.0; send_resolved = i.1.send_resolved }
 
@@ -90,11 +90,11 @@ update_of i = record { integration = i.0; send_resolved = i.1.send_resolved }
 abbrev pub sent_where : Bool → Unmuted → List AlertData
 sent_where send_resolved unmuted = if send_resolved then unmuted.resolved else []
 
--- the notice for an integration that is asked
+-- the notice for an integration that is notified
 abbrev pub notice_of_update : ℕ → ℕ → ℕ → GroupName → Unmuted → Update → NoticeData
-notice_of_update desk ticket deadline group unmuted update =
+notice_of_update board_id ticket deadline group unmuted update =
     record {
-      desk = desk;
+      board_id = board_id;
       ticket = ticket;
       deadline = deadline;
       group = group;
@@ -103,9 +103,9 @@ notice_of_update desk ticket deadline group unmuted update =
       resolved = sent_where update.send_resolved unmuted;
     }
 
--- an integration that is asked, with what its log row is to hold
-abbrev pub asked_for_update : GroupName → Unmuted → Update → Asked
-asked_for_update group unmuted update =
+-- an integration that is notified, with what its log row is to hold
+abbrev pub notified_for_update : GroupName → Unmuted → Update → Notified
+notified_for_update group unmuted update =
     record {
       key = record { group = group; integration = update.integration };
       nothing = is_empty unmuted.firing && is_empty (sent_where update.send_resolved unmuted);
@@ -116,44 +116,44 @@ asked_for_update group unmuted update =
 abbrev pub leaving_member : Member → LeavingAlert
 leaving_member m = record { labels = m.alert.labels; stamp = m.stamp }
 
--- a flush of a group at t, of this number, with what is unmuted, that asks these integrations
-pub record IsFlushAsking (n kept : ℕ) (g : Group) (unmuted : Unmuted) (updates : List Update) (t : ℕ) (f : OpenFlush) : Type 0 where
+-- a flush of a group at t, of this number, with what is unmuted, that notifies these integrations
+pub record IsFlushNotifying (n kept : ℕ) (g : Group) (unmuted : Unmuted) (updates : List Update) (t : ℕ) (f : OpenFlush) : Type 0 where
   pub number : f.number ≡ n
   pub kept_for : f.kept_for ≡ kept
   pub group : f.group ≡ g.name
-  pub asked : f.asked.items ≡ map (asked_for_update g.name unmuted) updates
+  pub notified : f.notified.items ≡ map (notified_for_update g.name unmuted) updates
   pub sets : f.sets ≡ alert_sets_of unmuted
   pub leaving : f.leaving.items ≡ map leaving_member (filter (λ m. is_resolved m.alert t) g.members.items)
 
 -- ---- the flush that is opened, before it is put into the state
 
 -- what an integration's log row is to hold is there, and its key is of the flush's group
-pub record IsSpare (f : OpenFlush) (a : Asked) : Type 0 where
+pub record IsSpare (f : OpenFlush) (a : Notified) : Type 0 where
   pub group : a.key.group ≡ f.group
   pub sets : IfSome a.sets (λ sets. sets ≡ f.sets)
 
 -- what the begin at t of the flush of a group puts into the board and the ticket, where the board has this id
 pub record IsPlannedFlush (config : Config) (id : ℕ) (s : State) (t : ℕ) (g : GroupState) (o : PlannedFlush) : Type 0 where
-  pub flush : flush_state o.flush ≡ flush_asking config s t g (asked_of config s t g)
+  pub flush : flush_state o.flush ≡ flush_notifying config s t g (notified_of config s t g)
   pub kept_for : o.flush.kept_for ≡ min config.retention (2 * (route_of config g.name).repeat_interval)
-  pub spare : All (IsSpare o.flush) o.flush.asked.items
+  pub spare : All (IsSpare o.flush) o.flush.notified.items
   pub number : o.number ≡ s.next_number
   pub deadline : o.deadline ≡ deadline_of config t g
   pub group : o.group ≡ g.name
   pub recorded_group : o.recorded_group ≡ g.name
-  pub notices : o.notices.items ≡ map (notice_for config id s t g) (asked_of config s t g)
+  pub notices : o.notices.items ≡ map (notice_for config id s t g) (notified_of config s t g)
   pub recorded : o.recorded ≡ record { number = o.number; deadline = o.deadline; notices = o.notices.items }
   pub outcomes : o.outcomes.items ≡ []
   pub none : vec_len o.outcomes ≡ 0
   pub room : vec_len o.notices ≤ vec_capacity o.outcomes
 
--- what a begin at t that takes a group works out: nobody is asked, or a flush is opened and one more may be open
+-- what a begin at t that takes a group works out: nobody is notified, or a flush is opened and one more may be open
 abbrev pub IsPlan : Config → ℕ → ℕ → State → ℕ → GroupState → Result (Option PlannedFlush) Fault → Type 0
-IsPlan config id opened s t g (Ok None) = asked_of config s t g ≡ []
+IsPlan config id opened s t g (Ok None) = notified_of config s t g ≡ []
 IsPlan config id opened s t g (Ok (Some o)) =
-    (asked_of config s t g ≢ []) × (opened < config.limits.flushes) × IsPlannedFlush config id s t g o
+    (notified_of config s t g ≢ []) × (opened < config.limits.flushes) × IsPlannedFlush config id s t g o
 IsPlan config id opened s t g (Err fault) =
-    (fault ≡ NoMemory) ⊎ ((fault ≡ TooManyOpen) × (asked_of config s t g ≢ []) × (config.limits.flushes ≤ opened))
+    (fault ≡ NoMemory) ⊎ ((fault ≡ TooManyOpen) × (notified_of config s t g ≢ []) × (config.limits.flushes ≤ opened))
 
 -- ---- the group that is taken, and how the begin may end
 
@@ -165,13 +165,13 @@ may_take flushes t g = nat_le g.due t && not (is_flushing flushes g.name)
 abbrev pub first_of : List FlushState → ℕ → List GroupState → Option GroupState
 first_of flushes t groups = least due_cmp (filter (may_take flushes t) groups)
 
--- the group at this place is the first, or there is none
+-- the group at this index is the first, or there is none
 abbrev pub IsFirst : List Group → Option ℕ → Option GroupState → Type 0
 IsFirst groups None first = first ≡ None
 IsFirst groups (Some i) first = (d : Group) → first ≡ Some (group_state (slice_index_or groups i d))
 
--- of the groups that may be taken and have their key among these, the one at this place is the first;
--- with no place, there is no such group
+-- of the groups that may be taken and have their key among these, the one at this index is the first;
+-- with no index, there is no such group
 abbrev pub IsFirstOfKeys : List FlushState → ℕ → List Group → List DueKey → Option ℕ → Type 0
 IsFirstOfKeys flushes t groups keys None =
     All (λ g. may_take flushes t (group_state g) ≡ true → has_key keys (key_of g) ≡ false) groups
@@ -181,11 +181,11 @@ IsFirstOfKeys flushes t groups keys (Some i) =
     × ((d : Group) → All (λ g. may_take flushes t (group_state g) ≡ true → IsTrue (has_key keys (key_of g))
     → IsKeyBehind (key_of (slice_index_or groups i d)) (key_of g)) groups)
 
--- a begin takes this group, at the moment of the call
+-- a begin takes this group, at the time of the call
 pub record IsChosen (config : Config) (s : kept.State) (chosen : ChosenGroup) (g : Group) : Type 0 where
-  pub moment : chosen.t ≡ moment (state_of s) chosen.now
-  pub place : chosen.place < length s.groups.items
-  pub group : (d : Group) → slice_index_or s.groups.items chosen.place d ≡ g
+  pub time : chosen.t ≡ time (state_of s) chosen.now
+  pub index : chosen.index < length s.groups.items
+  pub group : (d : Group) → slice_index_or s.groups.items chosen.index d ≡ g
   pub first : taken (state_of s) chosen.t ≡ Some (group_state g)
   pub due : chosen.due ≡ chosen.t + (route_of config g.name).group_interval
 
@@ -198,7 +198,7 @@ pub record IsTaking (config : Config) (s : kept.State) (p n : ℕ) (c : ChosenGr
 
 -- what a call of a pass at this time takes: a group, or none where none may be taken
 abbrev pub IsChoice : Config → kept.State → ℕ → ℕ → Option ChosenGroup → Type 0
-IsChoice config s pass now None = taken (state_of s) (moment (state_of s) now) ≡ None
+IsChoice config s pass now None = taken (state_of s) (time (state_of s) now) ≡ None
 IsChoice config s pass now (Some chosen) = IsTaking config s pass now chosen
 
 -- how a begin ends for which nothing but memory can be wanting

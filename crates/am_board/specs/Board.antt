@@ -29,7 +29,7 @@ pub record IsSound (b : Inside) : Type 0 where
   pub agrees : EqualUpToRowOrder (state_of b.state) (replay b.config (whole b))
   pub counted : b.handed ≡ length b.past.items
   pub few : b.handed ≤ MAX_HANDED
-  pub names : length (state_of b.state).known ≤ b.config.limits.names
+  pub names : length (state_of b.state).known ≤ b.config.limits.alerts
   pub groups : length (state_of b.state).groups ≤ b.config.limits.groups
   pub silences : length (state_of b.state).silences ≤ b.config.limits.silences
   pub opened : vec_len b.state.flushes ≤ b.config.limits.flushes

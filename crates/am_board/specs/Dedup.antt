@@ -18,12 +18,12 @@ use Rattle.am_model.specs.declared.views.RowView.{RowView}
 use Rattle.am_model.specs.Begin.{entry_of}
 use Rattle.am_model.specs.Configured.{route_of}
 use Rattle.am_model.specs.State.{State}
-use Rattle.am_model.specs.look_back.Reasons.{asks, reason_of_update, reason_where}
+use Rattle.am_model.specs.look_back.Reasons.{notifies, reason_of_update, reason_where}
 use Rattle.am_board.specs.Beginning.{update_of}
 use Rattle.am_board.specs.declared.dedup.Decided.{Decided}
 use Rattle.am_board.specs.declared.flush.AlertSets.{AlertSets}
 
--- where no update is needed yet, the moment from which on one is fits a number of 64 bits
+-- where no update is needed yet, the time from which on one is fits a number of 64 bits
 abbrev pub EndsInTime : ℕ → UpdateReason → Type 0
 EndsInTime repeat FirstNotice = ⊤
 EndsInTime repeat NewAlert = ⊤
@@ -33,22 +33,22 @@ EndsInTime repeat Repeat = ⊤
 EndsInTime repeat NothingFiring = ⊤
 EndsInTime repeat (NotYet since) = since + repeat + 1 < 2 ^ 64
 
--- the reason by the row that is kept, if there is one, but where nothing fires and nothing is resolved nothing is left to tell
-abbrev pub reason_told_by : Option (LogRow (List Label)) → AlertSets → Bool → ℕ → ℕ → Reason
-reason_told_by logged sets send_resolved repeat t =
+-- the reason by the row that is kept, if there is one, but where nothing fires and nothing is resolved nothing is left to say
+abbrev pub reason_by_row : Option (LogRow (List Label)) → AlertSets → Bool → ℕ → ℕ → Reason
+reason_by_row logged sets send_resolved repeat t =
     if is_empty sets.firing && is_empty sets.resolved then NothingLeft
     else reason_of_update repeat (update_reason same_label_set logged sets.firing sets.resolved send_resolved repeat t)
 
 -- the reason of an integration of a group about these label sets, where these are the rows of the log
 abbrev pub reason_among : List RowView → GroupName → AlertSets → ℕ → ℕ → ℕ × Integration → Reason
-reason_among rows name sets repeat t i = reason_told_by (entry_of rows name i.0) sets i.1.send_resolved repeat t
+reason_among rows name sets repeat t i = reason_by_row (entry_of rows name i.0) sets i.1.send_resolved repeat t
 
 -- the same, unless the group's route is muted until a time
 abbrev pub reason_for : Config → State → GroupName → Option ℕ → AlertSets → ℕ → ℕ × Integration → Reason
 reason_for config s name until sets t i =
     reason_where until (reason_among s.rows name sets (route_of config name).repeat_interval t i)
 
--- each of these integrations has its reason, and those are asked whose reason says so
+-- each of these integrations has its reason, and those are notified whose reason says so
 pub record AreDecided (reason : ℕ × Integration → Reason) (integrations : List (ℕ × Integration)) (d : Decided) : Type 0 where
   pub reasons : d.reasons.items ≡ map reason integrations
-  pub asked : d.asked.items ≡ map update_of (filter (λ i. asks (reason i)) integrations)
+  pub notified : d.notified.items ≡ map update_of (filter (λ i. notifies (reason i)) integrations)

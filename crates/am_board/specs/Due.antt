@@ -28,13 +28,13 @@ key_of g = key_at g.name g.due
 abbrev pub AreDue : DueSet → List Group → Type 0
 AreDue set groups = All (λ g. HasKey set (key_of g)) groups
 
--- each group stands under its name, which no other has, and its key is in the set, if that is whole
+-- each group is under its name, which no other has, and its key is in the set, if that is whole
 pub record IsTied (set : DueSet) (entries : List (GroupName × Group)) : Type 0 where
   pub keyed : AreKeyed name_of entries
   pub distinct : IsDistinct same_name (keys_of entries)
   pub due : AreDue set (values_of entries)
 
--- the group at this place is the only one that has the key, or none has it
+-- the group at this index is the only one that has the key, or none has it
 abbrev pub IsCurrent : List Group → DueKey → Option ℕ → Type 0
 IsCurrent groups key None = All (λ g. key_of g ≡ key → ⊥) groups
 IsCurrent groups key (Some i) =
@@ -42,7 +42,7 @@ IsCurrent groups key (Some i) =
     × ((d : Group) → key_of (slice_index_or groups i d) ≡ key)
     × ((j : ℕ) (d : Group) → j < length groups → key_of (slice_index_or groups j d) ≡ key → j ≡ i)
 
--- the group at this place is the only one that has the key, and no flush of it is open; or none has it that has no open flush
+-- the group at this index is the only one that has the key, and no flush of it is open; or none has it that has no open flush
 abbrev pub IsFree : List FlushState → List Group → DueKey → Option ℕ → Type 0
 IsFree flushes groups key None = All (λ g. key_of g ≡ key → is_flushing flushes key.name ≡ true) groups
 IsFree flushes groups key (Some i) = IsCurrent groups key (Some i) × (is_flushing flushes key.name ≡ false)

@@ -14,7 +14,7 @@ use Rattle.am_model.specs.State.{name_cmp, same_name}
 use Rattle.am_model.specs.declared.group.GroupName.{GroupName}
 use Rattle.am_board.specs.declared.due.DueKey.{DueKey}
 
--- the order of keys: by due moment, then by name, in reverse
+-- the order of keys: by due time, then by name, in reverse
 abbrev pub key_cmp : DueKey → DueKey → Ordering
 key_cmp = flip_args (then_cmp (on (λ k. k.due) nat_cmp) (on (λ k. k.name) name_cmp))
 
@@ -22,7 +22,7 @@ key_cmp = flip_args (then_cmp (on (λ k. k.due) nat_cmp) (on (λ k. k.name) name
 abbrev pub has_key : List DueKey → DueKey → Bool
 has_key keys key = list_any (λ k. is_eq (key_cmp key k)) keys
 
--- the key of the group of a name that is due at this moment
+-- the key of the group of a name that is due at this time
 abbrev pub key_at : GroupName → ℕ → DueKey
 key_at name due = record { due = due; name = name }
 
@@ -42,14 +42,14 @@ pub key_cmp_total : IsTotalOrder key_cmp
 key_cmp_total =
     back_total (then_total (on_total (λ (k : DueKey). k.due) nat_cmp_total) (on_total (λ (k : DueKey). k.name) name_cmp_total))
 
--- names are the same where the order, in reverse, tells none apart
+-- names are the same where the order, in reverse, says none apart
 same_name-ties : (a b : GroupName) → same_name a b ≡ eq_by_cmp name_cmp b a
 same_name-ties a b =
     both_tied _ _ (nat_cmp b.route a.route) (label_set_cmp b.labels a.labels)
     (nat_eq_equiv.symm a.route b.route ∙ unsigned_ties b.route a.route)
     (same_label_set_equiv.symm a.labels b.labels ∙ same_label_set-cmp b.labels a.labels)
 
--- keys are the same where their moments and names are
+-- keys are the same where their times and names are
 abbrev pub same_key : DueKey → DueKey → Bool
 same_key a b = (a.due == b.due) && same_name a.name b.name
 

@@ -6,7 +6,7 @@ use Rattle.am_alerts.specs.declared.labels.Label.{Label}
 use Rattle.am_nflog.specs.Log.{Slots, is_known}
 use Rattle.am_nflog.specs.declared.key.LogKey.{LogKey}
 use Rattle.am_retry.specs.declared.outcome.Outcome.{Outcome}
-use Rattle.am_board.specs.declared.flush.Asked.{Asked}
+use Rattle.am_board.specs.declared.flush.Notified.{Notified}
 use Rattle.am_board.specs.declared.flush.LeavingAlert.{LeavingAlert}
 use Rattle.am_board.specs.declared.flush.OpenFlush.{OpenFlush}
 use Rattle.am_board.specs.declared.flush.AlertSets.{AlertSets}
@@ -15,17 +15,17 @@ use Rattle.am_model.specs.declared.group.GroupName.{GroupName}
 use Rattle.am_model.specs.declared.views.RowView.{RowView}
 use Rattle.am_model.specs.Finish.{has_succeeded, is_leaving, log_with}
 use Rattle.am_model.specs.Lists.{without}
-use Rattle.am_board.specs.Refinement.{asked_state_of, stamped}
+use Rattle.am_board.specs.Refinement.{notified_state_of, stamped}
 use Rattle.am_model.specs.Note.{is_ready}
-use Rattle.am_model.specs.State.{AskedState, GroupState, MemberState, same_name}
+use Rattle.am_model.specs.State.{NotifiedState, GroupState, MemberState, same_name}
 
--- the row of a key that was told this at t and is kept for so long
+-- the row of a key that was reported this at t and is kept for so long
 abbrev pub row_of_sets : LogKey GroupName → AlertSets → ℕ → ℕ → RowView
 row_of_sets key sets t kept_for =
     record {
       group = key.group;
       integration = key.integration;
-      moment = t;
+      time = t;
       expiry = t + kept_for;
       firing = sets.firing;
       resolved = sets.resolved;
@@ -35,24 +35,24 @@ row_of_sets key sets t kept_for =
 abbrev pub row_for : OpenFlush → ℕ → ℕ → RowView
 row_for f t integration = row_of_sets (record { group = f.group; integration = integration }) f.sets t f.kept_for
 
--- those of the asked integrations whose success a finish logs
-abbrev pub logged_of : List (ℕ × Outcome) → List Asked → List AskedState
-logged_of outcomes asked = filter (λ a. has_succeeded outcomes a && not a.noted) (map asked_state_of asked)
+-- those of the notified integrations whose success a finish logs
+abbrev pub logged_of : List (ℕ × Outcome) → List Notified → List NotifiedState
+logged_of outcomes notified = filter (λ a. has_succeeded outcomes a && not a.noted) (map notified_state_of notified)
 
--- the rows of a log with those of the asked integrations of a kept flush whose success a finish at t logs
-abbrev pub rows_with : OpenFlush → ℕ → List (ℕ × Outcome) → List Asked → List RowView → List RowView
-rows_with f t outcomes asked rows =
-    fold (λ log a. log_with (row_for f t a.integration) log) rows (logged_of outcomes asked)
+-- the rows of a log with those of the notified integrations of a kept flush whose success a finish at t logs
+abbrev pub rows_with : OpenFlush → ℕ → List (ℕ × Outcome) → List Notified → List RowView → List RowView
+rows_with f t outcomes notified rows =
+    fold (λ log a. log_with (row_for f t a.integration) log) rows (logged_of outcomes notified)
 
--- whether an alert of a group stands there as it did when it was found resolved
-abbrev pub stands_as : LeavingAlert → Member → Bool
-stands_as l m = same_label_set l.labels m.alert.labels && (l.stamp == m.stamp)
+-- whether an alert of a group is there as it did when it was found resolved
+abbrev pub is_same_as : LeavingAlert → Member → Bool
+is_same_as l m = same_label_set l.labels m.alert.labels && (l.stamp == m.stamp)
 
 -- an alert of a group that is marked to leave
 abbrev pub marked : Member → Member
 marked m = record { alert = m.alert; stamp = m.stamp; leaves = true }
 
--- whether a member leaves its group: all succeeded, and it stands there as one that was found resolved
+-- whether a member leaves its group: all succeeded, and it is there as one that was found resolved
 abbrev pub leaves_where : Bool → List LeavingAlert → MemberState → Bool
 leaves_where all_succeeded leaving m = all_succeeded && is_leaving (map stamped leaving) m
 
@@ -64,21 +64,21 @@ without_leaving all_succeeded leaving g = record g { members = without (leaves_w
 abbrev pub KnowTheSame : Slots GroupName (List Label) → Slots GroupName (List Label) → Type 0
 KnowTheSame log other = (key : LogKey GroupName) → is_known same_name log key ≡ is_known same_name other key
 
--- an integration that a kept flush asked stands at this place, is ready with this outcome, and isn't noted yet
+-- an integration that a kept flush notified is at this index, is ready with this outcome, and isn't noted yet
 pub record IsReadyAt (f : OpenFlush) (integration : ℕ) (outcome : Option Outcome) (a : ℕ) : Type 0 where
-  pub place : position (λ x. x.key.integration == integration) f.asked.items ≡ Some a
-  pub ready : (d : Asked) → is_ready outcome (asked_state_of (slice_index_or f.asked.items a d)) ≡ true
-  pub sets : (d : Asked) → IsSome (slice_index_or f.asked.items a d).sets
+  pub index : position (λ x. x.key.integration == integration) f.notified.items ≡ Some a
+  pub ready : (d : Notified) → is_ready outcome (notified_state_of (slice_index_or f.notified.items a d)) ≡ true
+  pub sets : (d : Notified) → IsSome (slice_index_or f.notified.items a d).sets
 
--- an integration that was asked, without what its log row was to hold
-abbrev pub without_sets : Asked → Asked
+-- an integration that was notified, without what its log row was to hold
+abbrev pub without_sets : Notified → Notified
 without_sets a = record { key = a.key; nothing = a.nothing; sets = None }
 
--- the integration at a place of a kept flush was noted
+-- the integration at an index of a kept flush was noted
 pub record IsNotedAt (a : ℕ) (old new : OpenFlush) : Type 0 where
   pub number : new.number ≡ old.number
   pub group : new.group ≡ old.group
   pub kept_for : new.kept_for ≡ old.kept_for
   pub sets : new.sets ≡ old.sets
   pub leaving : new.leaving ≡ old.leaving
-  pub asked : (d : Asked) → new.asked.items ≡ slice_set old.asked.items a (without_sets (slice_index_or old.asked.items a d))
+  pub notified : (d : Notified) → new.notified.items ≡ slice_set old.notified.items a (without_sets (slice_index_or old.notified.items a d))

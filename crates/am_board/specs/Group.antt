@@ -42,7 +42,7 @@ pub record IsReserved (old new : Group) : Type 0 where
   pub room : old.members.room ≤ new.members.room
   pub state : group_state new ≡ group_state old
 
--- the group at a place was changed, but not its name
+-- the group at an index was changed, but not its name
 pub record Changes (change : Group → Group → Type 0) (i : ℕ) (old new : GroupList) : Type 0 where
   pub from : Group
   pub to : Group

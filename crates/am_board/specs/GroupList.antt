@@ -8,6 +8,6 @@ pub record GroupList : Type 0 where
   pub items : List Group
   pub room : ℕ
 
--- the name that a group stands under
+-- the name that a group is under
 abbrev pub name_of : Group → GroupName
 name_of g = g.name

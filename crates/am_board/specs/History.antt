@@ -55,16 +55,16 @@ take_cause board = if nat_lt MAX_HANDED (length board.history) then Some TooMany
 
 -- a board's state has no more known alerts, groups, silences and open flushes than its limits
 pub record KeepsLimits (board : BoardData) : Type 0 where
-  pub names : length (state_at board).known ≤ board.config.limits.names
+  pub names : length (state_at board).known ≤ board.config.limits.alerts
   pub groups : length (state_at board).groups ≤ board.config.limits.groups
   pub silences : length (state_at board).silences ≤ board.config.limits.silences
   pub flushes : length (state_at board).flushes ≤ board.config.limits.flushes
 
--- a call was told what the definitions give at the state of a board
+-- a call returned what the definitions give at the state of a board
 abbrev pub IsReplyAt : BoardData → Call → Reply → Type 0
-IsReplyAt board call told = reply board.config board.id (state_at board) call ≡ Some told
+IsReplyAt board call returned = reply board.config board.id (state_at board) call ≡ Some returned
 
--- the reply that a begin was told
+-- the reply that a begin returned
 abbrev pub reply_of : Begun → Reply
 reply_of NothingDue = replies.NothingDue
 reply_of (Quiet group removed) = replies.Quiet group removed
@@ -74,7 +74,7 @@ reply_of (Flush ticket) = flush_reply ticket.number ticket.group ticket.deadline
 abbrev pub IsFresh : ℕ → Begun → Type 0
 IsFresh id NothingDue = Unit {0}
 IsFresh id (Quiet group removed) = Unit {0}
-IsFresh id (Flush ticket) = (ticket.desk ≡ id) × (ticket.outcomes ≡ [])
+IsFresh id (Flush ticket) = (ticket.board_id ≡ id) × (ticket.outcomes ≡ [])
 
 -- the fault hands this ticket back
 abbrev pub HandsBack : TicketData → FinishFault → Type 0

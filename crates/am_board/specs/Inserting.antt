@@ -8,7 +8,7 @@ use Rattle.am_alerts.specs.RoutingTree.{RoutingTree, last_of, route_at}
 use Rattle.am_alerts.specs.declared.labels.Label.{Label}
 use Rattle.am_model.specs.declared.config.Config.{Config}
 use Rattle.am_model.specs.declared.group.GroupName.{GroupName}
-use Rattle.am_model.specs.Causes.{is_full, is_name_too_many}
+use Rattle.am_model.specs.Causes.{is_full, is_alert_too_many}
 use Rattle.am_model.specs.Insert.{names_for, same_alert}
 use Rattle.am_alerts.specs.declared.limits.TheConstants.{MAX_DURATION}
 use Rattle.am_board.specs.declared.insert.Found.{Found}
@@ -21,19 +21,19 @@ use Rattle.am_board.specs.Marks.{marks_of}
 use Rattle.am_board.specs.Refinement.{member_state, state_of}
 use Rattle.am_model.specs.State.{MemberState, same_name}
 
--- the place of the group of a name
-abbrev pub place_in : GroupName → List Group → Option ℕ
-place_in name groups = position (λ g. same_name name g.name) groups
+-- the index of the group of a name
+abbrev pub index_in : GroupName → List Group → Option ℕ
+index_in name groups = position (λ g. same_name name g.name) groups
 
--- the place of a group that an alert goes to was found: it is there, or there is none
+-- the index of a group that an alert goes to was found: it is there, or there is none
 abbrev pub IsFound : List Group → Target → Type 0
-IsFound groups target = target.place ≡ place_in target.name groups
+IsFound groups target = target.index ≡ index_in target.name groups
 
 -- the group that a placement goes to
 abbrev pub target_of : Placement → Target
-target_of p = record { name = p.name; place = p.place }
+target_of p = record { name = p.name; index = p.index }
 
--- the places of the groups that placements go to were found
+-- the indexes of the groups that placements go to were found
 abbrev pub AreFound : List Group → List Placement → Type 0
 AreFound groups placements = All (λ p. IsFound groups (target_of p)) placements
 
@@ -45,7 +45,7 @@ AreApart placements = IsDistinct (λ p q. p.name.route == q.name.route) placemen
 abbrev pub IsEmptyWithRoom : Placement → Type 0
 IsEmptyWithRoom placement =
     (placement.members.items ≡ [])
-    × (placement.place ≡ None → 0 < placement.members.room)
+    × (placement.index ≡ None → 0 < placement.members.room)
     × (placement.key ≡ placement.name)
     × (placement.labels ≡ placement.member.alert.labels)
 
@@ -91,7 +91,7 @@ pub record IsPlacementOf (tree : RoutingTree) (m : MemberState) (p : Placement) 
   pub bounded : p.wait ≤ MAX_DURATION
   pub member : member_state p.member ≡ m
 
--- a placement has all that puts this alert into its group, whose place was found
+-- a placement has all that puts this alert into its group, whose index was found
 abbrev pub IsToPut : RoutingTree → List Group → MemberState → Placement → Type 0
 IsToPut tree groups m p = IsFound groups (target_of p) × IsEmptyWithRoom p × IsPlacementOf tree m p
 
@@ -99,8 +99,8 @@ IsToPut tree groups m p = IsFound groups (target_of p) × IsEmptyWithRoom p × I
 -- placements put it into the groups that it goes to
 pub record IsWhereToPut (config : Config) (s : State) (alert : AlertData) (found : Found) : Type 0 where
   pub room : is_full config (vec_len s.history) (state_of s) 1 ≡ false
-  pub few : is_name_too_many config (state_of s) alert ≡ false
-  pub place : found.place ≡ position (same_alert alert) s.known.items
-  pub within : IfSome found.place (λ i. i < length s.known.items)
+  pub few : is_alert_too_many config (state_of s) alert ≡ false
+  pub index : found.index ≡ position (same_alert alert) s.known.items
+  pub within : IfSome found.index (λ i. i < length s.known.items)
   pub names : map (λ p. p.name) found.placements.items ≡ names_for config alert.labels
   pub placements : All (IsToPut config.routes s.groups.items (stamped_alert alert (s.inserts + 1))) found.placements.items

@@ -8,6 +8,6 @@ pub record KnownAlerts : Type 0 where
   pub items : List AlertData
   pub room : ℕ
 
--- the labels that an alert stands under
+-- the labels that an alert is under
 abbrev pub labels_of : AlertData → List Label
 labels_of a = a.labels

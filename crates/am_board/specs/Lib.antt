@@ -44,7 +44,7 @@ pub mod Members
 pub mod Marks
 -- between the code of a note and its definition: what it finds among the stored flushes
 pub mod Noting
--- the alerts of a group in the order of their labels, as places
+-- the alerts of a group in the order of their labels, as indexes
 pub mod Order
 -- between the code of a preview and its definition: what it finds in the group that a begin takes
 pub mod Preview

@@ -7,13 +7,13 @@ use Rattle.am_nflog.specs.declared.row.LogRow.{LogRow}
 use Rattle.am_model.specs.declared.group.GroupName.{GroupName}
 use Rattle.am_model.specs.declared.views.RowView.{RowView}
 
--- a row of the log with the key that it stands under
+-- a row of the log with the key that it is under
 abbrev pub row_under : LogKey GroupName × LogRow (List Label) → RowView
 row_under e =
     record {
       group = e.0.group;
       integration = e.0.integration;
-      moment = e.1.moment;
+      time = e.1.time;
       expiry = e.1.expiry;
       firing = e.1.firing;
       resolved = e.1.resolved;

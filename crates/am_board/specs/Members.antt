@@ -11,15 +11,15 @@ pub record MemberList : Type 0 where
   pub items : List Member
   pub room : ℕ
 
--- the labels that an alert of a group stands under
+-- the labels that an alert of a group is under
 abbrev pub labels_of : Member → List Label
 labels_of m = m.alert.labels
 
--- the place of the alert with these labels
-abbrev pub place_of : List Label → List Member → Option ℕ
-place_of labels members = position (λ m. same_label_set labels (labels_of m)) members
+-- the index of the alert with these labels
+abbrev pub index_of : List Label → List Member → Option ℕ
+index_of labels members = position (λ m. same_label_set labels (labels_of m)) members
 
--- each alert stands under its labels, and none is being taken out
+-- each alert is under its labels, and none is being taken out
 pub record AreMembers (entries : List (List Label × Member)) : Type 0 where
   pub keyed : AreKeyed labels_of entries
   pub unmarked : All (λ m. m.leaves ≡ false) (values_of entries)

@@ -1,6 +1,6 @@
 -- Preview: between the code of a preview and its definition. What it finds in the group that a begin takes.
 use Rattle.std.specs.Prelude.{◌≡◌, ℕ, Err, Ok, Option, Result, map}
-use Rattle.am_model.specs.Begin.{asked_of}
+use Rattle.am_model.specs.Begin.{notified_of}
 use Rattle.am_model.specs.State.{GroupState, State}
 use Rattle.am_model.specs.declared.config.Config.{Config}
 use Rattle.am_model.specs.look_back.Preview.{preview_on, reason_of}
@@ -15,7 +15,7 @@ pub record IsGroupPreview (config : Config) (s : State) (t : ℕ) (g : GroupStat
   pub preview : p.preview ≡ preview_on config s t (reason_of config s t) g
   pub unmuted : IsUnmuted config s t g (copies_of t p.unmuted)
   pub rising : AreRising (copies_of t p.unmuted)
-  pub asked : p.asked.items ≡ map update_of (asked_of config s t g)
+  pub notified : p.notified.items ≡ map update_of (notified_of config s t g)
 
 -- what a begin at t with its preview works out of a group: what is shown, and its plan; or the fault of the plan
 abbrev pub IsPreviewedPlan : Config → ℕ → ℕ → State → ℕ → GroupState → Result (Preview × Option PlannedFlush) Fault → Type 0

@@ -3,7 +3,7 @@ use Rattle.std.specs.Prelude.{◌≡◌, ◌*◌, min, List, [], map, vec_len, i
 use Rattle.am_alerts.specs.declared.labels.Label.{Label}
 use Rattle.am_nflog.specs.Log.{Slots, is_known}
 use Rattle.am_model.specs.declared.config.Config.{Config}
-use Rattle.am_board.specs.declared.flush.Asked.{Asked}
+use Rattle.am_board.specs.declared.flush.Notified.{Notified}
 use Rattle.am_board.specs.declared.flush.LeavingAlert.{LeavingAlert}
 use Rattle.am_board.specs.declared.flush.OpenFlush.{OpenFlush}
 use Rattle.am_board.specs.declared.group.Group.{Group}
@@ -12,7 +12,7 @@ use Rattle.am_board.specs.declared.group.Member.{Member}
 use Rattle.am_board.specs.declared.state.State as kept
 use Rattle.am_model.specs.Configured.{route_of}
 use Rattle.am_board.specs.LogRows.{log_rows}
-use Rattle.am_model.specs.State.{MemberState, GroupState, AskedState, Stamped, FlushState, State, opening_state, same_name}
+use Rattle.am_model.specs.State.{MemberState, GroupState, NotifiedState, Stamped, FlushState, State, opening_state, same_name}
 
 -- a kept alert of a group
 abbrev pub member_state : Member → MemberState
@@ -22,9 +22,9 @@ member_state m = record { alert = m.alert; stamp = m.stamp }
 abbrev pub group_state : Group → GroupState
 group_state g = record { name = g.name; due = g.due; flushed = g.flushed; members = map member_state g.members.items }
 
--- a kept integration that was asked: it is noted where its row's lists are gone
-abbrev pub asked_state_of : Asked → AskedState
-asked_state_of a = record { integration = a.key.integration; nothing = a.nothing; noted = is_none a.sets }
+-- a kept integration that was notified: it is noted where its row's lists are gone
+abbrev pub notified_state_of : Notified → NotifiedState
+notified_state_of a = record { integration = a.key.integration; nothing = a.nothing; noted = is_none a.sets }
 
 -- a kept alert that was resolved at its flush's begin
 abbrev pub stamped : LeavingAlert → Stamped
@@ -36,7 +36,7 @@ flush_state f =
     record {
       number = f.number;
       group = f.group;
-      asked = map asked_state_of f.asked.items;
+      notified = map notified_state_of f.notified.items;
       firing = f.sets.firing;
       resolved = f.sets.resolved;
       leaving = map stamped f.leaving.items;
@@ -70,8 +70,8 @@ pub record EqualUpToRowOrder (a b : State) : Type 0 where
   pub rows : IsPermutation a.rows b.rows
   pub rest : a ≡ record b { rows = a.rows }
 
--- an integration that a flush asked is prepared to be logged: its key is known, and its lists are those of the flush
-pub record IsAsked (log : Slots GroupName (List Label)) (f : OpenFlush) (a : Asked) : Type 0 where
+-- an integration that a flush notified is prepared to be logged: its key is known, and its lists are those of the flush
+pub record IsNotified (log : Slots GroupName (List Label)) (f : OpenFlush) (a : Notified) : Type 0 where
   pub group : a.key.group ≡ f.group
   pub known : IsTrue (is_known same_name log a.key)
   pub sets : IfSome a.sets (λ sets. sets ≡ f.sets)
@@ -79,4 +79,4 @@ pub record IsAsked (log : Slots GroupName (List Label)) (f : OpenFlush) (a : Ask
 -- a kept flush is prepared for its notes and its finish
 pub record IsPrepared (config : Config) (log : Slots GroupName (List Label)) (f : OpenFlush) : Type 0 where
   pub kept_for : f.kept_for ≡ min config.retention (2 * (route_of config f.group).repeat_interval)
-  pub asked : All (IsAsked log f) f.asked.items
+  pub notified : All (IsNotified log f) f.notified.items

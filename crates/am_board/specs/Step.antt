@@ -5,7 +5,7 @@ use Rattle.am_model.specs.declared.config.Config.{Config}
 use Rattle.am_model.specs.declared.config.TheConstants.{MAX_HANDED, MAX_HISTORY}
 use Rattle.am_model.specs.declared.fault.Fault.{Fault}
 use Rattle.am_model.specs.declared.fault.Fault.TheVariants.{NoMemory, HistoryFull}
-use Rattle.am_model.specs.declared.fault.Fault.TheVariants.{TooManyNames, TooManyGroups, TooManySilences, TooManyOpen}
+use Rattle.am_model.specs.declared.fault.Fault.TheVariants.{TooManyAlerts, TooManyGroups, TooManySilences, TooManyOpen}
 use Rattle.am_model.specs.declared.fault.LoadFault.{LoadFault}
 use Rattle.am_model.specs.declared.fault.LoadFault.TheVariants as load
 use Rattle.am_model.specs.declared.fault.NoteFault.{NoteFault}
@@ -38,9 +38,9 @@ pub record StateInvariant (config : Config) (s : kept.State) : Type 0 where
   pub few : HaveFewIntegrations config
   pub retention : config.retention ≤ MAX_DURATION
 
--- a call was accepted: it was told what the definitions give, the state is theirs, and its record is kept
+-- a call was accepted: it returned what the definitions give, the state is theirs, and its record is kept
 pub record AppliesCall (config : Config) (id : ℕ) (r : Record) (old new : kept.State) : Type 0 where
-  pub told : reply config id (state_of old) r.call ≡ Some r.reply
+  pub returned : reply config id (state_of old) r.call ≡ Some r.reply
   pub state : EqualUpToRowOrder (state_of new) (after config (state_of old) r)
   pub routed : AreRouted config.routes (names_of new.groups.items)
   pub prepared : All (IsPrepared config new.log) new.flushes.items
@@ -64,7 +64,7 @@ pub record LeavesUnchanged (config : Config) (old new : kept.State) : Type 0 whe
 abbrev pub IsAnswer : Option Fault → Fault → Type 0
 IsAnswer None fault = fault ≡ NoMemory
 IsAnswer (Some NoMemory) fault = fault ≡ NoMemory
-IsAnswer (Some TooManyNames) fault = fault ≡ TooManyNames
+IsAnswer (Some TooManyAlerts) fault = fault ≡ TooManyAlerts
 IsAnswer (Some TooManyGroups) fault = (fault ≡ TooManyGroups) ⊎ (fault ≡ NoMemory)
 IsAnswer (Some TooManySilences) fault = fault ≡ TooManySilences
 IsAnswer (Some TooManyOpen) fault = (fault ≡ TooManyOpen) ⊎ (fault ≡ NoMemory)

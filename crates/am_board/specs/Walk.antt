@@ -11,9 +11,9 @@ use Rattle.am_model.specs.State.{State}
 use Rattle.am_model.specs.declared.preview.MutedAlert.{MutedAlert}
 use Rattle.am_board.specs.Beginning.{copies_at, firing_among, resolved_among}
 use Rattle.am_board.specs.Members.{labels_of}
-use Rattle.am_board.specs.Order.{places_in_order}
+use Rattle.am_board.specs.Order.{indexes_in_order}
 use Rattle.am_board.specs.declared.group.Member.{Member}
-use Rattle.am_board.specs.declared.walk.MutedPlace.{MutedPlace}
+use Rattle.am_board.specs.declared.walk.MutedIndex.{MutedIndex}
 use Rattle.am_board.specs.declared.walk.Walk.{Walk}
 
 -- ---- one alert
@@ -32,25 +32,25 @@ abbrev pub resolved_if : ℕ → AlertData → Option MuteCause → List AlertDa
 resolved_if t a None = if is_resolved a t then copied t a ∷ [] else []
 resolved_if t a (Some cause) = []
 
--- the muted alert at a place, if this mutes it
-abbrev pub muted_if : ℕ → Option MuteCause → Option MutedPlace
-muted_if place cause = option_map (λ c. record { place = place; cause = c }) cause
+-- the muted alert at an index, if this mutes it
+abbrev pub muted_if : ℕ → Option MuteCause → Option MutedIndex
+muted_if index cause = option_map (λ c. record { index = index; cause = c }) cause
 
 -- the same, as a walk lists it that wants causes or not
-abbrev pub listed_if : Bool → ℕ → Option MuteCause → List MutedPlace
-listed_if causes place cause = if causes then cons_option (muted_if place cause) [] else []
+abbrev pub listed_if : Bool → ℕ → Option MuteCause → List MutedIndex
+listed_if causes index cause = if causes then cons_option (muted_if index cause) [] else []
 
 -- what mutes an alert of a group under these rules, if anything does
 abbrev pub cause_of : List RuleData → State → ℕ → Member → Option MuteCause
 cause_of rules s t m = cause_for rules s t m.alert
 
--- the muted alert at a place among members, where these are their causes
-abbrev pub muted_at : (Member → Option MuteCause) → List Member → ℕ → Option MutedPlace
-muted_at causes members place = option_and_then (λ m. muted_if place (causes m)) (slice_get members place)
+-- the muted alert at an index among members, where these are their causes
+abbrev pub muted_at : (Member → Option MuteCause) → List Member → ℕ → Option MutedIndex
+muted_at causes members index = option_and_then (λ m. muted_if index (causes m)) (slice_get members index)
 
--- a muted alert as a preview lists it, if its place is one among members
-abbrev pub alert_there : List Member → MutedPlace → Option MutedAlert
-alert_there members found = option_map (λ m. record { labels = m.alert.labels; cause = found.cause }) (slice_get members found.place)
+-- a muted alert as a preview lists it, if its index is one among members
+abbrev pub alert_there : List Member → MutedIndex → Option MutedAlert
+alert_there members found = option_map (λ m. record { labels = m.alert.labels; cause = found.cause }) (slice_get members found.index)
 
 -- a member as a preview lists it, if it is muted
 abbrev pub muted_member : (Member → Option MuteCause) → Member → Option MutedAlert
@@ -58,13 +58,13 @@ muted_member causes m = option_map (λ c. record { labels = m.alert.labels; caus
 
 -- ---- a group
 
--- what a walk that wants causes or not finds at these places among members
-pub record AreFound (rules : List RuleData) (s : State) (t : ℕ) (members : List Member) (places : List ℕ)
+-- what a walk that wants causes or not finds at these indexes among members
+pub record AreFound (rules : List RuleData) (s : State) (t : ℕ) (members : List Member) (indexes : List ℕ)
     (causes : Bool) (walk : Walk) : Type 0 where
-  pub firing : copies_at t walk.firing.items ≡ firing_among rules s t (filter_map (slice_get members) places)
-  pub resolved : copies_at t walk.resolved.items ≡ resolved_among rules s t (filter_map (slice_get members) places)
-  pub muted : walk.muted.items ≡ (if causes then filter_map (muted_at (cause_of rules s t) members) places else [])
+  pub firing : copies_at t walk.firing.items ≡ firing_among rules s t (filter_map (slice_get members) indexes)
+  pub resolved : copies_at t walk.resolved.items ≡ resolved_among rules s t (filter_map (slice_get members) indexes)
+  pub muted : walk.muted.items ≡ (if causes then filter_map (muted_at (cause_of rules s t) members) indexes else [])
 
 -- what a walk over members finds, in the order of their labels
 abbrev pub IsWalk : List RuleData → State → ℕ → List Member → Bool → Walk → Type 0
-IsWalk rules s t members causes walk = AreFound rules s t members (places_in_order (map labels_of members)) causes walk
+IsWalk rules s t members causes walk = AreFound rules s t members (indexes_in_order (map labels_of members)) causes walk

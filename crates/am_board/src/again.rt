@@ -24,12 +24,12 @@ use std::alloc::{AllocError, Global};
 /// The greatest number of groups for which copies of the alert wait on the stack.
 const MAX_WAITING: usize = 32;
 
-/// Where an alert stands in a group.
+/// Where an alert is in a group.
 #[derive(Clone, Copy)]
 pub(crate) struct Spot {
-    /// The place of the group.
+    /// The index of the group.
     pub(crate) group: usize,
-    /// The place of the alert in it.
+    /// The index of the alert in it.
     pub(crate) member: usize,
 }
 
@@ -41,18 +41,18 @@ pub(crate) fn put_again(
     alloc: Global,
     config: &Config,
     state: &mut State,
-    place: Option<usize>,
+    index: Option<usize>,
     kept: Option<&Sequence<GroupName>>,
     now: u64,
     alert: &Alert,
 ) -> Result<Option<Inserted>, AllocError>
     requires good { StateInvariant config.now state.old }
-    requires place { place ≡ position (same_alert alert.now) state.old.known.items }
-    requires within { IfSome place (λ i. i < length state.old.known.items) }
+    requires index { index ≡ position (same_alert alert.now) state.old.known.items }
+    requires within { IfSome index (λ i. i < length state.old.known.items) }
     requires kept { IfSome kept (λ names. names.now ≡ names_for config.now alert.now.labels) }
     ensures { PutsAgain config.now now alert.now result state.old state.new }
 {
-    let Some(i) = place else {
+    let Some(i) = index else {
         return Ok(None);
     };
     let Some(names) = kept else {
@@ -64,7 +64,7 @@ pub(crate) fn put_again(
     put_known(alloc, config, state, i, names.as_slice(), now, alert)
 }
 
-/// Puts an alert in place of the known one at a place, and in place of the one in each of these
+/// Puts an alert in place of the known one at an index, and in place of the one in each of these
 /// groups, if all of them have it. Else it returns nothing.
 fn put_known(
     alloc: Global,
@@ -76,13 +76,13 @@ fn put_known(
     alert: &Alert,
 ) -> Result<Option<Inserted>, AllocError>
     requires good { StateInvariant config.now state.old }
-    requires place { Some i ≡ position (same_alert alert.now) state.old.known.items }
+    requires index { Some i ≡ position (same_alert alert.now) state.old.known.items }
     requires within { i < length state.old.known.items }
     requires names { names.now ≡ names_for config.now alert.now.labels }
     requires few { length state.old.groups.items ≤ config.now.limits.groups }
     ensures { PutsAgain config.now now alert.now result state.old state.new }
 {
-    let t = state.moment(now);
+    let t = state.time(now);
     let stamp = state.inserts + 1;
     let known = alert.copy(alloc)?;
     state.history.reserve(state.flushes.len() + 1)?;

@@ -4,7 +4,7 @@
 //! Steps, if the history has room (`take_with_room`): `Groups::first_due` picks the group,
 //! `prepare` sorts it and notes what no silence mutes, `plan` finds what is unmuted and whom to
 //! notify, and `begin_planned` ends the begin. `previewed` has the same steps, with a preview in the
-//! place of what `plan` finds. A begin that opens a flush allocates in this order:
+//! index of what `plan` finds. A begin that opens a flush allocates in this order:
 //! - the references to the unmuted alerts, the reasons of the integrations;
 //! - the copies of these alerts, and all else that goes into the board and the ticket;
 //! - the capacity of the history, the open flush, the log keys.
@@ -18,7 +18,7 @@ ghost use Rattle.am_alerts.specs.RoutingTree.{last_of, route_at};
 ghost use Rattle.am_nflog.specs.Log.{is_known};
 ghost use Rattle.am_nflog.specs.declared.key.LogKey.{LogKey};
 ghost use Rattle.am_mute.specs.Sources.{AreLearnt};
-ghost use Rattle.am_model.specs.Begin.{asked_of, taken};
+ghost use Rattle.am_model.specs.Begin.{notified_of, taken};
 ghost use Rattle.am_model.specs.Causes.{begin_cause};
 ghost use Rattle.am_model.specs.Insert.{same_member};
 ghost use Rattle.am_model.specs.Records.{entry};
@@ -26,7 +26,7 @@ ghost use Rattle.am_board.specs.History.{reply_of, IsFresh};
 ghost use Rattle.am_board.specs.Refinement.{state_of, group_state};
 ghost use Rattle.am_board.specs.LogRows.{log_rows};
 ghost use Rattle.am_board.specs.Beginning.{IsPlan, IsPlannedFlush, IsChoice, IsChosen, IsEnd};
-ghost use Rattle.am_model.specs.State.{moment, same_name};
+ghost use Rattle.am_model.specs.State.{time, same_name};
 ghost use Rattle.am_board.specs.Step.{StateInvariant, AppliesCall, LeavesUnchanged, IsAnswer};
 ghost use Rattle.am_model.specs.declared.config.TheConstants.{MAX_INTEGRATIONS};
 ghost use Rattle.am_model.specs.declared.config.Config.{Config as ConfigData};
@@ -42,7 +42,7 @@ use crate::record::{Call, Record, Reply};
 use crate::state::State;
 use crate::ticket::Ticket;
 use am_alerts::labels::Labels;
-use am_alerts::limits::MAX_MOMENT;
+use am_alerts::limits::MAX_TIME;
 pub use am_model::notice::MIN_FLUSH_TIMEOUT;
 use am_mute::sources::Sources;
 use am_nflog::{LogKey, NfLog};
@@ -70,8 +70,8 @@ pub(crate) struct ChosenGroup {
     pub(crate) now: u64,
     /// The time of the call.
     pub(crate) t: u64,
-    /// The place of the group.
-    pub(crate) place: usize,
+    /// The index of the group.
+    pub(crate) index: usize,
     /// When it is due again.
     pub(crate) due: u64,
 }
@@ -89,11 +89,11 @@ pub(crate) fn take_group(
 ) -> Result<Begun, Fault>
     requires good { StateInvariant config.now state.old }
     requires sources { AreLearnt config.now.rules state.old.known.items sources.now }
-    requires moments { All (λ row. row.moment ≤ MAX_MOMENT) (log_rows state.old.log) }
+    requires times { All (λ row. row.time ≤ MAX_TIME) (log_rows state.old.log) }
     ensures { MatchResult result
-        (λ begun. (begin_cause config.now (vec_len state.old.history) (state_of state.old) (moment (state_of state.old) now) ≡ None)
+        (λ begun. (begin_cause config.now (vec_len state.old.history) (state_of state.old) (time (state_of state.old) now) ≡ None)
         × AppliesCall config.now id (entry pass (Call.Begin now) (reply_of begun)) state.old state.new × IsFresh id begun)
-        (λ fault. IsAnswer (begin_cause config.now (vec_len state.old.history) (state_of state.old) (moment (state_of state.old) now)) fault
+        (λ fault. IsAnswer (begin_cause config.now (vec_len state.old.history) (state_of state.old) (time (state_of state.old) now)) fault
         × LeavesUnchanged config.now state.old state.new) }
 {
     if !state.has_room(2, config.limits.history) {
@@ -114,19 +114,19 @@ fn take_with_room(
 ) -> Result<Begun, Fault>
     requires good { StateInvariant config.now state.old }
     requires sources { AreLearnt config.now.rules state.old.known.items sources.now }
-    requires moments { All (λ row. row.moment ≤ MAX_MOMENT) (log_rows state.old.log) }
+    requires times { All (λ row. row.time ≤ MAX_TIME) (log_rows state.old.log) }
     requires room { vec_len state.old.history + vec_len state.old.flushes + 2 ≤ config.now.limits.history }
     ensures { MatchResult result
-        (λ begun. (begin_cause config.now (vec_len state.old.history) (state_of state.old) (moment (state_of state.old) now) ≡ None)
+        (λ begun. (begin_cause config.now (vec_len state.old.history) (state_of state.old) (time (state_of state.old) now) ≡ None)
         × AppliesCall config.now id (entry pass (Call.Begin now) (reply_of begun)) state.old state.new × IsFresh id begun)
-        (λ fault. IsAnswer (begin_cause config.now (vec_len state.old.history) (state_of state.old) (moment (state_of state.old) now)) fault
+        (λ fault. IsAnswer (begin_cause config.now (vec_len state.old.history) (state_of state.old) (time (state_of state.old) now)) fault
         × LeavesUnchanged config.now state.old state.new) }
 {
     let Some(chosen) = choose(config, state, pass, now) else {
-        let t = state.moment(now);
+        let t = state.time(now);
         return begin_nothing(state, pass, now, t);
     };
-    prepare(alloc, state, chosen.place, chosen.t);
+    prepare(alloc, state, chosen.index, chosen.t);
     let planned = plan(alloc, config, id, state, sources, chosen)?;
     begin_planned(alloc, id, state, chosen, planned)
 }
@@ -136,16 +136,16 @@ pub(crate) fn choose(config: &Config, state: &State, pass: u32, now: u64) -> Opt
     requires { StateInvariant config.now state.now }
     ensures { IsChoice config.now state.now pass now result }
 {
-    let t = state.moment(now);
-    let Some(place) = state.groups.first_due(t) else {
+    let t = state.time(now);
+    let Some(index) = state.groups.first_due(t) else {
         return None;
     };
-    let due = due_again(config, state.groups.at(place).name.route, t);
+    let due = due_again(config, state.groups.at(index).name.route, t);
     Some(ChosenGroup {
         pass,
         now,
         t,
-        place,
+        index,
         due,
     })
 }
@@ -158,7 +158,7 @@ pub(crate) fn begin_planned(
     chosen: ChosenGroup,
     planned: Option<PlannedFlush>,
 ) -> Result<Begun, Fault>
-    requires place { chosen.place < length state.old.groups.items }
+    requires index { chosen.index < length state.old.groups.items }
     requires none { IfSome planned (λ p. vec_len p.outcomes ≡ 0) }
     requires room { IfSome planned (λ p. vec_len p.notices ≤ vec_capacity p.outcomes) }
     requires few { IfSome planned (λ p. vec_len p.notices ≤ MAX_INTEGRATIONS) }
@@ -172,23 +172,23 @@ pub(crate) fn begin_planned(
     }
 }
 
-/// Computes the order by labels of the alerts of the group at a place, and notes those that no
+/// Computes the order by labels of the alerts of the group at an index, and notes those that no
 /// silence mutes at `t`.
-pub(crate) fn prepare(alloc: Global, state: &mut State, place: usize, t: u64)
-    requires place { place < length state.old.groups.items }
+pub(crate) fn prepare(alloc: Global, state: &mut State, index: usize, t: u64)
+    requires index { index < length state.old.groups.items }
     requires apart { All (λ g. IsDistinct same_member g.members) (map group_state state.old.groups.items) }
     ensures { state.new ≡ state.old }
 {
     let limit = state.known.len().saturating_mul(NOTED_PER_ALERT);
     state
         .groups
-        .prepare(place, alloc, &mut state.silences, t, limit);
+        .prepare(index, alloc, &mut state.silences, t, limit);
 }
 
 /// When a group of this route that is taken at `t` is due again.
 fn due_again(config: &Config, route: u32, t: u64) -> u64
     requires route { route ≤ last_of config.now.routes }
-    requires moment { t ≤ MAX_MOMENT }
+    requires time { t ≤ MAX_TIME }
     ensures { result ≡ t + (route_at config.now.routes route).group_interval }
 {
     t.saturating_add(config.routes.route(route).group_interval)
@@ -197,7 +197,7 @@ fn due_again(config: &Config, route: u32, t: u64) -> u64
 /// Ends a begin for which no group is due.
 pub(crate) fn begin_nothing(state: &mut State, pass: u32, now: u64, t: u64) -> Result<Begun, Fault>
     ensures { (config : ConfigData) (id : ℕ) → StateInvariant config state.old
-        → t ≡ moment (state_of state.old) now → taken (state_of state.old) t ≡ None
+        → t ≡ time (state_of state.old) now → taken (state_of state.old) t ≡ None
         → IsEnd config id pass now state.old state.new result }
 {
     state.history.reserve(state.flushes.len() + 1)?;
@@ -212,17 +212,17 @@ pub(crate) fn begin_nothing(state: &mut State, pass: u32, now: u64, t: u64) -> R
 
 /// Ends a begin that notifies no integration.
 fn begin_quiet(alloc: Global, state: &mut State, chosen: ChosenGroup) -> Result<Begun, Fault>
-    requires { chosen.place < length state.old.groups.items }
+    requires { chosen.index < length state.old.groups.items }
     ensures { (config : ConfigData) (id : ℕ) (g : Group) → StateInvariant config state.old → IsChosen config state.old chosen g
-        → asked_of config (state_of state.old) chosen.t (group_state g) ≡ []
+        → notified_of config (state_of state.old) chosen.t (group_state g) ≡ []
         → IsEnd config id chosen.pass chosen.now state.old state.new result }
 {
-    let name = state.groups.at(chosen.place).name.copy(alloc)?;
+    let name = state.groups.at(chosen.index).name.copy(alloc)?;
     let recorded = name.copy(alloc)?;
     state.history.reserve(state.flushes.len() + 1)?;
 
     state.clock = chosen.t;
-    let removed = state.groups.begin_quiet(chosen.place, chosen.due, chosen.t);
+    let removed = state.groups.begin_quiet(chosen.index, chosen.due, chosen.t);
     state.history.push_reserved(Record {
         pass: chosen.pass,
         call: Call::Begin { now: chosen.now },
@@ -245,12 +245,12 @@ fn begin_flush(
     chosen: ChosenGroup,
     planned: PlannedFlush,
 ) -> Result<Begun, Fault>
-    requires place { chosen.place < length state.old.groups.items }
+    requires index { chosen.index < length state.old.groups.items }
     requires none { vec_len planned.outcomes ≡ 0 }
     requires room { vec_len planned.notices ≤ vec_capacity planned.outcomes }
     requires few { vec_len planned.notices ≤ MAX_INTEGRATIONS }
     ensures { (config : ConfigData) (g : Group) → StateInvariant config state.old → IsChosen config state.old chosen g
-        → asked_of config (state_of state.old) chosen.t (group_state g) ≢ []
+        → notified_of config (state_of state.old) chosen.t (group_state g) ≢ []
         → IsPlannedFlush config id (state_of state.old) chosen.t (group_state g) planned
         → IsEnd config id chosen.pass chosen.now state.old state.new result }
 {
@@ -259,7 +259,7 @@ fn begin_flush(
     reserve_rows(alloc, &mut state.log, &planned.flush)?;
 
     state.clock = chosen.t;
-    state.groups.begin(chosen.place, chosen.due);
+    state.groups.begin(chosen.index, chosen.due);
     state.next_number = state.next_number.saturating_add(1);
     state.flushes.push_reserved(planned.flush);
     state.history.push_reserved(Record {
@@ -271,7 +271,7 @@ fn begin_flush(
         },
     });
     Ok(Begun::Flush(Ticket {
-        desk: id,
+        board_id: id,
         number: planned.number,
         group: planned.group,
         deadline: planned.deadline,
@@ -288,13 +288,13 @@ fn reserve_rows(
 ) -> Result<(), AllocError>
     ensures rows { log_rows log.new ≡ log_rows log.old }
     ensures known { (key : LogKey GroupName) → IsTrue (is_known same_name log.old key) → IsTrue (is_known same_name log.new key) }
-    ensures asked { OnOk result
-        (All (λ a. a.key.group ≡ flush.now.group → IsTrue (is_known same_name log.new a.key)) flush.now.asked.items) }
+    ensures notified { OnOk result
+        (All (λ a. a.key.group ≡ flush.now.group → IsTrue (is_known same_name log.new a.key)) flush.now.notified.items) }
 {
-    for asked in flush.asked.as_slice() {
+    for notified in flush.notified.as_slice() {
         log.reserve(LogKey {
             group: flush.group.copy(alloc)?,
-            integration: asked.key.integration,
+            integration: notified.key.integration,
         })?;
     }
     Ok(())

@@ -8,7 +8,7 @@ ghost use Rattle.am_model.specs.Config.{AreAllowed, config_fault};
 ghost use Rattle.am_board.specs.History.{opening, state_at, records_at, IsReplyAt, with_record, reply_of, IsFresh};
 ghost use Rattle.am_board.specs.History.{HandsBack, IsForeign, IsNotOpen};
 ghost use Rattle.am_model.specs.Records.{entry, call_of_silence, IsNoteOf};
-ghost use Rattle.am_model.specs.State.{moment, flush_numbered};
+ghost use Rattle.am_model.specs.State.{time, flush_numbered};
 ghost use Rattle.am_board.specs.Step.{IsCaused, IsLoadCaused, IsNoteCaused};
 
 use crate::begin::{Begun, take_group};
@@ -125,7 +125,7 @@ impl Board {
     ///
     /// In this order, and each changes nothing:
     /// - `HistoryFull`: the history has no capacity for the record.
-    /// - `TooManyNames`: the label set is new, and the limit of known alerts is reached.
+    /// - `TooManyAlerts`: the label set is new, and the limit of known alerts is reached.
     /// - `TooManyGroups`: with the missing groups there would be more than the limit.
     /// - `NoMemory`, which can precede `TooManyGroups` while the groups are looked for.
     ///
@@ -204,14 +204,14 @@ impl Board {
         ensures recorded { IfOk result (λ begun. self.new ≡ with_record self.old (entry pass (Call.Begin now) (reply_of begun))) }
         ensures reply { IfOk result (λ begun. IsReplyAt self.old (Call.Begin now) (reply_of begun)) }
         ensures fresh { IfOk result (IsFresh self.old.id) }
-        ensures cause { let s = state_at self.old in IsCaused (begin_cause self.old.config (records_at self.old) s (moment s now)) result }
+        ensures cause { let s = state_at self.old in IsCaused (begin_cause self.old.config (records_at self.old) s (time s now)) result }
         ensures refused { OnErr result (self.new ≡ self.old) }
     {
-        let desk = self.id;
+        let board_id = self.id;
         take_group(
             alloc,
             &self.config,
-            desk,
+            board_id,
             &mut self.state,
             &self.sources,
             pass,
@@ -219,7 +219,7 @@ impl Board {
         )
     }
 
-    /// Logs the success of the notice at `place` of a ticket, before its flush is finished.
+    /// Logs the success of the notice at `index` of a ticket, before its flush is finished.
     ///
     /// `now` is in milliseconds (`notify.SetNotifiesStage`).
     ///
@@ -237,21 +237,21 @@ impl Board {
         _alloc: Global,
         pass: u32,
         ticket: &Ticket,
-        place: usize,
+        index: usize,
         now: u64,
     ) -> Result<Noted, NoteFault>
         ensures noted { OnOk result
-            ((r : Record) × IsNoteOf pass now ticket.now place r × (self.new ≡ with_record self.old r)
+            ((r : Record) × IsNoteOf pass now ticket.now index r × (self.new ≡ with_record self.old r)
             × IsReplyAt self.old r.call r.reply) }
         ensures cause { IsNoteCaused
-            (note_cause self.old.config self.old.id (records_at self.old) (state_at self.old) ticket.now place) result }
+            (note_cause self.old.config self.old.id (records_at self.old) (state_at self.old) ticket.now index) result }
         ensures refused { OnErr result (self.new ≡ self.old) }
-        ensures foreign { IsErrOf result NoteFault.Foreign ↔ (ticket.now.desk ≢ self.old.id) }
+        ensures foreign { IsErrOf result NoteFault.Foreign ↔ (ticket.now.board_id ≢ self.old.id) }
     {
-        if ticket.desk() != self.id {
+        if ticket.board_id() != self.id {
             return Err(NoteFault::Foreign);
         }
-        note_success(&self.config, &mut self.state, pass, ticket, place, now)
+        note_success(&self.config, &mut self.state, pass, ticket, index, now)
     }
 
     /// Ends a flush: logs each success that wasn't noted, and removes resolved alerts.
@@ -271,17 +271,17 @@ impl Board {
             self.new ≡ with_record self.old (entry pass (Call.Finish now ticket.number ticket.outcomes) (Reply.Finished finished))) }
         ensures reply { IfOk result
             (λ finished. IsReplyAt self.old (Call.Finish now ticket.number ticket.outcomes) (Reply.Finished finished)) }
-        ensures foreign { IsForeign result ↔ (ticket.desk ≢ self.old.id) }
+        ensures foreign { IsForeign result ↔ (ticket.board_id ≢ self.old.id) }
         ensures not_open { IsNotOpen result
-            ↔ ((ticket.desk ≡ self.old.id) × (flush_numbered (state_at self.old).flushes ticket.number ≡ None)) }
+            ↔ ((ticket.board_id ≡ self.old.id) × (flush_numbered (state_at self.old).flushes ticket.number ≡ None)) }
         ensures refused { OnErr result (self.new ≡ self.old) }
         ensures handed_back { IfErr result (HandsBack ticket) }
     {
-        if self.id != ticket.desk() {
+        if self.id != ticket.board_id() {
             return Err(FinishFault::Foreign(ticket));
         }
         let Ticket {
-            desk: _,
+            board_id: _,
             number,
             group: _,
             deadline: _,
@@ -386,7 +386,7 @@ impl Board {
             (λ loaded. self.new ≡ with_record self.old (entry pass (Call.Load now row) (Reply.Loaded loaded))) }
         ensures reply { IfOk result (λ loaded. IsReplyAt self.old (Call.Load now row) (Reply.Loaded loaded)) }
         ensures cause { IsLoadCaused
-            (load_cause self.old.config (records_at self.old) (state_at self.old) (moment (state_at self.old) now) row) result }
+            (load_cause self.old.config (records_at self.old) (state_at self.old) (time (state_at self.old) now) row) result }
         ensures refused { OnErr result (self.new ≡ self.old) }
     {
         load_row(alloc, &self.config, &mut self.state, pass, now, row)

@@ -3,7 +3,7 @@
 //!
 //! One walk over the integrations finds the reason of each. `update_reason` of `am_nflog` alone
 //! decides: an integration is notified if its reason says so. It compares the label sets where they
-//! stand in the group.
+//! are in the group.
 ghost use Rattle.std.specs.Prelude.{◌≡◌, ◌+◌, ◌<◌, ◌≤◌, ◌^◌, All, IfOk, IfSome, length};
 ghost use Rattle.std.specs.List.{enumerate_from};
 ghost use Rattle.std.specs.Option.{option_copied};
@@ -12,7 +12,7 @@ ghost use Rattle.am_model.specs.Configured.{HaveFewIntegrations, integrations_of
 ghost use Rattle.am_model.specs.declared.config.TheConstants.{MAX_INTEGRATIONS};
 ghost use Rattle.am_model.specs.look_back.Reasons.{reason_of_update};
 ghost use Rattle.am_board.specs.Beginning.{AreRising, alert_sets_of, copies_of};
-ghost use Rattle.am_board.specs.Dedup.{EndsInTime, AreDecided, reason_among, reason_for, reason_told_by};
+ghost use Rattle.am_board.specs.Dedup.{EndsInTime, AreDecided, reason_among, reason_for, reason_by_row};
 ghost use Rattle.am_board.specs.Refinement.{state_of};
 ghost use Rattle.am_board.specs.LogRows.{log_rows};
 
@@ -22,7 +22,7 @@ use crate::reason::Reason;
 use crate::state::State;
 use crate::unmuted::UnmutedMembers;
 use am_alerts::labels::Labels;
-use am_alerts::limits::MAX_MOMENT;
+use am_alerts::limits::MAX_TIME;
 use am_nflog::{LogKey, LogRow, NfLog, UpdateReason, update_reason};
 use std::alloc::{AllocError, Global};
 
@@ -37,7 +37,7 @@ pub(crate) struct Update {
 #[derive(Drop)]
 pub(crate) struct Decided {
     pub(crate) reasons: Vec<Reason>,
-    pub(crate) asked: Vec<Update>,
+    pub(crate) notified: Vec<Update>,
 }
 
 /// Decides whether each integration of a group's receiver needs an update about what is unmuted, and
@@ -54,7 +54,7 @@ pub(crate) fn decide(
     requires rising { AreRising (copies_of t unmuted.now) }
     requires route { group.now.route ≤ last_of config.now.routes }
     requires few { HaveFewIntegrations config.now }
-    requires moments { All (λ row. row.moment ≤ MAX_MOMENT) (log_rows state.now.log) }
+    requires times { All (λ row. row.time ≤ MAX_TIME) (log_rows state.now.log) }
     ensures { IfOk result
         (AreDecided (reason_for config.now (state_of state.now) group.now muted_until (alert_sets_of (copies_of t unmuted.now)) t)
         (integrations_of config.now group.now)) }
@@ -63,7 +63,7 @@ pub(crate) fn decide(
     let Some(receiver) = config.receiver(route.receiver.as_str()) else {
         return Ok(Decided {
             reasons: Vec::new(alloc),
-            asked: Vec::new(alloc),
+            notified: Vec::new(alloc),
         });
     };
     let integrations = receiver.integrations.as_slice();
@@ -95,7 +95,7 @@ fn decide_muted(
     }
     Ok(Decided {
         reasons,
-        asked: Vec::new(alloc),
+        notified: Vec::new(alloc),
     })
 }
 
@@ -111,13 +111,13 @@ fn decide_each(
 ) -> Result<Decided, AllocError>
     requires rising { AreRising (copies_of t unmuted.now) }
     requires few { length integrations.now ≤ MAX_INTEGRATIONS }
-    requires fits { All (λ row. row.moment + repeat_interval + 1 < 2 ^ 64) (log_rows log.now) }
+    requires fits { All (λ row. row.time + repeat_interval + 1 < 2 ^ 64) (log_rows log.now) }
     ensures { IfOk result
         (AreDecided (reason_among (log_rows log.now) group.now (alert_sets_of (copies_of t unmuted.now)) repeat_interval t)
         (enumerate_from 0 integrations.now)) }
 {
     let mut reasons = Vec::with_capacity(alloc, integrations.len())?;
-    let mut asked = Vec::new(alloc);
+    let mut notified = Vec::new(alloc);
     let mut key = LogKey {
         group: group.copy(alloc)?,
         integration: 0,
@@ -127,15 +127,15 @@ fn decide_each(
         let send_resolved = integration.send_resolved;
         let reason = reason(row, unmuted, send_resolved, repeat_interval, t);
         reasons.push(reason)?;
-        if reason.asks() {
-            asked.push(Update {
+        if reason.notifies() {
+            notified.push(Update {
                 integration: key.integration,
                 send_resolved,
             })?;
         }
         key.integration += 1;
     }
-    Ok(Decided { reasons, asked })
+    Ok(Decided { reasons, notified })
 }
 
 /// Returns why an integration with this log row is notified, or why not.
@@ -147,9 +147,9 @@ fn reason(
     t: u64,
 ) -> Reason
     requires rising { AreRising (copies_of t unmuted.now) }
-    requires fits { IfSome (option_copied logged) (λ row. row.moment + repeat_interval + 1 < 2 ^ 64) }
+    requires fits { IfSome (option_copied logged) (λ row. row.time + repeat_interval + 1 < 2 ^ 64) }
     ensures { result
-        ≡ reason_told_by (option_copied logged.entry) (alert_sets_of (copies_of t unmuted.now)) send_resolved repeat_interval t }
+        ≡ reason_by_row (option_copied logged.entry) (alert_sets_of (copies_of t unmuted.now)) send_resolved repeat_interval t }
 {
     if unmuted.is_empty() {
         return Reason::NothingLeft;

@@ -1,9 +1,9 @@
 //! The names of the groups that known alerts go to. `insert` fills and reads this cache. `forget`
-//! drops the names of the alerts that go, and moves the others, since names are by place.
+//! drops the names of the alerts that go, and moves the others, since names are by index.
 //!
 //! A name in it is the group's own shared copy where the group exists. It is not replaced when the
 //! group goes: the next group of that name takes it over. A group is found by its name each time,
-//! and not by a cached place, since a maintenance moves groups.
+//! and not by a cached index, since a maintenance moves groups.
 ghost use Rattle.std.specs.Prelude.{◌≡◌, ◌<◌, [], IfSome, List, length, position};
 ghost use Rattle.am_board.specs.Forgetting.{is_idle_but_for, TestsFirst};
 ghost use Rattle.am_alerts.specs.AlertData.{AlertData};
@@ -31,7 +31,7 @@ use std::marker::Model;
 /// time: names that aren't cached are computed again.
 #[derive(Drop)]
 pub(crate) struct GroupNameCache {
-    /// By the place of the alert among the known ones.
+    /// By the index of the alert among the known ones.
     names: Vec<Option<Sequence<GroupName>>>,
 }
 
@@ -54,40 +54,40 @@ impl GroupNameCache {
         }
     }
 
-    /// Returns the cached names of the known alert at a place, if there are any.
-    pub(crate) fn of(&self, place: Option<usize>) -> Option<&Sequence<GroupName>>
+    /// Returns the cached names of the known alert at an index, if there are any.
+    pub(crate) fn of(&self, index: Option<usize>) -> Option<&Sequence<GroupName>>
         ensures { (config : Config) (known : List AlertData) (labels : List Label) → AreKept config known self.now
-            → place ≡ position (λ a. same_label_set labels a.labels) known
+            → index ≡ position (λ a. same_label_set labels a.labels) known
             → IfSome result (λ names. names.now ≡ names_for config labels) }
     {
-        let names = self.names.as_slice().get(place?)?;
+        let names = self.names.as_slice().get(index?)?;
         names.as_ref()
     }
 
-    /// Caches names for the known alert at a place, if there are any and memory allows.
-    pub(crate) fn keep(&mut self, place: usize, names: Option<Sequence<GroupName>>)
-        ensures { (config : Config) (known : List AlertData) → AreKept config known self.old → place < length known
-            → ((a : AlertData) → IsAt known place a → IfSome names (λ names. names ≡ names_for config a.labels))
+    /// Caches names for the known alert at an index, if there are any and memory allows.
+    pub(crate) fn keep(&mut self, index: usize, names: Option<Sequence<GroupName>>)
+        ensures { (config : Config) (known : List AlertData) → AreKept config known self.old → index < length known
+            → ((a : AlertData) → IsAt known index a → IfSome names (λ names. names ≡ names_for config a.labels))
             → AreKept config known self.new }
     {
         if let Some(names) = names {
-            let _ = self.put(place, names);
+            let _ = self.put(index, names);
         }
     }
 
-    /// Puts names at a place. Where memory is refused there are none there.
-    fn put(&mut self, place: usize, names: Sequence<GroupName>) -> Result<(), AllocError>
-        ensures { (config : Config) (known : List AlertData) → AreKept config known self.old → place < length known
-            → ((a : AlertData) → IsAt known place a → names ≡ names_for config a.labels) → AreKept config known self.new }
+    /// Puts names at an index. Where memory is refused there are none there.
+    fn put(&mut self, index: usize, names: Sequence<GroupName>) -> Result<(), AllocError>
+        ensures { (config : Config) (known : List AlertData) → AreKept config known self.old → index < length known
+            → ((a : AlertData) → IsAt known index a → names ≡ names_for config a.labels) → AreKept config known self.new }
     {
-        while self.names.len() <= place {
+        while self.names.len() <= index {
             self.names.push(None)?;
         }
-        self.names[place] = Some(names);
+        self.names[index] = Some(names);
         Ok(())
     }
     /// Drops the names of those of these known alerts that are resolved at `t` and whose label set
-    /// isn't one of these. The others move to the places that their alerts get.
+    /// isn't one of these. The others move to the indexes that their alerts get.
     pub(crate) fn drop_idle(&mut self, known: &[Alert], sets: &IndexSet<Labels, Seed>, t: u64)
         ensures { (config : Config) → AreKept config known.now self.old
             → AreKept config (without (is_idle_but_for sets.now.keys t) known.now) self.new }

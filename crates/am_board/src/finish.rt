@@ -14,7 +14,7 @@ ghost use Rattle.am_board.specs.Group.{names_of};
 ghost use Rattle.am_board.specs.Marks.{is_marked, marks_of};
 ghost use Rattle.am_model.specs.Records.{entry};
 ghost use Rattle.am_model.specs.Insert.{same_group};
-ghost use Rattle.am_board.specs.Refinement.{IsAsked, asked_state_of, member_state, stamped, group_state};
+ghost use Rattle.am_board.specs.Refinement.{IsNotified, notified_state_of, member_state, stamped, group_state};
 ghost use Rattle.am_board.specs.LogRows.{log_rows};
 ghost use Rattle.am_model.specs.Lists.{without, changed_where};
 ghost use Rattle.am_board.specs.Finishing.{row_of_sets, logged_of, rows_with, leaves_where, without_leaving, KnowTheSame};
@@ -23,7 +23,7 @@ ghost use Rattle.am_board.specs.Step.{StateInvariant, AppliesCall};
 ghost use Rattle.am_model.specs.declared.config.Config.{Config as ConfigData};
 ghost use Rattle.am_model.specs.declared.views.RowView.{RowView};
 
-use crate::flush::{AlertSets, Asked, LeavingAlert, OpenFlush};
+use crate::flush::{AlertSets, LeavingAlert, Notified, OpenFlush};
 use crate::group::{Group, GroupName};
 use crate::groups::Groups;
 use crate::record::{Call, Finished, Record, Reply};
@@ -34,7 +34,7 @@ use am_model::outcome::outcome_of;
 use am_nflog::{LogKey, NfLog};
 use am_retry::Outcome;
 
-/// Finishes the open flush at a place, with these outcomes. Takes no memory.
+/// Finishes the open flush at an index, with these outcomes. Takes no memory.
 pub(crate) fn finish_flush(
     state: &mut State,
     pass: u32,
@@ -42,7 +42,7 @@ pub(crate) fn finish_flush(
     outcomes: Vec<(u32, Outcome)>,
     now: u64,
 ) -> Finished
-    requires place { f < vec_len state.old.flushes }
+    requires index { f < vec_len state.old.flushes }
     requires good { (config : ConfigData) × StateInvariant config state.old }
     ensures closed { vec_len state.new.flushes + 1 ≡ vec_len state.old.flushes }
     ensures accepted { (config : ConfigData) → StateInvariant config state.old → (id : ℕ) → (o : OpenFlush)
@@ -50,17 +50,17 @@ pub(crate) fn finish_flush(
         (entry pass (Call.Finish now (slice_index_or state.old.flushes.items f o).number outcomes.items) (Reply.Finished result))
         state.old state.new }
 {
-    let t = state.moment(now);
+    let t = state.time(now);
     state.clock = t;
     let OpenFlush {
         number,
         group,
         kept_for,
-        asked,
+        notified,
         sets: _,
         leaving,
     } = state.flushes.remove(f);
-    let successes = log_rest(&mut state.log, asked, outcomes.as_slice(), kept_for, t);
+    let successes = log_rest(&mut state.log, notified, outcomes.as_slice(), kept_for, t);
     let removed = take_out(&mut state.groups, &group, leaving.as_slice(), successes.all);
     let finished = Finished {
         logged: successes.logged,
@@ -88,22 +88,22 @@ struct Successes {
 /// Logs each success that wasn't noted. Returns how many, and whether all integrations succeeded.
 fn log_rest(
     log: &mut NfLog<GroupName, Labels>,
-    asked: Vec<Asked>,
+    notified: Vec<Notified>,
     outcomes: &[(u32, Outcome)],
     kept_for: u64,
     t: u64,
 ) -> Successes
-    requires known { All (λ a. IsTrue (is_known same_name log.old a.key)) asked.items }
+    requires known { All (λ a. IsTrue (is_known same_name log.old a.key)) notified.items }
     requires fits { t + kept_for < 2 ^ 64 }
     ensures known { KnowTheSame log.new log.old }
-    ensures count { result.logged ≡ length (logged_of outcomes.now asked.items) }
-    ensures all { result.all ≡ list_all (λ a. succeeds outcomes.now (asked_state_of a)) asked.items }
-    ensures rows { (f : OpenFlush) → f.kept_for ≡ kept_for → All (IsAsked log.old f) asked.items
-        → IsPermutation (log_rows log.new) (rows_with f t outcomes.now asked.items (log_rows log.old)) }
+    ensures count { result.logged ≡ length (logged_of outcomes.now notified.items) }
+    ensures all { result.all ≡ list_all (λ a. succeeds outcomes.now (notified_state_of a)) notified.items }
+    ensures rows { (f : OpenFlush) → f.kept_for ≡ kept_for → All (IsNotified log.old f) notified.items
+        → IsPermutation (log_rows log.new) (rows_with f t outcomes.now notified.items (log_rows log.old)) }
 {
     let mut logged: usize = 0;
     let mut all = true;
-    for one in asked {
+    for one in notified {
         if has_succeeded(&one, outcomes) {
             logged += log_one(log, one, kept_for, t);
         } else {
@@ -115,21 +115,22 @@ fn log_rest(
 
 /// Logs the success of a notified integration, unless it was noted. Returns how many rows that
 /// makes.
-fn log_one(log: &mut NfLog<GroupName, Labels>, asked: Asked, kept_for: u64, t: u64) -> usize
-    requires known { IsTrue (is_known same_name log.old asked.key) }
+fn log_one(log: &mut NfLog<GroupName, Labels>, notified: Notified, kept_for: u64, t: u64) -> usize
+    requires known { IsTrue (is_known same_name log.old notified.key) }
     requires fits { t + kept_for < 2 ^ 64 }
     ensures known { KnowTheSame log.new log.old }
-    ensures count { (outcomes : List (ℕ × Outcome)) → IsTrue (succeeds outcomes (asked_state_of asked))
-        → result ≡ length (logged_of outcomes (asked ∷ [])) }
-    ensures rows { (outcomes : List (ℕ × Outcome)) → IsTrue (succeeds outcomes (asked_state_of asked))
-        → (f : OpenFlush) → f.kept_for ≡ kept_for → IsAsked log.old f asked → (rows : List RowView) → IsPermutation (log_rows log.old) rows
-        → IsPermutation (log_rows log.new) (rows_with f t outcomes (asked ∷ []) rows) }
+    ensures count { (outcomes : List (ℕ × Outcome)) → IsTrue (succeeds outcomes (notified_state_of notified))
+        → result ≡ length (logged_of outcomes (notified ∷ [])) }
+    ensures rows { (outcomes : List (ℕ × Outcome)) → IsTrue (succeeds outcomes (notified_state_of notified))
+        → (f : OpenFlush) → f.kept_for ≡ kept_for → IsNotified log.old f notified
+        → (rows : List RowView) → IsPermutation (log_rows log.old) rows
+        → IsPermutation (log_rows log.new) (rows_with f t outcomes (notified ∷ []) rows) }
 {
-    let Asked {
+    let Notified {
         key,
         nothing: _,
         sets,
-    } = asked;
+    } = notified;
     match sets {
         Some(sets) => {
             log_sets(log, &key, sets, kept_for, t);
@@ -198,12 +199,12 @@ pub(crate) fn take_leaving(group: &mut Group, leaving: &[LeavingAlert]) -> usize
 }
 
 /// Returns whether a notified integration succeeded.
-fn has_succeeded(asked: &Asked, outcomes: &[(u32, Outcome)]) -> bool
-    ensures { result ≡ succeeds outcomes.now (asked_state_of asked.now) }
+fn has_succeeded(notified: &Notified, outcomes: &[(u32, Outcome)]) -> bool
+    ensures { result ≡ succeeds outcomes.now (notified_state_of notified.now) }
 {
-    asked.sets.is_none()
-        || asked.nothing
-        || is_delivered(outcome_of(outcomes, asked.key.integration))
+    notified.sets.is_none()
+        || notified.nothing
+        || is_delivered(outcome_of(outcomes, notified.key.integration))
 }
 
 /// Returns whether an outcome is Delivered.

@@ -25,7 +25,7 @@ pub(crate) struct AlertSets {
 
 /// An integration that a flush notifies, with what its log row will have, until it is noted.
 #[derive(Drop)]
-pub(crate) struct Asked {
+pub(crate) struct Notified {
     pub(crate) key: LogKey<GroupName>,
     pub(crate) nothing: bool,
     pub(crate) sets: Option<AlertSets>,
@@ -45,7 +45,7 @@ pub(crate) struct OpenFlush {
     pub(crate) group: GroupName,
     /// How long the rows of this flush stay in the log, in milliseconds.
     pub(crate) kept_for: u64,
-    pub(crate) asked: Vec<Asked>,
+    pub(crate) notified: Vec<Notified>,
     pub(crate) sets: AlertSets,
     pub(crate) leaving: Vec<LeavingAlert>,
 }
@@ -64,11 +64,11 @@ impl AlertSets {
     /// Returns the log row of an integration that was notified of these label sets at `t`.
     pub(crate) fn into_row(self, t: u64, kept_for: u64) -> LogRow<Labels>
         ensures { t + kept_for < 2 ^ 64
-            → result ≡ record { moment = t; firing = self.firing; resolved = self.resolved; expiry = t + kept_for } }
+            → result ≡ record { time = t; firing = self.firing; resolved = self.resolved; expiry = t + kept_for } }
     {
         let AlertSets { firing, resolved } = self;
         LogRow {
-            moment: t,
+            time: t,
             firing,
             resolved,
             expiry: t.saturating_add(kept_for),
@@ -76,7 +76,7 @@ impl AlertSets {
     }
 }
 
-/// The place of the open flush of this number. Numbers are distinct.
+/// The index of the open flush of this number. Numbers are distinct.
 ///
 /// Numbers rise, so a search by halves finds it. No proof relies on that: where the search finds
 /// none, all are walked over.
@@ -91,7 +91,7 @@ pub(crate) fn find_flush(flushes: &[OpenFlush], number: u64) -> Option<usize>
     }
 }
 
-/// A place of a flush of this number, if a search by halves comes to one.
+/// An index of a flush of this number, if a search by halves comes to one.
 fn find_by_halves(flushes: &[OpenFlush], number: u64) -> Option<usize>
     ensures within { IfSome result (λ i. i < length flushes.now) }
     ensures number { IfSome result (λ i. (d : OpenFlush) → (slice_index_or flushes.now i d).number ≡ number) }
@@ -113,12 +113,12 @@ fn find_by_halves(flushes: &[OpenFlush], number: u64) -> Option<usize>
     None
 }
 
-/// Returns the place of this integration among those of a flush.
-pub(crate) fn find_asked(asked: &[Asked], integration: u32) -> Option<usize>
-    ensures within { IfSome result (λ i. i < length asked.now) }
-    ensures first { result ≡ position (λ a. a.key.integration == integration) asked.now }
+/// Returns the index of this integration among those of a flush.
+pub(crate) fn find_notified(notified: &[Notified], integration: u32) -> Option<usize>
+    ensures within { IfSome result (λ i. i < length notified.now) }
+    ensures first { result ≡ position (λ a. a.key.integration == integration) notified.now }
 {
-    asked
+    notified
         .iter()
-        .position(|asked| asked.key.integration == integration)
+        .position(|notified| notified.key.integration == integration)
 }

@@ -61,7 +61,7 @@ pub(crate) fn forget_idle(
     let flushing = flushing_groups(alloc, state.flushes.as_slice())?;
     state.history.reserve(state.flushes.len() + 1)?;
 
-    let t = state.moment(now);
+    let t = state.time(now);
     state.clock = t;
     destinations.drop_idle(state.known.as_slice(), &grouped, t);
     let forgotten = Forgotten {
@@ -77,7 +77,7 @@ pub(crate) fn forget_idle(
 
 /// Makes the index of sources anew, if `gone` isn't zero.
 ///
-/// It goes by the places of known alerts. Where memory for it is refused a later insert completes
+/// It goes by the indexes of known alerts. Where memory for it is refused a later insert completes
 /// it.
 pub(crate) fn renew(
     alloc: Global,

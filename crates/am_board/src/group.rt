@@ -4,7 +4,7 @@ ghost use Rattle.std.specs.List.{IsDistinct};
 ghost use Rattle.am_model.specs.Begin.{count_resolved, without_resolved};
 ghost use Rattle.am_board.specs.Group.{Fits, IsReserved, label_sets};
 ghost use Rattle.am_board.specs.Inserting.{stamped_alert};
-ghost use Rattle.am_board.specs.Members.{place_of};
+ghost use Rattle.am_board.specs.Members.{index_of};
 ghost use Rattle.am_model.specs.Insert.{same_member, wait_of, group_with};
 ghost use Rattle.am_board.specs.Refinement.{member_state, group_state};
 ghost use Rattle.am_model.specs.declared.config.Config.{Config};
@@ -56,11 +56,11 @@ impl Group {
         self.hasten(started, wait, t);
     }
 
-    /// Writes an alert with its stamp in place of the one with its labels, which stands at a place.
+    /// Writes an alert with its stamp in place of the one with its labels, which is at an index.
     ///
     /// An alert whose wait is over makes the group due at `t`, if it wasn't flushed.
     pub(crate) fn replace(&mut self, j: usize, alert: Alert, stamp: u64, wait: u64, t: u64)
-        requires place { place_of alert.labels self.old.members.items ≡ Some j }
+        requires index { index_of alert.labels self.old.members.items ≡ Some j }
         requires within { j < length self.old.members.items }
         ensures name { self.new.name ≡ self.old.name }
         ensures opened { self.new.is_open ≡ self.old.is_open }

@@ -2,7 +2,7 @@
 //! `maintain` change it.
 //!
 //! Contracts see the list of groups in the order in which they were made. A call changes one group
-//! at a place (`Changes` in specs/Group.antt), never its name. Invariant: each group is under its
+//! at an index (`Changes` in specs/Group.antt), never its name. Invariant: each group is under its
 //! name, which no other group has. While the set of due times is complete, it has the key of each
 //! group.
 //!
@@ -73,7 +73,7 @@ impl Groups {
         self.groups.values().as_slice()
     }
 
-    /// The group at a place.
+    /// The group at an index.
     pub(crate) fn at(&self, i: usize) -> &Group
         requires { i < length self.now.items }
         ensures { result.now ≡ slice_index_or self.now.items i result.now }

@@ -9,7 +9,7 @@
 //! for the name cache. Then, if no limit is passed, comes the capacity of the history, the known
 //! alerts, the groups and each group (`reserve_insert`).
 //! From the first change on nothing can fail. Groups are added last, and no two routes have one
-//! group, so no place that was found moves, and each group needs capacity for one alert. At the end
+//! group, so no index that was found moves, and each group needs capacity for one alert. At the end
 //! the names are cached, if memory allows. `Board::insert` then has a new label set learned by the
 //! index of sources, if memory allows.
 //!
@@ -20,18 +20,18 @@ ghost use Rattle.std.specs.Prelude.{IfSome, IfOk, IfErr, OnOk, MatchResult, vec_
 ghost use Rattle.am_alerts.specs.RoutingTree.{RoutingTree, last_of, routes_of};
 ghost use Rattle.am_board.specs.GroupNameCache.{AreKept};
 ghost use Rattle.am_board.specs.Group.{names_of, AreRouted, AddsAtMost, HasRoom};
-ghost use Rattle.am_model.specs.Causes.{insert_cause, is_full, is_name_too_many};
+ghost use Rattle.am_model.specs.Causes.{insert_cause, is_full, is_alert_too_many};
 ghost use Rattle.am_model.specs.Records.{entry};
 ghost use Rattle.am_model.specs.Insert.{same_alert, put_into_group, names_for, after_insert};
 ghost use Rattle.am_board.specs.Refinement.{state_of, group_state};
 ghost use Rattle.am_board.specs.Marks.{is_marked, marks_of};
 ghost use Rattle.am_board.specs.Step.{MAX_CALLS, StateInvariant, AppliesCall, LeavesUnchanged, IsAnswer};
 ghost use Rattle.std.specs.List.{IsDistinct};
-ghost use Rattle.am_board.specs.Inserting.{IsFound, AreFound, AreApart, IsToPut, place_in, target_of};
+ghost use Rattle.am_board.specs.Inserting.{IsFound, AreFound, AreApart, IsToPut, index_in, target_of};
 ghost use Rattle.am_board.specs.Inserting.{IsReservedState, IsReadyFor, IsEmptyWithRoom, HaveRoom};
 ghost use Rattle.am_board.specs.Inserting.{AreRoutedPlacements, IsPlacementOf, IsWhereToPut, name_at, stamped_alert};
 ghost use Rattle.am_model.specs.State.{MemberState, same_name};
-ghost use Rattle.am_alerts.specs.declared.limits.TheConstants.{MAX_MOMENT};
+ghost use Rattle.am_alerts.specs.declared.limits.TheConstants.{MAX_TIME};
 ghost use Rattle.am_model.specs.declared.config.Config.{Config};
 ghost use Rattle.am_model.specs.declared.group.GroupName.{GroupName};
 
@@ -56,16 +56,16 @@ use std::alloc::{AllocError, Global};
 #[derive(Drop)]
 pub(crate) struct Target {
     pub(crate) name: GroupName,
-    /// The place of the group, where it is there.
-    pub(crate) place: Option<usize>,
+    /// The index of the group, where it is there.
+    pub(crate) index: Option<usize>,
 }
 
 /// What an insert puts into one group.
 #[derive(Drop)]
 pub(crate) struct Placement {
     pub(crate) name: GroupName,
-    /// The place of the group, where it is there.
-    pub(crate) place: Option<usize>,
+    /// The index of the group, where it is there.
+    pub(crate) index: Option<usize>,
     /// The name once more, as the table's key, for a group that has to be made.
     pub(crate) key: GroupName,
     /// The labels of the alert, as the table's key.
@@ -80,8 +80,8 @@ pub(crate) struct Placement {
 /// What an insert finds before it changes anything.
 #[derive(Drop)]
 pub(crate) struct Found {
-    /// The place of the known alert with its labels, if there is one.
-    pub(crate) place: Option<usize>,
+    /// The index of the known alert with its labels, if there is one.
+    pub(crate) index: Option<usize>,
     /// What it puts into each of the alert's groups, in the order of its routes.
     pub(crate) placements: Vec<Placement>,
 }
@@ -105,10 +105,10 @@ pub(crate) fn put_alert(
         × LeavesUnchanged config.now state.old state.new) }
     ensures kept { AreKept config.now state.new.known.items destinations.new }
 {
-    let place = find_place(config, state, &alert)?;
-    let alert = with_known_labels(alloc, &state.known, place, alert);
-    let kept = destinations.of(place);
-    if let Some(inserted) = put_again(alloc, config, state, place, kept, now, &alert)? {
+    let index = find_index(config, state, &alert)?;
+    let alert = with_known_labels(alloc, &state.known, index, alert);
+    let kept = destinations.of(index);
+    if let Some(inserted) = put_again(alloc, config, state, index, kept, now, &alert)? {
         state.history.push_reserved(Record {
             pass,
             call: Call::Insert { now, alert },
@@ -116,7 +116,7 @@ pub(crate) fn put_alert(
         });
         return Ok(inserted);
     }
-    put_routed(alloc, config, state, destinations, place, pass, now, alert)
+    put_routed(alloc, config, state, destinations, index, pass, now, alert)
 }
 
 /// Adds an alert to the known ones and to the groups of its routes, which are looked for first, and
@@ -126,17 +126,17 @@ fn put_routed(
     config: &Config,
     state: &mut State,
     destinations: &mut GroupNameCache,
-    place: Option<usize>,
+    index: Option<usize>,
     pass: u32,
     now: u64,
     alert: Alert,
 ) -> Result<Inserted, Fault>
     requires good { StateInvariant config.now state.old }
     requires kept { AreKept config.now state.old.known.items destinations.old }
-    requires place { place ≡ position (same_alert alert) state.old.known.items }
-    requires within { IfSome place (λ i. i < length state.old.known.items) }
+    requires index { index ≡ position (same_alert alert) state.old.known.items }
+    requires within { IfSome index (λ i. i < length state.old.known.items) }
     requires room { is_full config.now (vec_len state.old.history) (state_of state.old) 1 ≡ false }
-    requires names { is_name_too_many config.now (state_of state.old) alert ≡ false }
+    requires names { is_alert_too_many config.now (state_of state.old) alert ≡ false }
     ensures put { MatchResult result
         (λ inserted. (insert_cause config.now (vec_len state.old.history) (state_of state.old) alert ≡ None)
         × ((id : ℕ) → AppliesCall config.now id (entry pass (Call.Insert now alert) (Reply.Inserted inserted)) state.old state.new))
@@ -144,12 +144,12 @@ fn put_routed(
         × LeavesUnchanged config.now state.old state.new) }
     ensures kept { AreKept config.now state.new.known.items destinations.new }
 {
-    let kept = destinations.of(place);
+    let kept = destinations.of(index);
     let stamp = state.inserts + 1;
     let placements = find_placements(alloc, config, &state.groups, kept, &alert, stamp)?;
     let names = new_names(alloc, kept, placements.as_slice());
-    let number = place.unwrap_or(state.known.len());
-    let found = Found { place, placements };
+    let number = index.unwrap_or(state.known.len());
+    let found = Found { index, placements };
     let inserted = put_found(alloc, config, state, found, pass, now, alert);
     if inserted.is_ok() {
         destinations.keep(number, names);
@@ -157,15 +157,15 @@ fn put_routed(
     inserted
 }
 
-/// Returns the alert with the label set of the known alert at a place, if there is one.
+/// Returns the alert with the label set of the known alert at an index, if there is one.
 ///
 /// The two label sets are equal. So the record and all copies of the alert share one in memory.
-fn with_known_labels(alloc: Global, known: &Known, place: Option<usize>, alert: Alert) -> Alert
-    requires place { place ≡ position (same_alert alert) known.now.items }
-    requires within { IfSome place (λ i. i < length known.now.items) }
+fn with_known_labels(alloc: Global, known: &Known, index: Option<usize>, alert: Alert) -> Alert
+    requires index { index ≡ position (same_alert alert) known.now.items }
+    requires within { IfSome index (λ i. i < length known.now.items) }
     ensures { result ≡ alert }
 {
-    let Some(i) = place else {
+    let Some(i) = index else {
         return alert;
     };
     let Ok(labels) = known.at(i).labels().copy(alloc) else {
@@ -192,8 +192,8 @@ fn put_found(
         (λ fault. IsAnswer (insert_cause config.now (vec_len state.old.history) (state_of state.old) alert) fault
         × LeavesUnchanged config.now state.old state.new) }
 {
-    let Found { place, placements } = found;
-    let t = state.moment(now);
+    let Found { index, placements } = found;
+    let t = state.time(now);
     let stamp = state.inserts + 1;
     let made = count_missing(placements.as_slice());
     if state.groups.len() + made > config.limits.groups {
@@ -208,31 +208,31 @@ fn put_found(
         groups: placements.len(),
         made,
     };
-    put_prepared(state, t, place, labels, copy, placements);
+    put_prepared(state, t, index, labels, copy, placements);
     let call = Call::Insert { now, alert };
     let reply = Reply::Inserted(inserted);
     state.history.push_reserved(Record { pass, call, reply });
     Ok(inserted)
 }
 
-/// Returns the place of the known alert with these labels, if there is one.
+/// Returns the index of the known alert with these labels, if there is one.
 ///
 /// Fails where the history has no capacity, or where the labels are new and the limit is reached.
-fn find_place(config: &Config, state: &State, alert: &Alert) -> Result<Option<usize>, Fault>
-    ensures place { IfOk result (λ place. place ≡ position (same_alert alert.now) state.now.known.items) }
-    ensures within { IfOk result (λ place. IfSome place (λ i. i < length state.now.known.items)) }
+fn find_index(config: &Config, state: &State, alert: &Alert) -> Result<Option<usize>, Fault>
+    ensures index { IfOk result (λ index. index ≡ position (same_alert alert.now) state.now.known.items) }
+    ensures within { IfOk result (λ index. IfSome index (λ i. i < length state.now.known.items)) }
     ensures room { OnOk result (is_full config.now (vec_len state.now.history) (state_of state.now) 1 ≡ false) }
-    ensures names { OnOk result (is_name_too_many config.now (state_of state.now) alert.now ≡ false) }
+    ensures names { OnOk result (is_alert_too_many config.now (state_of state.now) alert.now ≡ false) }
     ensures refused { IfErr result (IsAnswer (insert_cause config.now (vec_len state.now.history) (state_of state.now) alert.now)) }
 {
     if !state.has_room(1, config.limits.history) {
         return Err(Fault::HistoryFull);
     }
-    let place = state.known.find(alert.labels());
-    if place.is_none() && state.known.len() >= config.limits.names {
-        return Err(Fault::TooManyNames);
+    let index = state.known.find(alert.labels());
+    if index.is_none() && state.known.len() >= config.limits.alerts {
+        return Err(Fault::TooManyAlerts);
     }
-    Ok(place)
+    Ok(index)
 }
 
 /// Adds an alert to the known ones and to its groups. All memory is reserved.
@@ -245,7 +245,7 @@ fn put_prepared(
     placements: Vec<Placement>,
 )
     requires labels { labels ≡ alert.labels }
-    requires place { known ≡ position (same_alert alert) state.old.known.items }
+    requires index { known ≡ position (same_alert alert) state.old.known.items }
     requires within { IfSome known (λ i. i < length state.old.known.items) }
     requires inserts { state.old.inserts ≤ MAX_CALLS }
     requires ready { IsReadyFor state.old placements.items }
@@ -258,7 +258,7 @@ fn put_prepared(
     ensures routed { (tree : RoutingTree) → AreRouted tree (names_of state.old.groups.items)
         → AreRoutedPlacements tree placements.items → AreRouted tree (names_of state.new.groups.items) }
     ensures marks { (name : GroupName) → is_marked (marks_of state.new.groups.items) name ≡ is_marked (marks_of state.old.groups.items) name }
-    ensures state { (config : Config) → t ≤ MAX_MOMENT
+    ensures state { (config : Config) → t ≤ MAX_TIME
         → All (IsPlacementOf config.routes (stamped_alert alert (state.old.inserts + 1))) placements.items
         → map (λ p. p.name) placements.items ≡ names_for config alert.labels
         → state_of state.new ≡ after_insert config (state_of state.old) t alert }
@@ -266,7 +266,7 @@ fn put_prepared(
     state.clock = t;
     state.inserts += 1;
     state.known.put(known, labels, alert);
-    place_all(&mut state.groups, placements, t);
+    put_placements(&mut state.groups, placements, t);
 }
 
 /// Reserves memory for an insert, and for the finish of each open flush.
@@ -326,9 +326,9 @@ fn find_named(
 {
     let mut placements = Vec::with_capacity(alloc, names.len())?;
     for name in names {
-        let place = groups.find(name);
+        let index = groups.find(name);
         let name = name.copy(alloc)?;
-        let target = Target { name, place };
+        let target = Target { name, index };
         placements.push(prepare(alloc, groups.seed(), routes, target, alert, stamp)?)?;
     }
     Ok(placements)
@@ -372,9 +372,9 @@ fn find_target(
 {
     let labels = routes.group_labels(alloc, route, labels)?;
     let name = GroupName { route, labels };
-    let place = groups.find(&name);
-    let name = own_name(alloc, groups, name, place)?;
-    Ok(Target { name, place })
+    let index = groups.find(&name);
+    let name = own_name(alloc, groups, name, index)?;
+    Ok(Target { name, index })
 }
 
 /// Returns the group's own copy of its name where the group exists, and else this name.
@@ -384,13 +384,13 @@ fn own_name(
     alloc: Global,
     groups: &Groups,
     name: GroupName,
-    place: Option<usize>,
+    index: Option<usize>,
 ) -> Result<GroupName, AllocError>
-    requires place { place ≡ place_in name groups.now.items }
-    requires within { IfSome place (λ i. i < length groups.now.items) }
+    requires index { index ≡ index_in name groups.now.items }
+    requires within { IfSome index (λ i. i < length groups.now.items) }
     ensures { IfOk result (λ own. own ≡ name) }
 {
-    match place {
+    match index {
         Some(i) => groups.at(i).name.copy(alloc),
         None => Ok(name),
     }
@@ -423,11 +423,11 @@ fn names_of(alloc: Global, placements: &[Placement]) -> Result<Sequence<GroupNam
 
 /// How many groups have to be made for these placements.
 fn count_missing(placements: &[Placement]) -> usize
-    ensures { result ≡ count_by (λ p. is_none p.place) placements.now }
+    ensures { result ≡ count_by (λ p. is_none p.index) placements.now }
 {
     placements
         .iter()
-        .filter(|placement| placement.place.is_none())
+        .filter(|placement| placement.index.is_none())
         .count()
 }
 
@@ -445,31 +445,31 @@ fn prepare(
     ensures ready { IfOk result IsEmptyWithRoom }
     ensures placed { IfOk result (IsPlacementOf routes.now (stamped_alert alert.now stamp)) }
 {
-    let Target { name, place } = target;
+    let Target { name, index } = target;
     let alert = alert.copy(alloc)?;
     Ok(Placement {
         key: name.copy(alloc)?,
         labels: alert.labels().copy(alloc)?,
         wait: routes.route(name.route).group_wait,
         name,
-        place,
+        index,
         member: Member {
             alert,
             stamp,
             leaves: false,
         },
-        members: list_for(alloc, seed, place)?,
+        members: list_for(alloc, seed, index)?,
     })
 }
 
 /// Returns the list of a group that has to be made, with capacity for one alert.
 ///
 /// A group that exists needs none.
-fn list_for(alloc: Global, seed: Seed, place: Option<usize>) -> Result<Members, AllocError>
+fn list_for(alloc: Global, seed: Seed, index: Option<usize>) -> Result<Members, AllocError>
     ensures empty { IfOk result (λ members. members.items ≡ []) }
-    ensures room { place ≡ None → IfOk result (λ members. 0 < members.room) }
+    ensures room { index ≡ None → IfOk result (λ members. 0 < members.room) }
 {
-    match place {
+    match index {
         Some(_) => Ok(Members::new(alloc, seed)),
         None => Members::with_capacity(alloc, 1, seed),
     }
@@ -486,13 +486,13 @@ fn reserve_all(groups: &mut Groups, placements: &[Placement]) -> Result<(), Allo
     ensures room { OnOk result (HaveRoom groups.new.items placements.now) }
 {
     for placement in placements {
-        groups.reserve_found(placement.place, 1)?;
+        groups.reserve_found(placement.index, 1)?;
     }
     Ok(())
 }
 
 /// Puts each placement into its group, in their order.
-fn place_all(groups: &mut Groups, mut placements: Vec<Placement>, t: u64)
+fn put_placements(groups: &mut Groups, mut placements: Vec<Placement>, t: u64)
     requires spare { vec_len placements ≤ groups.old.room }
     requires room { HaveRoom groups.old.items placements.items }
     requires ready { All IsEmptyWithRoom placements.items }
@@ -501,18 +501,18 @@ fn place_all(groups: &mut Groups, mut placements: Vec<Placement>, t: u64)
     ensures routed { (tree : RoutingTree) → AreRouted tree (names_of groups.old.items)
         → AreRoutedPlacements tree placements.items → AreRouted tree (names_of groups.new.items) }
     ensures marks { (name : GroupName) → is_marked (marks_of groups.new.items) name ≡ is_marked (marks_of groups.old.items) name }
-    ensures state { (config : Config) (m : MemberState) → t ≤ MAX_MOMENT → All (IsPlacementOf config.routes m) placements.items
+    ensures state { (config : Config) (m : MemberState) → t ≤ MAX_TIME → All (IsPlacementOf config.routes m) placements.items
         → map group_state groups.new.items
         ≡ fold (put_into_group config t m) (map group_state groups.old.items) (map (λ p. p.name) placements.items) }
 {
     placements.reverse();
     while let Some(placement) = placements.pop() {
-        place(groups, placement, t);
+        put_placement(groups, placement, t);
     }
 }
 
 /// Puts a placement into its group, which is made if it is missing.
-fn place(groups: &mut Groups, placement: Placement, t: u64)
+fn put_placement(groups: &mut Groups, placement: Placement, t: u64)
     requires spare { 0 < groups.old.room }
     requires room { HasRoom 1 placement.name groups.old.items }
     requires ready { IsEmptyWithRoom placement }
@@ -522,10 +522,10 @@ fn place(groups: &mut Groups, placement: Placement, t: u64)
     ensures marks { (name : GroupName) → is_marked (marks_of groups.new.items) name ≡ is_marked (marks_of groups.old.items) name }
     ensures others { (name : GroupName) → (name.route == placement.name.route) ≡ false
         → HasRoom 1 name groups.old.items → HasRoom 1 name groups.new.items }
-    ensures state { (config : Config) (m : MemberState) → t ≤ MAX_MOMENT → IsPlacementOf config.routes m placement
+    ensures state { (config : Config) (m : MemberState) → t ≤ MAX_TIME → IsPlacementOf config.routes m placement
         → map group_state groups.new.items ≡ put_into_group config t m (map group_state groups.old.items) placement.name }
 {
-    match placement.place {
+    match placement.index {
         Some(i) => groups.insert(i, placement.labels, placement.member, placement.wait, t),
         None => {
             let mut group = Group {

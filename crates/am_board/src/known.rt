@@ -58,7 +58,7 @@ impl Known {
         self.alerts.values().as_slice()
     }
 
-    /// The alert at a place.
+    /// The alert at an index.
     pub(crate) fn at(&self, i: usize) -> &Alert
         requires { i < length self.now.items }
         ensures { result.now ≡ slice_index_or self.now.items i result.now }
@@ -66,9 +66,9 @@ impl Known {
         &self.as_slice()[i]
     }
 
-    /// The place of the alert with these labels.
+    /// The index of the alert with these labels.
     pub(crate) fn find(&self, labels: &Labels) -> Option<usize>
-        ensures place { result ≡ position (λ a. same_label_set labels.now a.labels) self.now.items }
+        ensures index { result ≡ position (λ a. same_label_set labels.now a.labels) self.now.items }
         ensures within { IfSome result (λ i. i < length self.now.items) }
     {
         self.alerts.get_index_of(labels)
@@ -82,15 +82,15 @@ impl Known {
         self.alerts.reserve(more)
     }
 
-    /// Puts an alert in place of the one that is known at a place, or adds it under its labels.
-    pub(crate) fn put(&mut self, place: Option<usize>, labels: Labels, alert: Alert)
+    /// Puts an alert in place of the one that is known at an index, or adds it under its labels.
+    pub(crate) fn put(&mut self, index: Option<usize>, labels: Labels, alert: Alert)
         requires labels { labels ≡ alert.labels }
-        requires place { place ≡ position (same_alert alert) self.old.items }
-        requires within { IfSome place (λ i. i < length self.old.items) }
+        requires index { index ≡ position (same_alert alert) self.old.items }
+        requires within { IfSome index (λ i. i < length self.old.items) }
         requires room { 0 < self.old.room }
         ensures { self.new.items ≡ upsert same_alert alert self.old.items }
     {
-        match place {
+        match index {
             Some(i) => self.alerts[i] = alert,
             None => {
                 self.alerts.insert(labels, alert).unwrap();
@@ -98,9 +98,9 @@ impl Known {
         }
     }
 
-    /// Puts an alert in place of the one with its labels, which is known at a place.
+    /// Puts an alert in place of the one with its labels, which is known at an index.
     pub(crate) fn replace(&mut self, i: usize, alert: Alert)
-        requires place { Some i ≡ position (same_alert alert) self.old.items }
+        requires index { Some i ≡ position (same_alert alert) self.old.items }
         requires within { i < length self.old.items }
         ensures { self.new.items ≡ upsert same_alert alert self.old.items }
     {

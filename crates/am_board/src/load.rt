@@ -12,7 +12,7 @@ ghost use Rattle.am_model.specs.Begin.{log_row};
 ghost use Rattle.am_model.specs.Finish.{log_with};
 ghost use Rattle.am_model.specs.Load.{has_integration, is_ordered, is_put, loaded};
 ghost use Rattle.am_model.specs.Records.{entry};
-ghost use Rattle.am_model.specs.State.{moment};
+ghost use Rattle.am_model.specs.State.{time};
 ghost use Rattle.am_board.specs.Loading.{key_of, KnowsNoLess};
 ghost use Rattle.am_board.specs.LogRows.{log_rows};
 ghost use Rattle.am_board.specs.Refinement.{state_of};
@@ -40,13 +40,13 @@ pub(crate) fn load_row(
 ) -> Result<Loaded, LoadFault>
     requires good { StateInvariant config.now state.old }
     ensures { MatchResult result
-        (λ loaded. (load_cause config.now (vec_len state.old.history) (state_of state.old) (moment (state_of state.old) now) row ≡ None)
+        (λ loaded. (load_cause config.now (vec_len state.old.history) (state_of state.old) (time (state_of state.old) now) row ≡ None)
         × ((id : ℕ) → AppliesCall config.now id (entry pass (Call.Load now row) (Reply.Loaded loaded)) state.old state.new))
         (λ fault. IsLoadAnswer
-        (load_cause config.now (vec_len state.old.history) (state_of state.old) (moment (state_of state.old) now) row) fault
+        (load_cause config.now (vec_len state.old.history) (state_of state.old) (time (state_of state.old) now) row) fault
         × LeavesUnchanged config.now state.old state.new) }
 {
-    let t = state.moment(now);
+    let t = state.time(now);
     check_row(config, &row, t)?;
     if !state.has_room(1, config.limits.history) {
         return Err(LoadFault::HistoryFull);
@@ -76,7 +76,7 @@ fn check_row(config: &Config, row: &RowView, t: u64) -> Result<(), LoadFault>
     if !(is_ascending(row.firing.as_slice()) && is_ascending(row.resolved.as_slice())) {
         return Err(LoadFault::Unordered);
     }
-    if row.moment > t {
+    if row.time > t {
         return Err(LoadFault::Ahead);
     }
     Ok(())
@@ -118,7 +118,7 @@ fn logged_of(alloc: Global, row: &RowView) -> Result<LogRow<Labels>, AllocError>
     ensures { IfOk result (λ logged. logged ≡ log_row row.now) }
 {
     Ok(LogRow {
-        moment: row.moment,
+        time: row.time,
         firing: Members::new(alloc, row.firing.copy(alloc)?.into_vec())?,
         resolved: Members::new(alloc, row.resolved.copy(alloc)?.into_vec())?,
         expiry: row.expiry,

@@ -30,10 +30,10 @@ pub(crate) fn sweep(
     }
     state.history.reserve(state.flushes.len() + 1)?;
 
-    let t = state.moment(now);
+    let t = state.time(now);
     state.clock = t;
     let maintained = Maintained {
-        groups: state.groups.drop_deserted(),
+        groups: state.groups.drop_empty(),
         entries: state.log.collect(t),
     };
     let call = Call::Maintain { now };

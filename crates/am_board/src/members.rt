@@ -11,19 +11,19 @@ ghost use Rattle.am_alerts.specs.AlertData.{is_resolved};
 ghost use Rattle.am_model.specs.Finish.{is_leaving};
 ghost use Rattle.am_model.specs.Insert.{same_member};
 ghost use Rattle.am_model.specs.Lists.{changed_where, upsert, without};
-ghost use Rattle.am_board.specs.Finishing.{marked, stands_as};
+ghost use Rattle.am_board.specs.Finishing.{marked, is_same_as};
 ghost use Rattle.am_board.specs.Inserting.{stamped_alert};
 ghost use Rattle.am_board.specs.Keyed.{AreKeyed};
 ghost use Rattle.am_board.specs.Refinement.{member_state, stamped};
-ghost use Rattle.am_board.specs.Members.{AreMembers, labels_of, place_of};
-ghost use Rattle.am_board.specs.Order.{places_in_order};
+ghost use Rattle.am_board.specs.Members.{AreMembers, labels_of, index_of};
+ghost use Rattle.am_board.specs.Order.{indexes_in_order};
 
 use crate::flush::LeavingAlert;
 use crate::group::Member;
 use crate::noted::{note_members, noted_in};
 use crate::order::{forget, renew, stored};
 use crate::silences::NotedSilences;
-use crate::unsilenced::NotedPlace;
+use crate::unsilenced::NotedIndex;
 use am_alerts::alert::Alert;
 use am_alerts::labels::Labels;
 use am_seed::Seed;
@@ -35,11 +35,11 @@ use std::marker::Model;
 #[derive(Drop)]
 pub(crate) struct Members {
     members: IndexMap<Labels, Member, Seed>,
-    /// Their places in the order of their labels, without those that came since. Empty after a
+    /// Their indexes in the order of their labels, without those that came since. Empty after a
     /// label set left.
     order: Vec<usize>,
     /// Where those that no silence mutes are noted, in this order.
-    noted: NotedPlace,
+    noted: NotedIndex,
 }
 
 impl Model for Members {
@@ -63,7 +63,7 @@ impl Members {
         Members {
             members: IndexMap::with_hasher(alloc, seed),
             order: Vec::new(alloc),
-            noted: NotedPlace::default(),
+            noted: NotedIndex::default(),
         }
     }
 
@@ -79,7 +79,7 @@ impl Members {
         Ok(Members {
             members: IndexMap::with_capacity_and_hasher(alloc, room, seed)?,
             order: Vec::new(alloc),
-            noted: NotedPlace::default(),
+            noted: NotedIndex::default(),
         })
     }
 
@@ -103,15 +103,15 @@ impl Members {
         self.members.values().as_slice()
     }
 
-    /// The places of the alerts in the order of their labels, if they are stored.
-    pub(crate) fn places(&self) -> Option<&[usize]>
-        ensures { IfSome (option_copied result) (λ places. places ≡ places_in_order (map labels_of self.now.items)) }
+    /// The indexes of the alerts in the order of their labels, if they are stored.
+    pub(crate) fn indexes(&self) -> Option<&[usize]>
+        ensures { IfSome (option_copied result) (λ indexes. indexes ≡ indexes_in_order (map labels_of self.now.items)) }
     {
         stored(self.order.as_slice(), self.as_slice())
     }
 
     /// Where those that no silence mutes are noted, in the order of their labels.
-    pub(crate) fn noted(&self) -> NotedPlace {
+    pub(crate) fn noted(&self) -> NotedIndex {
         self.noted
     }
 
@@ -156,19 +156,19 @@ impl Members {
         self.members.insert(labels, member).unwrap();
     }
 
-    /// The place of the alert with these labels.
+    /// The index of the alert with these labels.
     pub(crate) fn find(&self, labels: &Labels) -> Option<usize>
-        ensures place { result ≡ place_of labels.now self.now.items }
+        ensures index { result ≡ index_of labels.now self.now.items }
         ensures within { IfSome result (λ j. j < length self.now.items) }
     {
         self.members.get_index_of(labels)
     }
 
-    /// Writes an alert with its stamp in place of the one with its labels, which stands at a place.
+    /// Writes an alert with its stamp in place of the one with its labels, which is at an index.
     ///
     /// The label sets stay, and so do the order and what is noted.
     pub(crate) fn replace(&mut self, j: usize, alert: Alert, stamp: u64)
-        requires place { place_of alert.labels self.old.items ≡ Some j }
+        requires index { index_of alert.labels self.old.items ≡ Some j }
         requires within { j < length self.old.items }
         ensures members { map member_state self.new.items
             ≡ upsert same_member (stamped_alert alert stamp) (map member_state self.old.items) }
@@ -251,12 +251,12 @@ fn mark_all(members: &mut IndexMap<Labels, Member, Seed>, leaving: &[LeavingAler
 fn mark(members: &mut IndexMap<Labels, Member, Seed>, found: &LeavingAlert)
     requires { AreKeyed labels_of members.old.entries }
     ensures keyed { AreKeyed labels_of members.new.entries }
-    ensures marked { values_of members.new.entries ≡ changed_where (stands_as found.now) marked (values_of members.old.entries) }
+    ensures marked { values_of members.new.entries ≡ changed_where (is_same_as found.now) marked (values_of members.old.entries) }
 {
-    let Some(place) = members.get_index_of(&found.labels) else {
+    let Some(index) = members.get_index_of(&found.labels) else {
         return;
     };
-    let member = &mut members[place];
+    let member = &mut members[index];
     if found.stamp == member.stamp {
         member.leaves = true;
     }

@@ -1,7 +1,7 @@
-//! The order of a group's alerts by labels, as a list of places. `begin` computes it. `members` drops
+//! The order of a group's alerts by labels, as a list of indexes. `begin` computes it. `members` drops
 //! it when a label set goes.
 //!
-//! A label set that comes is last in the group. Its place isn't in the list until the next begin, which
+//! A label set that comes is last in the group. Its index isn't in the list until the next begin, which
 //! adds it behind the others and sorts. The sort finds that the others are in their order, so they cost
 //! at most two comparisons each. Above 20 alerts it takes a buffer for the time of the sort.
 //!
@@ -13,18 +13,18 @@ ghost use Rattle.am_model.specs.Insert.{same_member};
 ghost use Rattle.am_model.specs.Lists.{in_order};
 ghost use Rattle.am_board.specs.Refinement.{member_state};
 ghost use Rattle.am_board.specs.Members.{labels_of};
-ghost use Rattle.am_board.specs.Order.{AreFirst, ArePlaces, member_cmp, place_cmp, places_in_order};
+ghost use Rattle.am_board.specs.Order.{AreFirst, AreIndexes, member_cmp, index_cmp, indexes_in_order};
 
 use crate::group::Member;
 use am_alerts::labels::Labels;
 use std::alloc::{AllocError, Global};
 use std::cmp::Ordering;
 
-/// Completes the places in the order of labels. Where memory is refused, none is there.
+/// Completes the indexes in the order of labels. Where memory is refused, none is there.
 pub(crate) fn renew(order: &mut Vec<usize>, members: &[Member])
     requires apart { IsDistinct same_member (map member_state members.now) }
-    requires known { ArePlaces order.old.items members.now }
-    ensures { ArePlaces order.new.items members.now }
+    requires known { AreIndexes order.old.items members.now }
+    ensures { AreIndexes order.new.items members.now }
 {
     if is_whole(order.as_slice(), members) {
         return;
@@ -35,24 +35,24 @@ pub(crate) fn renew(order: &mut Vec<usize>, members: &[Member])
     }
 }
 
-/// Forgets the places. The list keeps its memory, as the group's table does: the next begin fills it.
+/// Forgets the indexes. The list keeps its memory, as the group's table does: the next begin fills it.
 pub(crate) fn forget(order: &mut Vec<usize>)
     ensures { order.new.items ≡ [] }
 {
     order.clear();
 }
 
-/// Whether the place of each alert is there.
+/// Whether the index of each alert is there.
 pub(crate) fn is_whole(order: &[usize], members: &[Member]) -> bool
     ensures { result ≡ (length order.now == length members.now) }
 {
     order.len() == members.len()
 }
 
-/// The places, if all are there.
+/// The indexes, if all are there.
 pub(crate) fn stored<'o>(order: &'o [usize], members: &[Member]) -> Option<&'o [usize]>
-    requires { ArePlaces order.now members.now }
-    ensures { IfSome (option_copied result) (λ places. places ≡ places_in_order (map labels_of members.now)) }
+    requires { AreIndexes order.now members.now }
+    ensures { IfSome (option_copied result) (λ indexes. indexes ≡ indexes_in_order (map labels_of members.now)) }
 {
     if is_whole(order, members) {
         Some(order)
@@ -61,105 +61,105 @@ pub(crate) fn stored<'o>(order: &'o [usize], members: &[Member]) -> Option<&'o [
     }
 }
 
-/// Returns alerts in the order of their labels, by these places or by sorting.
+/// Returns alerts in the order of their labels, by these indexes or by sorting.
 pub(crate) fn ordered<'m>(
     alloc: Global,
     order: &[usize],
     members: &'m [Member],
 ) -> Result<Vec<&'m Member>, AllocError>
     requires apart { IsDistinct same_member (map member_state members.now) }
-    requires known { ArePlaces order.now members.now }
+    requires known { AreIndexes order.now members.now }
     ensures { IfOk result (λ found. map (λ m. m.now) found.items ≡ in_order member_cmp members.now) }
 {
     match stored(order, members) {
-        Some(places) => at_order(alloc, members, places),
+        Some(indexes) => at_order(alloc, members, indexes),
         None => sorted_members(alloc, members),
     }
 }
 
-/// The alerts at their places in the order of their labels.
+/// The alerts at their indexes in the order of their labels.
 fn at_order<'m>(
     alloc: Global,
     members: &'m [Member],
-    places: &[usize],
+    indexes: &[usize],
 ) -> Result<Vec<&'m Member>, AllocError>
-    requires { places.now ≡ places_in_order (map labels_of members.now) }
+    requires { indexes.now ≡ indexes_in_order (map labels_of members.now) }
     ensures { IfOk result (λ found. map (λ m. m.now) found.items ≡ in_order member_cmp members.now) }
 {
-    members_at(alloc, members, places)
+    members_at(alloc, members, indexes)
 }
 
-/// The places of alerts in the order of their labels.
-pub(crate) fn places_in_order(alloc: Global, members: &[Member]) -> Result<Vec<usize>, AllocError>
+/// The indexes of alerts in the order of their labels.
+pub(crate) fn indexes_in_order(alloc: Global, members: &[Member]) -> Result<Vec<usize>, AllocError>
     requires { IsDistinct same_member (map member_state members.now) }
-    ensures { IfOk result (λ places. places.items ≡ places_in_order (map labels_of members.now)) }
+    ensures { IfOk result (λ indexes. indexes.items ≡ indexes_in_order (map labels_of members.now)) }
 {
-    let mut places = Vec::new(alloc);
-    complete(&mut places, members)?;
-    Ok(places)
+    let mut indexes = Vec::new(alloc);
+    complete(&mut indexes, members)?;
+    Ok(indexes)
 }
 
-/// Adds the places that aren't there to those of the first alerts, and sorts all by labels.
-fn complete(places: &mut Vec<usize>, members: &[Member]) -> Result<(), AllocError>
+/// Adds the indexes that aren't there to those of the first alerts, and sorts all by labels.
+fn complete(indexes: &mut Vec<usize>, members: &[Member]) -> Result<(), AllocError>
     requires apart { IsDistinct same_member (map member_state members.now) }
-    requires first { AreFirst places.old.items }
-    requires within { length places.old.items ≤ length members.now }
-    ensures all { OnOk result (IsPermutation (range_with_len 0 (length members.now)) places.new.items) }
-    ensures sorted { OnOk result (places.new.items ≡ places_in_order (map labels_of members.now)) }
+    requires first { AreFirst indexes.old.items }
+    requires within { length indexes.old.items ≤ length members.now }
+    ensures all { OnOk result (IsPermutation (range_with_len 0 (length members.now)) indexes.new.items) }
+    ensures sorted { OnOk result (indexes.new.items ≡ indexes_in_order (map labels_of members.now)) }
 {
-    add_places(places, members.len())?;
-    places.sort_by(|a, b| compare_at(members, *a, *b))?;
+    add_indexes(indexes, members.len())?;
+    indexes.sort_by(|a, b| compare_at(members, *a, *b))?;
     Ok(())
 }
 
-/// Adds the places up to so many.
-fn add_places(places: &mut Vec<usize>, count: usize) -> Result<(), AllocError>
-    requires first { AreFirst places.old.items }
-    requires within { length places.old.items ≤ count }
-    ensures { OnOk result (IsPermutation (range_with_len 0 count) places.new.items) }
+/// Adds the indexes up to so many.
+fn add_indexes(indexes: &mut Vec<usize>, count: usize) -> Result<(), AllocError>
+    requires first { AreFirst indexes.old.items }
+    requires within { length indexes.old.items ≤ count }
+    ensures { OnOk result (IsPermutation (range_with_len 0 count) indexes.new.items) }
 {
-    places.reserve(count.saturating_sub(places.len()))?;
-    for place in places.len()..count {
-        places.push(place)?;
+    indexes.reserve(count.saturating_sub(indexes.len()))?;
+    for index in indexes.len()..count {
+        indexes.push(index)?;
     }
     Ok(())
 }
 
-/// How the labels at two places compare.
+/// How the labels at two indexes compare.
 fn compare_at(members: &[Member], a: usize, b: usize) -> Ordering
-    ensures { result ≡ place_cmp (map labels_of members.now) a b }
+    ensures { result ≡ index_cmp (map labels_of members.now) a b }
 {
     labels_at(members, a).cmp(&labels_at(members, b))
 }
 
-/// The labels of the alert at a place.
-fn labels_at(members: &[Member], place: usize) -> Option<&Labels>
-    ensures { option_copied result ≡ slice_get (map labels_of members.now) place }
+/// The labels of the alert at an index.
+fn labels_at(members: &[Member], index: usize) -> Option<&Labels>
+    ensures { option_copied result ≡ slice_get (map labels_of members.now) index }
 {
-    match members.get(place) {
+    match members.get(index) {
         Some(member) => Some(member.alert.labels()),
         None => None,
     }
 }
 
-/// The alert at a place.
-pub(crate) fn member_at(members: &[Member], place: usize) -> Option<&Member>
-    ensures { option_copied result ≡ slice_get members.now place }
+/// The alert at an index.
+pub(crate) fn member_at(members: &[Member], index: usize) -> Option<&Member>
+    ensures { option_copied result ≡ slice_get members.now index }
 {
-    members.get(place)
+    members.get(index)
 }
 
-/// The alerts at these places, in turn.
+/// The alerts at these indexes, in turn.
 fn members_at<'m>(
     alloc: Global,
     members: &'m [Member],
-    places: &[usize],
+    indexes: &[usize],
 ) -> Result<Vec<&'m Member>, AllocError>
-    ensures { IfOk result (λ found. map (λ m. m.now) found.items ≡ filter_map (slice_get members.now) places.now) }
+    ensures { IfOk result (λ found. map (λ m. m.now) found.items ≡ filter_map (slice_get members.now) indexes.now) }
 {
-    let mut found = Vec::with_capacity(alloc, places.len())?;
-    for place in places {
-        if let Some(member) = member_at(members, *place) {
+    let mut found = Vec::with_capacity(alloc, indexes.len())?;
+    for index in indexes {
+        if let Some(member) = member_at(members, *index) {
             found.push(member)?;
         }
     }
@@ -171,6 +171,6 @@ fn sorted_members<'m>(alloc: Global, members: &'m [Member]) -> Result<Vec<&'m Me
     requires { IsDistinct same_member (map member_state members.now) }
     ensures { IfOk result (λ found. map (λ m. m.now) found.items ≡ in_order member_cmp members.now) }
 {
-    let places = places_in_order(alloc, members)?;
-    at_order(alloc, members, places.as_slice())
+    let indexes = indexes_in_order(alloc, members)?;
+    at_order(alloc, members, indexes.as_slice())
 }

@@ -15,14 +15,14 @@ use am_model::notice::Report;
 use am_model::record::Finished;
 use std::marker::Model;
 
-/// A ticket of the board whose id is `HOME`. Contracts see the ticket.
+/// A ticket of the board whose id is `BOARD_ID`. Contracts see the ticket.
 ///
 /// It can be kept in a vector. It must be finished, by `Board::finish_own` alone, which has no `Foreign`.
-pub struct OwnTicket<const HOME: u64> {
+pub struct OwnTicket<const BOARD_ID: u64> {
     ticket: Ticket,
 }
 
-impl<const HOME: u64> Model for OwnTicket<HOME> {
+impl<const BOARD_ID: u64> Model for OwnTicket<BOARD_ID> {
     ghost use Rattle.std.specs.Prelude.{◌≡◌};
     ghost use Rattle.am_model.specs.Ticket.{TicketData};
 
@@ -30,15 +30,15 @@ impl<const HOME: u64> Model for OwnTicket<HOME> {
 
     ghost view = { λ own. own.ticket };
 
-    ghost invariant = { λ own. own.ticket.desk ≡ HOME };
+    ghost invariant = { λ own. own.ticket.board_id ≡ BOARD_ID };
 }
 
-impl<const HOME: u64> OwnTicket<HOME> {
+impl<const BOARD_ID: u64> OwnTicket<BOARD_ID> {
     /// Returns the own ticket of a ticket of this board.
     ///
     /// Clause `fresh` of `Board::begin` shows that a ticket is the board's.
-    pub fn new(ticket: Ticket) -> OwnTicket<HOME>
-        requires { ticket.desk ≡ HOME }
+    pub fn new(ticket: Ticket) -> OwnTicket<BOARD_ID>
+        requires { ticket.board_id ≡ BOARD_ID }
         ensures { result ≡ ticket }
     {
         OwnTicket { ticket }
@@ -47,7 +47,7 @@ impl<const HOME: u64> OwnTicket<HOME> {
     /// Returns the ticket, to be read or noted.
     pub fn ticket(&self) -> &Ticket
         ensures ticket { result.now ≡ self.now }
-        ensures ours { result.now.desk ≡ HOME }
+        ensures ours { result.now.board_id ≡ BOARD_ID }
     {
         &self.ticket
     }
@@ -69,7 +69,7 @@ impl<const HOME: u64> OwnTicket<HOME> {
     /// Returns the ticket, for `Board::finish`.
     pub fn into_ticket(self) -> Ticket
         ensures ticket { result ≡ self.entry }
-        ensures ours { result.desk ≡ HOME }
+        ensures ours { result.board_id ≡ BOARD_ID }
     {
         let OwnTicket { ticket } = self;
         ticket
@@ -82,13 +82,13 @@ impl Board {
     /// # Errors
     ///
     /// `NotOpen` alone: no open flush has the ticket's number. Nothing changed, and the ticket is spent.
-    pub fn finish_own<const HOME: u64>(
+    pub fn finish_own<const BOARD_ID: u64>(
         &mut self,
         pass: u32,
-        own: OwnTicket<HOME>,
+        own: OwnTicket<BOARD_ID>,
         now: u64,
     ) -> Result<Finished, NotOpen>
-        requires { self.old.id ≡ HOME }
+        requires { self.old.id ≡ BOARD_ID }
         ensures recorded { IfOk result (λ finished.
             self.new ≡ with_record self.old (entry pass (Call.Finish now own.entry.number own.entry.outcomes) (Reply.Finished finished))) }
         ensures reply { IfOk result

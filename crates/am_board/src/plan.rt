@@ -1,5 +1,5 @@
 //! The flush to open: all that its begin puts into the board and its ticket. `begin` calls `plan`. A
-//! begin with its preview calls `plan_asking`, with what the preview found.
+//! begin with its preview calls `plan_notifying`, with what the preview found.
 //!
 //! Copies are made only where an integration is to be notified. The label sets are made once then:
 //! the open flush and each notified integration share them, so a note or the finish moves them into
@@ -8,9 +8,9 @@ ghost use Rattle.std.specs.Prelude.{◌≡◌, ◌<◌, ◌≤◌, All, IfOk, le
 ghost use Rattle.std.specs.List.{IsDistinct};
 ghost use Rattle.am_mute.specs.Sources.{AreLearnt};
 ghost use Rattle.am_alerts.specs.RoutingTree.{last_of};
-ghost use Rattle.am_model.specs.Begin.{asked_of};
+ghost use Rattle.am_model.specs.Begin.{notified_of};
 ghost use Rattle.am_model.specs.Configured.{HaveFewIntegrations};
-ghost use Rattle.am_board.specs.Beginning.{AreRising, IsFlushAsking, IsUnmuted, alert_sets_of, asked_for_update};
+ghost use Rattle.am_board.specs.Beginning.{AreRising, IsFlushNotifying, IsUnmuted, alert_sets_of, notified_for_update};
 ghost use Rattle.am_board.specs.Beginning.{update_of, notice_of_update, IsPlannedFlush, IsPlan, copies_of};
 ghost use Rattle.am_model.specs.Insert.{same_member};
 ghost use Rattle.am_board.specs.LogRows.{log_rows};
@@ -21,14 +21,14 @@ use crate::begin::{ChosenGroup, MIN_FLUSH_TIMEOUT};
 use crate::config::Config;
 use crate::dedup::{Update, decide};
 use crate::fault::Fault;
-use crate::flush::{AlertSets, Asked, OpenFlush};
+use crate::flush::{AlertSets, Notified, OpenFlush};
 use crate::group::{Group, GroupName};
 use crate::notice::{MAX_DEADLINE, Notice};
 use crate::record::Opened;
 use crate::state::State;
 use crate::unmuted::{Unmuted, UnmutedMembers, leaving_at};
 use crate::walk::Walk;
-use am_alerts::limits::MAX_MOMENT;
+use am_alerts::limits::MAX_TIME;
 use am_alerts::sequence::copy_all;
 use am_model::boxed::Boxed;
 use am_mute::sources::Sources;
@@ -62,13 +62,13 @@ pub(crate) fn plan(
 ) -> Result<Option<PlannedFlush>, Fault>
     requires good { StateInvariant config.now state.now }
     requires sources { AreLearnt config.now.rules state.now.known.items sources.now }
-    requires moments { All (λ row. row.moment ≤ MAX_MOMENT) (log_rows state.now.log) }
-    requires place { chosen.place < length state.now.groups.items }
-    requires moment { chosen.t ≤ MAX_MOMENT }
+    requires times { All (λ row. row.time ≤ MAX_TIME) (log_rows state.now.log) }
+    requires index { chosen.index < length state.now.groups.items }
+    requires time { chosen.t ≤ MAX_TIME }
     ensures { (d : Group) → IsPlan config.now id (vec_len state.now.flushes) (state_of state.now) chosen.t
-        (group_state (slice_index_or state.now.groups.items chosen.place d)) result }
+        (group_state (slice_index_or state.now.groups.items chosen.index d)) result }
 {
-    let group = state.groups.at(chosen.place);
+    let group = state.groups.at(chosen.index);
     plan_of(alloc, config, id, state, sources, group, chosen.t)
 }
 
@@ -86,8 +86,8 @@ fn plan_of(
     requires route { group.now.name.route ≤ last_of config.now.routes }
     requires few { HaveFewIntegrations config.now }
     requires apart { IsDistinct same_member (group_state group.now).members }
-    requires moments { All (λ row. row.moment ≤ MAX_MOMENT) (log_rows state.now.log) }
-    requires moment { t ≤ MAX_MOMENT }
+    requires times { All (λ row. row.time ≤ MAX_TIME) (log_rows state.now.log) }
+    requires time { t ≤ MAX_TIME }
     ensures { IsPlan config.now id (vec_len state.now.flushes) (state_of state.now) t (group_state group.now) result }
 {
     if config.route_muted(&group.name, t).is_some() {
@@ -101,37 +101,37 @@ fn plan_of(
         return Ok(None);
     }
     let decided = decide(alloc, config, state, &group.name, None, &unmuted, t)?;
-    let asked = decided.asked.as_slice();
-    plan_asking(alloc, config, id, state, group, &unmuted, asked, t)
+    let notified = decided.notified.as_slice();
+    plan_notifying(alloc, config, id, state, group, &unmuted, notified, t)
 }
 
 /// Returns the flush of a group at `t` that notifies these integrations about what is unmuted, if
 /// there are any. A begin with its preview calls it with what the preview found.
-pub(crate) fn plan_asking(
+pub(crate) fn plan_notifying(
     alloc: Global,
     config: &Config,
     id: u64,
     state: &State,
     group: &Group,
     unmuted: &UnmutedMembers,
-    asked: &[Update],
+    notified: &[Update],
     t: u64,
 ) -> Result<Option<PlannedFlush>, Fault>
     requires route { group.now.name.route ≤ last_of config.now.routes }
-    requires moment { t ≤ MAX_MOMENT }
+    requires time { t ≤ MAX_TIME }
     requires rising { AreRising (copies_of t unmuted.now) }
     requires unmuted { IsUnmuted config.now (state_of state.now) t (group_state group.now) (copies_of t unmuted.now) }
-    requires asked { asked.now ≡ map update_of (asked_of config.now (state_of state.now) t (group_state group.now)) }
+    requires notified { notified.now ≡ map update_of (notified_of config.now (state_of state.now) t (group_state group.now)) }
     ensures { IsPlan config.now id (vec_len state.now.flushes) (state_of state.now) t (group_state group.now) result }
 {
-    if asked.is_empty() {
+    if notified.is_empty() {
         return Ok(None);
     }
     if state.flushes.len() >= config.limits.flushes {
         return Err(Fault::TooManyOpen);
     }
     let copies = unmuted.copies(alloc, t)?;
-    let planned = open(alloc, config, id, state, group, &copies, asked, t)?;
+    let planned = open(alloc, config, id, state, group, &copies, notified, t)?;
     Ok(Some(planned))
 }
 
@@ -143,14 +143,14 @@ fn open(
     state: &State,
     group: &Group,
     unmuted: &Unmuted,
-    asked: &[Update],
+    notified: &[Update],
     t: u64,
 ) -> Result<PlannedFlush, AllocError>
     requires route { group.now.name.route ≤ last_of config.now.routes }
-    requires moment { t ≤ MAX_MOMENT }
+    requires time { t ≤ MAX_TIME }
     requires rising { AreRising unmuted.now }
     requires unmuted { IsUnmuted config.now (state_of state.now) t (group_state group.now) unmuted.now }
-    requires asked { asked.now ≡ map update_of (asked_of config.now (state_of state.now) t (group_state group.now)) }
+    requires notified { notified.now ≡ map update_of (notified_of config.now (state_of state.now) t (group_state group.now)) }
     ensures { IfOk result (IsPlannedFlush config.now id (state_of state.now) t (group_state group.now)) }
 {
     let number = state.next_number;
@@ -159,9 +159,9 @@ fn open(
     let kept_for = config
         .retention
         .min(route.repeat_interval.saturating_mul(2));
-    let notices = notices(alloc, id, number, deadline, &group.name, unmuted, asked)?;
+    let notices = notices(alloc, id, number, deadline, &group.name, unmuted, notified)?;
     Ok(PlannedFlush {
-        flush: flush_of(alloc, number, kept_for, group, unmuted, asked, t)?,
+        flush: flush_of(alloc, number, kept_for, group, unmuted, notified, t)?,
         number,
         deadline,
         group: group.name.copy(alloc)?,
@@ -199,18 +199,18 @@ fn flush_of(
     kept_for: u64,
     group: &Group,
     unmuted: &Unmuted,
-    asked: &[Update],
+    notified: &[Update],
     t: u64,
 ) -> Result<OpenFlush, AllocError>
     requires { AreRising unmuted.now }
-    ensures { IfOk result (IsFlushAsking number kept_for group.now unmuted.now asked.now t) }
+    ensures { IfOk result (IsFlushNotifying number kept_for group.now unmuted.now notified.now t) }
 {
     let sets = unmuted.sets(alloc)?;
     Ok(OpenFlush {
         number,
         group: group.name.copy(alloc)?,
         kept_for,
-        asked: asked_by(alloc, &group.name, unmuted, &sets, asked)?,
+        notified: notified_by(alloc, &group.name, unmuted, &sets, notified)?,
         sets,
         leaving: leaving_at(alloc, group.members.as_slice(), t)?,
     })
@@ -219,20 +219,21 @@ fn flush_of(
 /// Returns a notice for each integration that needs an update.
 fn notices(
     alloc: Global,
-    desk: u64,
+    board_id: u64,
     ticket: u64,
     deadline: u64,
     group: &GroupName,
     unmuted: &Unmuted,
-    asked: &[Update],
+    notified: &[Update],
 ) -> Result<Vec<Notice>, AllocError>
     requires { deadline ≤ MAX_DEADLINE }
-    ensures items { IfOk result (λ notices. notices.items ≡ map (notice_of_update desk ticket deadline group.now unmuted.now) asked.now) }
+    ensures items { IfOk result (λ notices. notices.items ≡
+        map (notice_of_update board_id ticket deadline group.now unmuted.now) notified.now) }
 {
-    let mut notices = Vec::with_capacity(alloc, asked.len())?;
-    for update in asked {
+    let mut notices = Vec::with_capacity(alloc, notified.len())?;
+    for update in notified {
         notices.push(Notice {
-            desk,
+            board_id,
             ticket,
             deadline,
             group: group.copy(alloc)?,
@@ -245,19 +246,19 @@ fn notices(
 }
 
 /// Returns the integrations of a flush, each with what its log row will have.
-fn asked_by(
+fn notified_by(
     alloc: Global,
     group: &GroupName,
     unmuted: &Unmuted,
     sets: &AlertSets,
-    asked: &[Update],
-) -> Result<Vec<Asked>, AllocError>
+    notified: &[Update],
+) -> Result<Vec<Notified>, AllocError>
     requires sets { sets.now ≡ alert_sets_of unmuted.now }
-    ensures { IfOk result (λ all. all.items ≡ map (asked_for_update group.now unmuted.now) asked.now) }
+    ensures { IfOk result (λ all. all.items ≡ map (notified_for_update group.now unmuted.now) notified.now) }
 {
-    let mut all = Vec::with_capacity(alloc, asked.len())?;
-    for update in asked {
-        all.push(Asked {
+    let mut all = Vec::with_capacity(alloc, notified.len())?;
+    for update in notified {
+        all.push(Notified {
             key: LogKey {
                 group: group.copy(alloc)?,
                 integration: update.integration,

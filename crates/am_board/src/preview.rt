@@ -11,7 +11,7 @@ ghost use Rattle.am_board.specs.History.{state_at};
 ghost use Rattle.am_model.specs.Begin.{next_due};
 ghost use Rattle.am_model.specs.Configured.{HaveFewIntegrations, route_muted};
 ghost use Rattle.am_model.specs.Insert.{same_member};
-ghost use Rattle.am_model.specs.State.{moment};
+ghost use Rattle.am_model.specs.State.{time};
 ghost use Rattle.am_model.specs.look_back.Preview.{muted_of, preview, preview_at};
 ghost use Rattle.am_board.specs.Beginning.{IsUnmuted, copies_of};
 ghost use Rattle.am_board.specs.Refinement.{flush_state, group_state, state_of};
@@ -28,7 +28,7 @@ use crate::notice::MAX_DEADLINE;
 use crate::state::State;
 use crate::unmuted::UnmutedMembers;
 use crate::walk::{Walk, in_group_order};
-use am_alerts::limits::MAX_MOMENT;
+use am_alerts::limits::MAX_TIME;
 use am_alerts::sequence::Sequence;
 pub use am_model::preview::{MutedAlert, Preview};
 use am_mute::sources::Sources;
@@ -67,7 +67,7 @@ fn next_due_of(state: &State) -> Option<u64>
 {
     match state.groups.first_due(MAX_DEADLINE) {
         None => None,
-        Some(place) => Some(state.groups.at(place).due),
+        Some(index) => Some(state.groups.at(index).due),
     }
 }
 
@@ -81,14 +81,14 @@ fn preview_of(
 ) -> Result<Option<Preview>, AllocError>
     requires good { StateInvariant config.now state.now }
     requires sources { AreLearnt config.now.rules state.now.known.items sources.now }
-    requires moments { All (λ row. row.moment ≤ MAX_MOMENT) (log_rows state.now.log) }
-    ensures { IfOk result (λ preview. preview ≡ preview_at config.now (state_of state.now) (moment (state_of state.now) now)) }
+    requires times { All (λ row. row.time ≤ MAX_TIME) (log_rows state.now.log) }
+    ensures { IfOk result (λ preview. preview ≡ preview_at config.now (state_of state.now) (time (state_of state.now) now)) }
 {
-    let t = state.moment(now);
-    let Some(place) = state.groups.first_due(t) else {
+    let t = state.time(now);
+    let Some(index) = state.groups.first_due(t) else {
         return Ok(None);
     };
-    let group = state.groups.at(place);
+    let group = state.groups.at(index);
     let found = GroupPreview::of(alloc, config, state, sources, group, t)?;
     Ok(Some(found.preview))
 }
@@ -99,7 +99,7 @@ pub(crate) struct GroupPreview<'m> {
     pub(crate) preview: Preview,
     pub(crate) unmuted: UnmutedMembers<'m>,
     /// The integrations that need an update.
-    pub(crate) asked: Vec<Update>,
+    pub(crate) notified: Vec<Update>,
 }
 
 impl<'m> GroupPreview<'m> {
@@ -116,22 +116,22 @@ impl<'m> GroupPreview<'m> {
         requires route { group.now.name.route ≤ last_of config.now.routes }
         requires few { HaveFewIntegrations config.now }
         requires apart { IsDistinct same_member (group_state group.now).members }
-        requires moments { All (λ row. row.moment ≤ MAX_MOMENT) (log_rows state.now.log) }
+        requires times { All (λ row. row.time ≤ MAX_TIME) (log_rows state.now.log) }
         ensures { IfOk result (IsGroupPreview config.now (state_of state.now) t (group_state group.now)) }
     {
         let until = config.route_muted(&group.name, t);
         let (muted, unmuted) = muted_and_unmuted(alloc, config, state, sources, group, until, t)?;
         let decided = decide(alloc, config, state, &group.name, until, &unmuted, t)?;
-        let Decided { reasons, asked } = decided;
+        let Decided { reasons, notified } = decided;
         Ok(GroupPreview {
             preview: Preview {
-                moment: t,
+                time: t,
                 group: group.name.copy(alloc)?,
                 muted,
                 reasons: Sequence::from(reasons),
             },
             unmuted,
-            asked,
+            notified,
         })
     }
 }

@@ -11,7 +11,7 @@ ghost use Rattle.am_model.specs.Causes.{begin_cause};
 ghost use Rattle.am_model.specs.Configured.{HaveFewIntegrations};
 ghost use Rattle.am_model.specs.Insert.{same_member};
 ghost use Rattle.am_model.specs.Records.{entry};
-ghost use Rattle.am_model.specs.State.{moment};
+ghost use Rattle.am_model.specs.State.{time};
 ghost use Rattle.am_model.specs.look_back.Preview.{preview, preview_at};
 ghost use Rattle.am_board.specs.Beginning.{IsChosen};
 ghost use Rattle.am_board.specs.History.{records_at, reply_of, state_at, with_record, IsFresh, IsReplyAt};
@@ -26,11 +26,11 @@ use crate::board::Board;
 use crate::config::Config;
 use crate::fault::Fault;
 use crate::group::Group;
-use crate::plan::{PlannedFlush, plan_asking};
+use crate::plan::{PlannedFlush, plan_notifying};
 use crate::preview::{GroupPreview, Preview};
 use crate::record::Call;
 use crate::state::State;
-use am_alerts::limits::MAX_MOMENT;
+use am_alerts::limits::MAX_TIME;
 use am_mute::sources::Sources;
 use std::alloc::Global;
 
@@ -52,14 +52,14 @@ impl Board {
         ensures recorded { IfOk result (λ both. self.new ≡ with_record self.old (entry pass (Call.Begin now) (reply_of both.0))) }
         ensures reply { IfOk result (λ both. IsReplyAt self.old (Call.Begin now) (reply_of both.0)) }
         ensures fresh { IfOk result (λ both. IsFresh self.old.id both.0) }
-        ensures cause { let s = state_at self.old in IsCaused (begin_cause self.old.config (records_at self.old) s (moment s now)) result }
+        ensures cause { let s = state_at self.old in IsCaused (begin_cause self.old.config (records_at self.old) s (time s now)) result }
         ensures refused { OnErr result (self.new ≡ self.old) }
     {
-        let desk = self.id;
+        let board_id = self.id;
         take_previewed(
             alloc,
             &self.config,
-            desk,
+            board_id,
             &mut self.state,
             &self.sources,
             pass,
@@ -81,12 +81,12 @@ fn take_previewed(
 ) -> Result<(Begun, Option<Preview>), Fault>
     requires good { StateInvariant config.now state.old }
     requires sources { AreLearnt config.now.rules state.old.known.items sources.now }
-    requires moments { All (λ row. row.moment ≤ MAX_MOMENT) (log_rows state.old.log) }
+    requires times { All (λ row. row.time ≤ MAX_TIME) (log_rows state.old.log) }
     ensures { MatchResult result
-        (λ both. (begin_cause config.now (vec_len state.old.history) (state_of state.old) (moment (state_of state.old) now) ≡ None)
+        (λ both. (begin_cause config.now (vec_len state.old.history) (state_of state.old) (time (state_of state.old) now) ≡ None)
         × AppliesCall config.now id (entry pass (Call.Begin now) (reply_of both.0)) state.old state.new
-        × (IsFresh id both.0 × (both.1 ≡ preview_at config.now (state_of state.old) (moment (state_of state.old) now))))
-        (λ fault. IsAnswer (begin_cause config.now (vec_len state.old.history) (state_of state.old) (moment (state_of state.old) now)) fault
+        × (IsFresh id both.0 × (both.1 ≡ preview_at config.now (state_of state.old) (time (state_of state.old) now))))
+        (λ fault. IsAnswer (begin_cause config.now (vec_len state.old.history) (state_of state.old) (time (state_of state.old) now)) fault
         × LeavesUnchanged config.now state.old state.new) }
 {
     // As of any begin, this comes before memory is allocated.
@@ -94,14 +94,14 @@ fn take_previewed(
         return Err(Fault::HistoryFull);
     }
     let Some(chosen) = choose(config, state, pass, now) else {
-        let t = state.moment(now);
+        let t = state.time(now);
         return match begin_nothing(state, pass, now, t) {
             Ok(begun) => Ok((begun, None)),
             Err(fault) => Err(fault),
         };
     };
-    prepare(alloc, state, chosen.place, chosen.t);
-    let group = state.groups.at(chosen.place);
+    prepare(alloc, state, chosen.index, chosen.t);
+    let group = state.groups.at(chosen.index);
     let found = preview_and_plan(alloc, config, id, state, sources, group, chosen.t)?;
     begin_with(alloc, config, id, state, chosen, found.0, found.1)
 }
@@ -121,18 +121,18 @@ fn preview_and_plan(
     requires route { group.now.name.route ≤ last_of config.now.routes }
     requires few { HaveFewIntegrations config.now }
     requires apart { IsDistinct same_member (group_state group.now).members }
-    requires moments { All (λ row. row.moment ≤ MAX_MOMENT) (log_rows state.now.log) }
-    requires moment { t ≤ MAX_MOMENT }
+    requires times { All (λ row. row.time ≤ MAX_TIME) (log_rows state.now.log) }
+    requires time { t ≤ MAX_TIME }
     ensures { IsPreviewedPlan config.now id (vec_len state.now.flushes) (state_of state.now) t (group_state group.now) result }
 {
     let found = GroupPreview::of(alloc, config, state, sources, group, t)?;
     let GroupPreview {
         preview,
         unmuted,
-        asked,
+        notified,
     } = found;
-    let asked = asked.as_slice();
-    let planned = plan_asking(alloc, config, id, state, group, &unmuted, asked, t)?;
+    let notified = notified.as_slice();
+    let planned = plan_notifying(alloc, config, id, state, group, &unmuted, notified, t)?;
     Ok((preview, planned))
 }
 
@@ -147,16 +147,16 @@ fn begin_with(
     planned: Option<PlannedFlush>,
 ) -> Result<(Begun, Option<Preview>), Fault>
     requires good { StateInvariant config.now state.old }
-    requires place { chosen.place < length state.old.groups.items }
+    requires index { chosen.index < length state.old.groups.items }
     requires room { vec_len state.old.history + vec_len state.old.flushes + 2 ≤ config.now.limits.history }
     requires found { (d : Group) → IsPreviewedPlan config.now id (vec_len state.old.flushes) (state_of state.old) chosen.t
-        (group_state (slice_index_or state.old.groups.items chosen.place d)) (Ok (preview, planned)) }
+        (group_state (slice_index_or state.old.groups.items chosen.index d)) (Ok (preview, planned)) }
     ensures { (g : Group) → IsChosen config.now state.old chosen g → MatchResult result
-        (λ both. (begin_cause config.now (vec_len state.old.history) (state_of state.old) (moment (state_of state.old) chosen.now) ≡ None)
+        (λ both. (begin_cause config.now (vec_len state.old.history) (state_of state.old) (time (state_of state.old) chosen.now) ≡ None)
         × AppliesCall config.now id (entry chosen.pass (Call.Begin chosen.now) (reply_of both.0)) state.old state.new
-        × (IsFresh id both.0 × (both.1 ≡ preview_at config.now (state_of state.old) (moment (state_of state.old) chosen.now))))
+        × (IsFresh id both.0 × (both.1 ≡ preview_at config.now (state_of state.old) (time (state_of state.old) chosen.now))))
         (λ fault. IsAnswer
-        (begin_cause config.now (vec_len state.old.history) (state_of state.old) (moment (state_of state.old) chosen.now)) fault
+        (begin_cause config.now (vec_len state.old.history) (state_of state.old) (time (state_of state.old) chosen.now)) fault
         × LeavesUnchanged config.now state.old state.new) }
 {
     match begin_planned(alloc, id, state, chosen, planned) {

@@ -8,7 +8,7 @@ ghost use Rattle.am_model.specs.Records.{entry, call_of_silence};
 ghost use Rattle.am_board.specs.Refinement.{state_of};
 ghost use Rattle.am_model.specs.Lists.{upsert};
 ghost use Rattle.am_board.specs.Step.{StateInvariant, AppliesCall, LeavesUnchanged, IsAnswer};
-ghost use Rattle.am_model.specs.Upkeep.{same_silence};
+ghost use Rattle.am_model.specs.Maintenance.{same_silence};
 
 use crate::config::Config;
 use crate::fault::Fault;
@@ -37,7 +37,7 @@ pub(crate) fn put_silence(
         (λ fault. IsAnswer (silence_cause config.now (vec_len state.old.history) (state_of state.old) silence) fault
         × LeavesUnchanged config.now state.old state.new) }
 {
-    let place = place_for(config, state, silence.id())?;
+    let index = index_for(config, state, silence.id())?;
     let call = Call::Silence {
         now,
         id: silence.id(),
@@ -49,17 +49,17 @@ pub(crate) fn put_silence(
     state.silences.reserve(1)?;
 
     let silenced = Silenced {
-        replaced: place.is_some(),
+        replaced: index.is_some(),
     };
-    state.clock = state.moment(now);
-    keep_silence(alloc, &mut state.silences, place, silence);
+    state.clock = state.time(now);
+    keep_silence(alloc, &mut state.silences, index, silence);
     let reply = Reply::Silenced(silenced);
     state.history.push_reserved(Record { pass, call, reply });
     Ok(silenced)
 }
 
-/// The place of the silence of this id, if there is one and the call isn't refused.
-fn place_for(config: &Config, state: &State, id: u64) -> Result<Option<usize>, Fault>
+/// The index of the silence of this id, if there is one and the call isn't refused.
+fn index_for(config: &Config, state: &State, id: u64) -> Result<Option<usize>, Fault>
     ensures { (silence : SilenceData) → silence.id ≡ id →
         result
         ≡ ok_unless (silence_cause config.now (vec_len state.now.history) (state_of state.now) silence)
@@ -68,20 +68,20 @@ fn place_for(config: &Config, state: &State, id: u64) -> Result<Option<usize>, F
     if !state.has_room(1, config.limits.history) {
         return Err(Fault::HistoryFull);
     }
-    let place = state.silences.find(id);
-    if place.is_none() && state.silences.len() >= config.limits.silences {
+    let index = state.silences.find(id);
+    if index.is_none() && state.silences.len() >= config.limits.silences {
         return Err(Fault::TooManySilences);
     }
-    Ok(place)
+    Ok(index)
 }
 
-/// Puts a silence in place of the one with its id, which is at this place, or adds it.
-fn keep_silence(alloc: Global, silences: &mut NotedSilences, place: Option<usize>, silence: Silence)
-    requires place { place ≡ position (same_silence silence) silences.old.items }
+/// Puts a silence in place of the one with its id, which is at this index, or adds it.
+fn keep_silence(alloc: Global, silences: &mut NotedSilences, index: Option<usize>, silence: Silence)
+    requires index { index ≡ position (same_silence silence) silences.old.items }
     requires room { 0 < silences.old.room }
     ensures { silences.new.items ≡ upsert same_silence silence silences.old.items }
 {
-    match place {
+    match index {
         Some(i) => silences.replace(alloc, i, silence),
         None => silences.add(alloc, silence),
     }

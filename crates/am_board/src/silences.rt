@@ -8,7 +8,7 @@ ghost use Rattle.std.specs.Prelude.{count_by, filter, not};
 ghost use Rattle.std.specs.List.{position};
 ghost use Rattle.am_mute.specs.Silence.{is_over, is_silenced};
 
-use crate::unsilenced::{NotedPlace, Unsilenced};
+use crate::unsilenced::{NotedIndex, Unsilenced};
 use am_alerts::labels::Labels;
 use am_mute::silence::Silence;
 use am_mute::silences::Silences;
@@ -59,10 +59,10 @@ impl NotedSilences {
         &self.silences
     }
 
-    /// The place of the first silence of this id.
+    /// The index of the first silence of this id.
     pub(crate) fn find(&self, id: u64) -> Option<usize>
-        ensures place { result ≡ position (λ s. id == s.id) self.now.items }
-        ensures within { IfSome result (λ place. place < length self.now.items) }
+        ensures index { result ≡ position (λ s. id == s.id) self.now.items }
+        ensures within { IfSome result (λ index. index < length self.now.items) }
     {
         self.silences.find(id)
     }
@@ -85,12 +85,12 @@ impl NotedSilences {
     }
 
     /// Puts a silence in place of another.
-    pub(crate) fn replace(&mut self, alloc: Global, place: usize, silence: Silence)
-        requires within { place < length self.old.items }
-        ensures items { self.new.items ≡ set self.old.items place silence }
+    pub(crate) fn replace(&mut self, alloc: Global, index: usize, silence: Silence)
+        requires within { index < length self.old.items }
+        ensures items { self.new.items ≡ set self.old.items index silence }
     {
         self.noted.empty();
-        self.silences.replace(alloc, place, silence);
+        self.silences.replace(alloc, index, silence);
     }
 
     /// Removes the silences that are over at `t` (milliseconds). Returns how many.
@@ -109,10 +109,10 @@ impl NotedSilences {
     /// walk over the silences.
     pub(crate) fn start_noting(
         &mut self,
-        last: NotedPlace,
+        last: NotedIndex,
         t: u64,
         limit: usize,
-    ) -> Option<NotedPlace>
+    ) -> Option<NotedIndex>
         ensures { self.new ≡ self.old }
     {
         let silences = self.silences.as_slice();
@@ -133,10 +133,10 @@ impl NotedSilences {
         self.noted.note(labels, t)
     }
 
-    /// Whether it is noted at a place that no silence mutes a label set at `t` (milliseconds).
-    pub(crate) fn is_noted(&self, place: NotedPlace, labels: &Labels, t: u64) -> bool
+    /// Whether it is noted at an index that no silence mutes a label set at `t` (milliseconds).
+    pub(crate) fn is_noted(&self, index: NotedIndex, labels: &Labels, t: u64) -> bool
         ensures { result ≡ true → is_silenced labels.now t self.now.items ≡ false }
     {
-        self.noted.has(place, labels, t)
+        self.noted.has(index, labels, t)
     }
 }

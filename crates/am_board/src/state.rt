@@ -9,7 +9,7 @@ use crate::known::Known;
 use crate::record::Record;
 use crate::silences::NotedSilences;
 use am_alerts::labels::Labels;
-use am_alerts::limits::MAX_MOMENT;
+use am_alerts::limits::MAX_TIME;
 use am_nflog::NfLog;
 use am_seed::Seed;
 use std::alloc::{AllocError, Global};
@@ -60,9 +60,9 @@ impl State {
     }
 
     /// Returns the time of a call: times never go back, and end at 10^15.
-    pub(crate) fn moment(&self, now: u64) -> u64
-        ensures { result ≡ max self.now.clock (min now MAX_MOMENT) }
+    pub(crate) fn time(&self, now: u64) -> u64
+        ensures { result ≡ max self.now.clock (min now MAX_TIME) }
     {
-        self.clock.max(now.min(MAX_MOMENT))
+        self.clock.max(now.min(MAX_TIME))
     }
 }

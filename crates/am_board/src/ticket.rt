@@ -19,7 +19,7 @@ use std::marker::Model;
 /// nor dropped: `finish` alone takes it. Its list of outcomes has capacity for each notice that has
 /// none yet.
 pub struct Ticket {
-    pub(crate) desk: u64,
+    pub(crate) board_id: u64,
     pub(crate) number: u64,
     pub(crate) group: GroupName,
     pub(crate) deadline: u64,
@@ -38,7 +38,7 @@ impl Model for Ticket {
 
     ghost view = { λ t.
         record {
-          desk = t.desk;
+          board_id = t.board_id;
           number = t.number;
           group = t.group;
           deadline = t.deadline;
@@ -60,10 +60,10 @@ impl Ticket {
     }
 
     /// Returns the id of the board or desk that made this ticket.
-    pub fn desk(&self) -> u64
-        ensures { result ≡ self.now.desk }
+    pub fn board_id(&self) -> u64
+        ensures { result ≡ self.now.board_id }
     {
-        self.desk
+        self.board_id
     }
 
     /// Returns the name of the group that is flushed.
@@ -88,11 +88,11 @@ impl Ticket {
         self.notices.as_slice()
     }
 
-    /// Returns the outcome that was recorded for the notice at `place`, if there is one.
-    pub fn outcome(&self, place: usize) -> Option<Outcome>
-        ensures { result ≡ option_and_then (λ n. first_outcome self.now.outcomes n.integration) (slice_get self.now.notices place) }
+    /// Returns the outcome that was recorded for the notice at `index`, if there is one.
+    pub fn outcome(&self, index: usize) -> Option<Outcome>
+        ensures { result ≡ option_and_then (λ n. first_outcome self.now.outcomes n.integration) (slice_get self.now.notices index) }
     {
-        match self.notices.get(place) {
+        match self.notices.get(index) {
             None => None,
             Some(notice) => outcome_of(self.outcomes.as_slice(), notice.integration),
         }
@@ -111,7 +111,7 @@ impl Ticket {
             (λ _. (report_fault self.old report ≡ None) × (self.new ≡ recorded self.old report))
             (λ fault. (report_fault self.old report ≡ Some fault) × (self.new ≡ self.old)) }
     {
-        if report.desk != self.desk || report.ticket != self.number {
+        if report.board_id != self.board_id || report.ticket != self.number {
             return Err(ReportFault::Stranger);
         }
         if !has_something_for(self.notices.as_slice(), report.integration) {

@@ -22,7 +22,7 @@ use am_alerts::sequence::Sequence;
 use am_nflog::{Lends, Members};
 use std::alloc::{AllocError, Global};
 
-/// The alerts of a group that aren't muted, by labels, as they stand in it: those that fire, and
+/// The alerts of a group that aren't muted, by labels, as they are in it: those that fire, and
 /// those that are resolved.
 #[derive(Drop)]
 pub(crate) struct UnmutedMembers<'m> {

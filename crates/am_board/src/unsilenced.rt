@@ -1,8 +1,8 @@
 //! Label sets that no silence mutes, noted one behind the other. `silences` has one list of them.
 //!
-//! Whoever asks for the same label sets again, in the same order, remembers the place of the first.
-//! Each is then compared with the one that is noted at its place, and no silence is looked at. A
-//! place is only a hint: a stale one costs a look-up of the silences, and gives no wrong answer.
+//! Whoever asks for the same label sets again, in the same order, remembers the index of the first.
+//! Each is then compared with the one that is noted at its index, and no silence is looked at. A
+//! index is only a hint: a stale one costs a look-up of the silences, and gives no wrong answer.
 //!
 //! Invariant: at each time from `since` on and before `until`, no silence mutes a label set of the
 //! list. No silence starts after `since` and before `until`. So a silence that mutes later in this
@@ -18,19 +18,19 @@ use am_alerts::labels::Labels;
 use am_mute::silence::Silence;
 use std::alloc::{AllocError, Global};
 
-/// A place in a list of this number. The default is a place in no list.
+/// An index in a list of this number. The default is an index in no list.
 #[derive(Clone, Copy, Default)]
-pub(crate) struct NotedPlace {
+pub(crate) struct NotedIndex {
     number: u64,
-    place: usize,
+    index: usize,
 }
 
-impl NotedPlace {
-    /// The place behind this one.
-    pub(crate) fn next(self) -> NotedPlace {
-        NotedPlace {
+impl NotedIndex {
+    /// The index behind this one.
+    pub(crate) fn next(self) -> NotedIndex {
+        NotedIndex {
             number: self.number,
-            place: self.place.saturating_add(1),
+            index: self.index.saturating_add(1),
         }
     }
 }
@@ -82,10 +82,10 @@ impl Unsilenced {
     pub(crate) fn start(
         &mut self,
         silences: &[Silence],
-        last: NotedPlace,
+        last: NotedIndex,
         t: u64,
         limit: usize,
-    ) -> Option<NotedPlace>
+    ) -> Option<NotedIndex>
         requires { AreUnsilenced silences.now self.old }
         ensures { AreUnsilenced silences.now self.new }
     {
@@ -96,9 +96,9 @@ impl Unsilenced {
         if !is_open || limit < self.sets.len() {
             self.restart(silences, t);
         }
-        Some(NotedPlace {
+        Some(NotedIndex {
             number: self.number,
-            place: self.sets.len(),
+            index: self.sets.len(),
         })
     }
 
@@ -125,22 +125,22 @@ impl Unsilenced {
         Ok(())
     }
 
-    /// Whether a label set is noted at a place, and that counts at `t`.
-    pub(crate) fn has(&self, place: NotedPlace, labels: &Labels, t: u64) -> bool
+    /// Whether a label set is noted at an index, and that counts at `t`.
+    pub(crate) fn has(&self, index: NotedIndex, labels: &Labels, t: u64) -> bool
         ensures { (silences : List SilenceData) → AreUnsilenced silences self.now
             → result ≡ true → is_silenced labels.now t silences ≡ false }
     {
-        place.number == self.number
+        index.number == self.number
             && self.is_open(t)
-            && is_noted(self.sets.as_slice(), place.place, labels)
+            && is_noted(self.sets.as_slice(), index.index, labels)
     }
 }
 
-/// Whether a label set is at this place.
-fn is_noted(sets: &[Labels], place: usize, labels: &Labels) -> bool
-    ensures { result ≡ true → IsAt sets.now place labels.now }
+/// Whether a label set is at this index.
+fn is_noted(sets: &[Labels], index: usize, labels: &Labels) -> bool
+    ensures { result ≡ true → IsAt sets.now index labels.now }
 {
-    place < sets.len() && sets[place] == *labels
+    index < sets.len() && sets[index] == *labels
 }
 
 /// Returns the first time after `t` at which one of these silences starts or ends; the greatest

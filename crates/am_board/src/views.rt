@@ -170,7 +170,7 @@ fn row_view(
     Ok(RowView {
         group: key.group.copy(alloc)?,
         integration: key.integration,
-        moment: row.moment,
+        time: row.time,
         expiry: row.expiry,
         firing: copy_all(alloc, row.firing.as_slice())?,
         resolved: copy_all(alloc, row.resolved.as_slice())?,

@@ -2,8 +2,8 @@
 //! resolved, and what mutes the others (the mute stages of `notify`). `plan` and `preview` call it.
 //!
 //! A preview wants the causes, a plain begin doesn't: to know that an alert is muted costs less than to
-//! know why. A muted alert is found with its place, so that a preview lists it where it is in the
-//! group. The others are found as they stand in the group: no walk copies an alert.
+//! know why. A muted alert is found with its index, so that a preview lists it where it is in the
+//! group. The others are found as they are in the group: no walk copies an alert.
 ghost use Rattle.std.specs.Prelude.{◌≡◌, ◌++◌, [], false, true, IfOk, OnOk, Option, map};
 ghost use Rattle.std.specs.List.{IsDistinct, cons_option, filter_map};
 ghost use Rattle.am_mute.specs.Mute.{is_muted, mute_cause_of};
@@ -13,7 +13,7 @@ ghost use Rattle.am_mute.specs.declared.mute.MuteCause.{MuteCause};
 ghost use Rattle.am_model.specs.Insert.{same_member};
 ghost use Rattle.am_board.specs.Beginning.{copies_at};
 ghost use Rattle.am_board.specs.Members.{labels_of};
-ghost use Rattle.am_board.specs.Order.{places_in_order};
+ghost use Rattle.am_board.specs.Order.{indexes_in_order};
 ghost use Rattle.am_board.specs.Refinement.{member_state, state_of};
 ghost use Rattle.am_board.specs.Walk.{AreFound, IsWalk, alert_there, cause_of, firing_if, listed_if, muted_at, muted_if};
 ghost use Rattle.am_board.specs.Walk.{muted_member, resolved_if};
@@ -21,11 +21,11 @@ ghost use Rattle.am_board.specs.declared.group.Member.{Member};
 
 use crate::group::Member;
 use crate::members::Members;
-use crate::order::{member_at, places_in_order};
+use crate::order::{indexes_in_order, member_at};
 use crate::silences::NotedSilences;
 use crate::state::State;
 use crate::unmuted::UnmutedMembers;
-use crate::unsilenced::NotedPlace;
+use crate::unsilenced::NotedIndex;
 use am_alerts::labels::Labels;
 use am_alerts::sequence::Sequence;
 use am_model::preview::MutedAlert;
@@ -34,10 +34,10 @@ use am_mute::mute::{MuteCause, mute_cause_under, mute_cause_with, muted_under, m
 use am_mute::sources::Sources;
 use std::alloc::{AllocError, Global};
 
-/// A muted alert of a group: its place among the alerts, and what mutes it.
+/// A muted alert of a group: its index among the alerts, and what mutes it.
 #[derive(Drop)]
-pub(crate) struct MutedPlace {
-    pub(crate) place: usize,
+pub(crate) struct MutedIndex {
+    pub(crate) index: usize,
     pub(crate) cause: MuteCause,
 }
 
@@ -47,7 +47,7 @@ pub(crate) struct MutedPlace {
 pub(crate) struct Walk<'m> {
     pub(crate) firing: Vec<&'m Member>,
     pub(crate) resolved: Vec<&'m Member>,
-    pub(crate) muted: Vec<MutedPlace>,
+    pub(crate) muted: Vec<MutedIndex>,
 }
 
 impl<'m> Walk<'m> {
@@ -67,27 +67,27 @@ impl<'m> Walk<'m> {
     {
         let all = members.as_slice();
         let noted = members.noted();
-        match members.places() {
-            Some(places) => walk_places(
+        match members.indexes() {
+            Some(indexes) => walk_indexes(
                 alloc,
                 rules,
                 state,
                 sources,
                 all,
-                places,
+                indexes,
                 noted,
                 wants_causes,
                 t,
             ),
             None => {
-                let places = places_in_order(alloc, all)?;
-                walk_places(
+                let indexes = indexes_in_order(alloc, all)?;
+                walk_indexes(
                     alloc,
                     rules,
                     state,
                     sources,
                     all,
-                    places.as_slice(),
+                    indexes.as_slice(),
                     noted,
                     wants_causes,
                     t,
@@ -96,16 +96,16 @@ impl<'m> Walk<'m> {
         }
     }
 
-    /// Finds what mutes the alert at a place, if anything does, and adds it.
+    /// Finds what mutes the alert at an index, if anything does, and adds it.
     fn visit(
         &mut self,
         alloc: Global,
         rules: &[InhibitRule],
         state: &State,
         sources: &Sources,
-        place: usize,
+        index: usize,
         member: &'m Member,
-        noted: &mut NotedPlace,
+        noted: &mut NotedIndex,
         wants_causes: bool,
         t: u64,
     ) -> Result<(), AllocError>
@@ -115,23 +115,23 @@ impl<'m> Walk<'m> {
         ensures resolved { OnOk result (copies_at t self.new.resolved.items
             ≡ copies_at t self.old.resolved.items ++ resolved_if t member.now.alert (cause_of rules.now (state_of state.now) t member.now)) }
         ensures muted { OnOk result (self.new.muted.items
-            ≡ self.old.muted.items ++ listed_if wants_causes place (cause_of rules.now (state_of state.now) t member.now)) }
+            ≡ self.old.muted.items ++ listed_if wants_causes index (cause_of rules.now (state_of state.now) t member.now)) }
     {
         let labels = member.alert.labels();
         if wants_causes {
             let cause = mute_cause(alloc, rules, state, sources, labels, noted, t)?;
-            return self.add(place, member, cause, t);
+            return self.add(index, member, cause, t);
         }
         if is_muted(alloc, rules, state, sources, labels, noted, t)? {
             return Ok(());
         }
-        self.add(place, member, None, t)
+        self.add(index, member, None, t)
     }
 
-    /// Adds the alert at a place, which this mutes, if anything does.
+    /// Adds the alert at an index, which this mutes, if anything does.
     fn add(
         &mut self,
-        place: usize,
+        index: usize,
         member: &'m Member,
         cause: Option<MuteCause>,
         t: u64,
@@ -140,10 +140,10 @@ impl<'m> Walk<'m> {
             (copies_at t self.new.firing.items ≡ copies_at t self.old.firing.items ++ firing_if t member.now.alert cause) }
         ensures resolved { OnOk result
             (copies_at t self.new.resolved.items ≡ copies_at t self.old.resolved.items ++ resolved_if t member.now.alert cause) }
-        ensures muted { OnOk result (self.new.muted.items ≡ self.old.muted.items ++ cons_option (muted_if place cause) []) }
+        ensures muted { OnOk result (self.new.muted.items ≡ self.old.muted.items ++ cons_option (muted_if index cause) []) }
     {
         if let Some(cause) = cause {
-            self.muted.push(MutedPlace { place, cause })?;
+            self.muted.push(MutedIndex { index, cause })?;
         } else if member.alert.resolved_at(t) {
             self.resolved.push(member)?;
         } else {
@@ -164,35 +164,35 @@ impl<'m> Walk<'m> {
     }
 }
 
-/// Walks over the alerts at these places.
-fn walk_places<'m>(
+/// Walks over the alerts at these indexes.
+fn walk_indexes<'m>(
     alloc: Global,
     rules: &[InhibitRule],
     state: &State,
     sources: &Sources,
     members: &'m [Member],
-    places: &[usize],
-    noted: NotedPlace,
+    indexes: &[usize],
+    noted: NotedIndex,
     wants_causes: bool,
     t: u64,
 ) -> Result<Walk<'m>, AllocError>
     requires { AreLearnt rules.now state.now.known.items sources.now }
-    ensures { IfOk result (AreFound rules.now (state_of state.now) t members.now places.now wants_causes) }
+    ensures { IfOk result (AreFound rules.now (state_of state.now) t members.now indexes.now wants_causes) }
 {
     let mut walk = Walk {
-        firing: Vec::with_capacity(alloc, places.len())?,
+        firing: Vec::with_capacity(alloc, indexes.len())?,
         resolved: Vec::new(alloc),
         muted: Vec::new(alloc),
     };
     let mut noted = noted;
-    for place in places {
-        if let Some(member) = member_at(members, *place) {
+    for index in indexes {
+        if let Some(member) = member_at(members, *index) {
             walk.visit(
                 alloc,
                 rules,
                 state,
                 sources,
-                *place,
+                *index,
                 member,
                 &mut noted,
                 wants_causes,
@@ -205,14 +205,14 @@ fn walk_places<'m>(
 
 /// What mutes a label set at `t`, if anything does.
 ///
-/// If it is noted at a place that no silence mutes it, none is looked at.
+/// If it is noted at an index that no silence mutes it, none is looked at.
 fn mute_cause(
     alloc: Global,
     rules: &[InhibitRule],
     state: &State,
     sources: &Sources,
     labels: &Labels,
-    noted: &mut NotedPlace,
+    noted: &mut NotedIndex,
     t: u64,
 ) -> Result<Option<MuteCause>, AllocError>
     requires { AreLearnt rules.now state.now.known.items sources.now }
@@ -229,14 +229,14 @@ fn mute_cause(
 
 /// Whether a label set is muted at `t`. This stops at the first silence that is found.
 ///
-/// If it is noted at a place that no silence mutes it, none is looked at.
+/// If it is noted at an index that no silence mutes it, none is looked at.
 fn is_muted(
     alloc: Global,
     rules: &[InhibitRule],
     state: &State,
     sources: &Sources,
     labels: &Labels,
-    noted: &mut NotedPlace,
+    noted: &mut NotedIndex,
     t: u64,
 ) -> Result<bool, AllocError>
     requires { AreLearnt rules.now state.now.known.items sources.now }
@@ -253,8 +253,8 @@ fn is_muted(
 
 /// Whether it is known without a look-up that no silence mutes a label set at `t`.
 ///
-/// If the label set is noted at the place, the place becomes the next one.
-fn is_unsilenced(silences: &NotedSilences, labels: &Labels, noted: &mut NotedPlace, t: u64) -> bool
+/// If the label set is noted at the index, the index becomes the next one.
+fn is_unsilenced(silences: &NotedSilences, labels: &Labels, noted: &mut NotedIndex, t: u64) -> bool
     ensures { result ≡ true → is_silenced labels.now t silences.now.items ≡ false }
 {
     if silences.len() == 0 {
@@ -271,13 +271,13 @@ fn is_unsilenced(silences: &NotedSilences, labels: &Labels, noted: &mut NotedPla
 pub(crate) fn in_group_order(
     alloc: Global,
     members: &[Member],
-    mut muted: Vec<MutedPlace>,
+    mut muted: Vec<MutedIndex>,
 ) -> Result<Sequence<MutedAlert>, AllocError>
     ensures { (causes : Member → Option MuteCause)
-        → muted.items ≡ filter_map (muted_at causes members.now) (places_in_order (map labels_of members.now))
+        → muted.items ≡ filter_map (muted_at causes members.now) (indexes_in_order (map labels_of members.now))
         → IfOk result (λ all. all ≡ filter_map (muted_member causes) members.now) }
 {
-    muted.sort_unstable_by(|a, b| a.place.cmp(&b.place));
+    muted.sort_unstable_by(|a, b| a.index.cmp(&b.index));
     listed(alloc, members, muted.as_slice())
 }
 
@@ -285,13 +285,13 @@ pub(crate) fn in_group_order(
 fn listed(
     alloc: Global,
     members: &[Member],
-    muted: &[MutedPlace],
+    muted: &[MutedIndex],
 ) -> Result<Sequence<MutedAlert>, AllocError>
     ensures { IfOk result (λ all. all ≡ filter_map (alert_there members.now) muted.now) }
 {
     let mut all = Vec::with_capacity(alloc, muted.len())?;
     for found in muted {
-        if let Some(member) = member_at(members, found.place) {
+        if let Some(member) = member_at(members, found.index) {
             all.push(MutedAlert {
                 labels: member.alert.labels().copy(alloc)?,
                 cause: copy_cause(alloc, &found.cause)?,

@@ -19,7 +19,7 @@ fuse f g (Some r) = refl
 lacks_tail : (c x : ℕ) (xs : List ℕ) → Lacks c (x ∷ xs) → Lacks c xs
 lacks_tail c x xs lacks k h e = lacks (suc k) (omega arith) e
 
--- a text with no backslash and no quote stands for itself
+-- a text with no backslash and no quote represents itself
 pub unescaped_plain : (plain rest : List ℕ) → Lacks 92 plain → Lacks 34 plain
     → unescaped false (plain ++ rest) ≡ option_map (λ r. plain ++ r) (unescaped false rest)
 unescaped_plain [] rest slash quote = same (unescaped false rest)
@@ -32,7 +32,7 @@ unescaped_plain (x ∷ xs) rest slash quote =
     (ap (option_map (λ r. x ∷ r)) (unescaped_plain xs rest (lacks_tail 92 x xs slash) (lacks_tail 34 x xs quote))
     ∙ fuse (λ r. x ∷ r) (λ r. xs ++ r) (unescaped false rest))
 
--- one with a quote and no backslash before it stands for nothing
+-- one with a quote and no backslash before it represents nothing
 pub unescaped_quote : (plain rest : List ℕ) (k : ℕ) → Lacks 92 plain → k < length plain → get_or plain k 0 ≡ 34 → unescaped false (plain ++ rest) ≡ None
 unescaped_quote [] rest k slash h is = absurd (omega arith)
 unescaped_quote (x ∷ xs) rest zero slash h is = rw is refl
@@ -44,12 +44,12 @@ unescaped_quote (x ∷ xs) rest (suc k) slash h is =
     by true none = refl
     by false none = ap (option_map (λ r. x ∷ r)) none
 
--- before anything is read nothing stands before the text
+-- before anything is read nothing is before the text
 pub unescaped_first : (value : List ℕ) (o : Option (List ℕ)) → value ≡ [] → o ≡ option_map (λ r. value ++ r) o
 unescaped_first value None e = refl
 unescaped_first value (Some r) e = ap (λ v. Some (v ++ r)) (sym e)
 
--- nothing stands for a text whose last backslash has nothing behind it
+-- nothing represents a text whose last backslash has nothing behind it
 pub unescaped_end : (plain behind : List ℕ) → length behind ≡ 0 → Lacks 92 plain → Lacks 34 plain → unescaped false (plain ++ 92 ∷ behind) ≡ None
 unescaped_end plain [] none slash quote = unescaped_plain plain (92 ∷ []) slash quote
 unescaped_end plain (b ∷ bs) none slash quote = absurd (omega arith)
@@ -61,20 +61,20 @@ unescaped_last value rest slash quote =
     ∙ ap (option_map (λ r. value ++ r)) (unescaped_plain rest [] slash quote)
     ∙ ap (λ l. Some (value ++ l)) (append-nil rest)
 
--- one backslash, what stands before it and what it stands for
+-- one backslash, what is before it and what it represents
 pub unescaped_step : (value plain added rest behind left : List ℕ) → rest ≡ plain ++ 92 ∷ behind → Lacks 92 plain → Lacks 34 plain
     → unescaped true behind ≡ option_map (λ r. added ++ r) (unescaped false left)
     → option_map (λ r. value ++ r) (unescaped false rest) ≡ option_map (λ r. ((value ++ plain) ++ added) ++ r) (unescaped false left)
-unescaped_step value plain added rest behind left is slash quote stands =
+unescaped_step value plain added rest behind left is slash quote holds =
     ap (λ l. option_map (λ r. value ++ r) (unescaped false l)) is
-    ∙ ap (option_map (λ r. value ++ r)) (unescaped_plain plain (92 ∷ behind) slash quote ∙ ap (option_map (λ r. plain ++ r)) stands)
+    ∙ ap (option_map (λ r. value ++ r)) (unescaped_plain plain (92 ∷ behind) slash quote ∙ ap (option_map (λ r. plain ++ r)) holds)
     ∙ join (unescaped false left)
   where
     join : (o : Option (List ℕ)) → option_map (λ r. value ++ r) (option_map (λ r. plain ++ r) (option_map (λ r. added ++ r) o)) ≡ option_map (λ r. ((value ++ plain) ++ added) ++ r) o
     join None = refl
     join (Some r) = ap Some (sym (append_assoc (value ++ plain) added r ∙ append_assoc value plain (added ++ r)))
 
--- a backslash before this text, which begins with nothing that is escaped, stands for itself
+-- a backslash before this text, which begins with nothing that is escaped, represents itself
 pub unescaped_other : (behind : List ℕ) → 0 < length behind → ((rest : List ℕ) → behind ≢ 110 ∷ rest) → ((rest : List ℕ) → behind ≢ 34 ∷ rest)
     → ((rest : List ℕ) → behind ≢ 92 ∷ rest) → unescaped true behind ≡ option_map (λ r. 92 ∷ r) (unescaped false behind)
 unescaped_other [] some line quote slash = absurd (omega arith)
@@ -159,25 +159,25 @@ begins_so NotEqual v longest = refl
 begins_so Like v longest = refl
 begins_so NotLike v longest = refl
 
--- what stands behind an operator
+-- what is behind an operator
 abbrev behind : Operator → List ℕ → List ℕ
 behind Equal text = drop 1 text
 behind NotEqual text = drop 2 text
 behind Like text = drop 2 text
 behind NotLike text = drop 2 text
 
-stands_behind : (o : Operator) (v : List ℕ) → behind o (operator_text o ++ v) ≡ v
-stands_behind Equal v = refl
-stands_behind NotEqual v = refl
-stands_behind Like v = refl
-stands_behind NotLike v = refl
+is_behind : (o : Operator) (v : List ℕ) → behind o (operator_text o ++ v) ≡ v
+is_behind Equal v = refl
+is_behind NotEqual v = refl
+is_behind Like v = refl
+is_behind NotLike v = refl
 
 -- a text begins with one operator that is as long as it can be
 one_operator : (o p : Operator) (v w : List ℕ) → operator_text o ++ v ≡ operator_text p ++ w
     → (o ≡ Equal → get_or v 0 0 ≢ 126) → (p ≡ Equal → get_or w 0 0 ≢ 126) → (o ≡ p) × (v ≡ w)
 one_operator o p v w is longest other =
     let same : o ≡ p = sym (begins_so o v longest) ∙ ap beginning is ∙ begins_so p w other in
-    (same, sym (stands_behind o v) ∙ (λ i. behind (same i) (is i)) ∙ stands_behind p w)
+    (same, sym (is_behind o v) ∙ (λ i. behind (same i) (is i)) ∙ is_behind p w)
 
 -- each operator has a text of its own
 pub one_op : (o p : Operator) → operator_text o ≡ operator_text p → o ≡ p
@@ -203,7 +203,7 @@ one_unquoted written i j (inl a) (inr b) = absurd (quote_first written (i ++ 34 
 one_unquoted written i j (inr a) (inl b) = absurd (quote_first written (j ++ 34 ∷ []) b a.1)
 one_unquoted written i j (inr a) (inr b) = a.0 ∙ sym b.0
 
--- what stands behind the operator of a text is that of each matcher that it writes
+-- what is behind the operator of a text is that of each matcher that it writes
 pub value_of_text : (text : List ℕ) (m : MatcherParts) (is : IsMatcherText text m) (n v : List ℕ) (o : Operator) → text ≡ n ++ (operator_text o ++ v)
     → position begins_operator text ≡ Some (length n) → (o ≡ Equal → get_or v 0 0 ≢ 126) → (is.name ≡ n) × (m.op ≡ o) × (is.value ≡ v)
 value_of_text text m is n v o cut begins longest =
@@ -219,6 +219,6 @@ one_text text m n a b =
     one_trimmed a.value a.written b.written a.trimmed (subst (λ (l : List ℕ). IsTrimAscii l b.written) (sym cut.2) b.trimmed) in
     let inner : a.inner ≡ b.inner =
     one_unquoted a.written a.inner b.inner a.unquoted (subst (λ (l : List ℕ). IsUnquoted l b.inner) (sym written) b.unquoted) in
-    let value : Some m.value ≡ Some n.value = sym a.stands ∙ ap (unescaped false) inner ∙ b.stands in
+    let value : Some m.value ≡ Some n.value = sym a.holds ∙ ap (unescaped false) inner ∙ b.holds in
     let same : m.value ≡ n.value = cc in
     λ i. record { name = name i; op = cut.1 i; value = same i }

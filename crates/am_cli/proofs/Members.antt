@@ -2,7 +2,7 @@
 use Rattle.std.proofs.Common.{◌≡◌, ◌<◌, ◌&&◌, ◌||◌, ◌∙◌, ◌++◌, ℕ, zero, suc, Bool, true, false, not, List, [], ◌∷◌, Option, Some, None, length, map, find, get_or, option_map, refl, sym, ap, subst, is_none, if◌then◌else◌, Bor, string_bytes, MatchOption, arith}
 use Rattle.std.specs.List.{list_all}
 use Rattle.std.specs.Str.{bytes_eq}
-use Rattle.am_alerts.specs.Labels.{stands_in}
+use Rattle.am_alerts.specs.Labels.{occurs_in}
 use Rattle.serde_json.specs.Data.{Data, string, Items, no_items, item, Members, no_members, member}
 use Rattle.serde_json.specs.Events.{items_len}
 use Rattle.serde_json.specs.Find.{as_str}
@@ -27,20 +27,20 @@ none_fails test f (x ∷ xs) = step (test (f x)) (none_fails test f xs)
     step true later = later
     step false later = refl
 
--- one more value, and what it tells
-pub tell_more : {X : Type 0} (decodes_to : Data → X → Type 0) (values : List Value) (xs : List X) (value : Value) (x : X)
+-- one more value, and what it says
+pub decode_more : {X : Type 0} (decodes_to : Data → X → Type 0) (values : List Value) (xs : List X) (value : Value) (x : X)
     → DecodeEach decodes_to (items_view values) xs → decodes_to (view value) x → DecodeEach decodes_to (items_view (values ++ value ∷ [])) (xs ++ x ∷ [])
-tell_more decodes_to [] [] value x so_far more = (more, tt)
-tell_more decodes_to [] (y ∷ ys) value x so_far more = absurd so_far
-tell_more decodes_to (v ∷ vs) [] value x so_far more = absurd so_far
-tell_more decodes_to (v ∷ vs) (y ∷ ys) value x so_far more = (so_far.0, tell_more decodes_to vs ys value x so_far.1 more)
+decode_more decodes_to [] [] value x so_far more = (more, tt)
+decode_more decodes_to [] (y ∷ ys) value x so_far more = absurd so_far
+decode_more decodes_to (v ∷ vs) [] value x so_far more = absurd so_far
+decode_more decodes_to (v ∷ vs) (y ∷ ys) value x so_far more = (so_far.0, decode_more decodes_to vs ys value x so_far.1 more)
 
 -- a name is one of these
-one_named : (names : List (Bor (List ℕ))) (name : List ℕ) → is_one_of names name ≡ stands_in name (map (λ (n : Bor (List ℕ)). n.now) names)
+one_named : (names : List (Bor (List ℕ))) (name : List ℕ) → is_one_of names name ≡ occurs_in name (map (λ (n : Bor (List ℕ)). n.now) names)
 one_named [] name = refl
 one_named (n ∷ ns) name = ap (λ b. bytes_eq n.now name || b) (one_named ns name)
 
--- each entry has one of these names where each member that it stands for has
+-- each entry has one of these names where each member that it represents has
 pub named_in : (names : List (Bor (List ℕ))) (es : List Entry)
     → list_all (λ (m : Entry). is_one_of names (string_bytes m.0)) es ≡ are_named (map (λ (n : Bor (List ℕ)). n.now) names) (members_view es)
 named_in names [] = refl
@@ -54,42 +54,42 @@ pub second : (a b : Bool) → (a && b) ≡ true → b ≡ true
 second true b both = both
 second false b both = absurd (cc)
 
--- what tells a list tells each of its items
-pub told_at : {X : Type 0} (decodes_to : Data → X → Type 0) (sure : X → Bool) (values : List Value) (xs : List X) (i : ℕ) (value : Value)
+-- what says a list says each of its items
+pub decoded_at : {X : Type 0} (decodes_to : Data → X → Type 0) (sure : X → Bool) (values : List Value) (xs : List X) (i : ℕ) (value : Value)
     → i < length values → value ≡ get_or values i value → DecodeEach decodes_to (items_view values) xs → list_all sure xs ≡ true
     → (x : X) × decodes_to (view value) x × (sure x ≡ true)
-told_at decodes_to sure [] xs i value here is told all = absurd (omega (arith, here))
-told_at decodes_to sure (v ∷ vs) [] i value here is told all = absurd told
-told_at decodes_to sure (v ∷ vs) (x ∷ xs) zero value here is told all =
-    (x, subst (λ (w : Value). decodes_to (view w) x) (sym is) told.0, first (sure x) (list_all sure xs) all)
-told_at decodes_to sure (v ∷ vs) (x ∷ xs) (suc i) value here is told all =
-    told_at decodes_to sure vs xs i value (omega (arith, here)) is told.1 (second (sure x) (list_all sure xs) all)
+decoded_at decodes_to sure [] xs i value here is decoded all = absurd (omega (arith, here))
+decoded_at decodes_to sure (v ∷ vs) [] i value here is decoded all = absurd decoded
+decoded_at decodes_to sure (v ∷ vs) (x ∷ xs) zero value here is decoded all =
+    (x, subst (λ (w : Value). decodes_to (view w) x) (sym is) decoded.0, first (sure x) (list_all sure xs) all)
+decoded_at decodes_to sure (v ∷ vs) (x ∷ xs) (suc i) value here is decoded all =
+    decoded_at decodes_to sure vs xs i value (omega (arith, here)) is decoded.1 (second (sure x) (list_all sure xs) all)
 
--- a list that each array tells is told by this one
-pub told_list : {X : Type 0} (decodes_to : Data → X → Type 0) (sure : X → Bool) (array : Option Items) (values : List Value) (xs : List X) (i : ℕ)
+-- a list that each array says is given by this one
+pub decoded_list : {X : Type 0} (decodes_to : Data → X → Type 0) (sure : X → Bool) (array : Option Items) (values : List Value) (xs : List X) (i : ℕ)
     (value : Value) → Some (items_view values) ≡ array → i < length values → value ≡ get_or values i value
     → MatchOption array ⊥ (λ items. DecodeEach decodes_to items xs) → list_all sure xs ≡ true → (x : X) × decodes_to (view value) x × (sure x ≡ true)
-told_list decodes_to sure array values xs i value array_is here is told all =
-    told_at decodes_to sure values xs i value here is
-    (subst (λ (o : Option Items). MatchOption o ⊥ (λ items. DecodeEach decodes_to items xs)) (sym array_is) told) all
+decoded_list decodes_to sure array values xs i value array_is here is decoded all =
+    decoded_at decodes_to sure values xs i value here is
+    (subst (λ (o : Option Items). MatchOption o ⊥ (λ items. DecodeEach decodes_to items xs)) (sym array_is) decoded) all
 
--- as many items are told as there are
-pub told_len : {X : Type 0} (decodes_to : Data → X → Type 0) (items : Items) (xs : List X) → DecodeEach decodes_to items xs → items_len items ≡ length xs
-told_len decodes_to no_items [] told = refl
-told_len decodes_to no_items (x ∷ xs) told = absurd told
-told_len decodes_to (item v vs) [] told = absurd told
-told_len decodes_to (item v vs) (x ∷ xs) told = ap suc (told_len decodes_to vs xs told.1)
+-- as many items are given as there are
+pub decoded_len : {X : Type 0} (decodes_to : Data → X → Type 0) (items : Items) (xs : List X) → DecodeEach decodes_to items xs → items_len items ≡ length xs
+decoded_len decodes_to no_items [] decoded = refl
+decoded_len decodes_to no_items (x ∷ xs) decoded = absurd decoded
+decoded_len decodes_to (item v vs) [] decoded = absurd decoded
+decoded_len decodes_to (item v vs) (x ∷ xs) decoded = ap suc (decoded_len decodes_to vs xs decoded.1)
 
-pub told_count : {X : Type 0} (decodes_to : Data → X → Type 0) (array : Option Items) (xs : List X) (n : ℕ) → option_map items_len array ≡ Some n
+pub decoded_count : {X : Type 0} (decodes_to : Data → X → Type 0) (array : Option Items) (xs : List X) (n : ℕ) → option_map items_len array ≡ Some n
     → MatchOption array ⊥ (λ items. DecodeEach decodes_to items xs) → length xs ≡ n
-told_count decodes_to None xs n count told = absurd told
-told_count decodes_to (Some items) xs n count told = sym (told_len decodes_to items xs told) ∙ cc
+decoded_count decodes_to None xs n count decoded = absurd decoded
+decoded_count decodes_to (Some items) xs n count decoded = sym (decoded_len decodes_to items xs decoded) ∙ cc
 
--- a list that an array tells has as many items as there are values
-pub told_values : {X : Type 0} (decodes_to : Data → X → Type 0) (array : Option Items) (values : List Value) (xs : List X) → Some (items_view values) ≡ array
+-- a list that an array says has as many items as there are values
+pub decoded_values : {X : Type 0} (decodes_to : Data → X → Type 0) (array : Option Items) (values : List Value) (xs : List X) → Some (items_view values) ≡ array
     → MatchOption array ⊥ (λ items. DecodeEach decodes_to items xs) → length xs ≡ length values
-told_values decodes_to array values xs is told =
-    told_count decodes_to array xs (length values) (has_all array values (length values) is refl) told
+decoded_values decodes_to array values xs is decoded =
+    decoded_count decodes_to array xs (length values) (has_all array values (length values) is refl) decoded
 
 -- an array has no other number of items than there are values
 pub counted : (array : Option Items) (values : List Value) (n : ℕ) → Some (items_view values) ≡ array → option_map items_len array ≡ Some n
@@ -132,16 +132,16 @@ texts_at (d ∷ done) left e (t ∷ ts) is none = texts_at done left e ts (cc) n
 -- an array of two items
 pub two_items : (values : List Value) (array : Option Items) (first second : Data) → Some (items_view values) ≡ array
     → array ≡ Some (item first (item second no_items)) → length values ≡ 2
-two_items [] array first second is told = absurd (cc)
-two_items (v ∷ []) array first second is told = absurd (cc)
-two_items (v ∷ w ∷ []) array first second is told = refl
-two_items (v ∷ w ∷ x ∷ vs) array first second is told = absurd (cc)
+two_items [] array first second is decoded = absurd (cc)
+two_items (v ∷ []) array first second is decoded = absurd (cc)
+two_items (v ∷ w ∷ []) array first second is decoded = refl
+two_items (v ∷ w ∷ x ∷ vs) array first second is decoded = absurd (cc)
 
 -- an array of three items
 pub three_items : (values : List Value) (array : Option Items) (first second third : Data) → Some (items_view values) ≡ array
     → array ≡ Some (item first (item second (item third no_items))) → length values ≡ 3
-three_items [] array first second third is told = absurd (cc)
-three_items (v ∷ []) array first second third is told = absurd (cc)
-three_items (v ∷ w ∷ []) array first second third is told = absurd (cc)
-three_items (v ∷ w ∷ x ∷ []) array first second third is told = refl
-three_items (v ∷ w ∷ x ∷ y ∷ vs) array first second third is told = absurd (cc)
+three_items [] array first second third is decoded = absurd (cc)
+three_items (v ∷ []) array first second third is decoded = absurd (cc)
+three_items (v ∷ w ∷ []) array first second third is decoded = absurd (cc)
+three_items (v ∷ w ∷ x ∷ []) array first second third is decoded = refl
+three_items (v ∷ w ∷ x ∷ y ∷ vs) array first second third is decoded = absurd (cc)

@@ -1,4 +1,4 @@
--- A JSON value tells one matcher, one rule, one configuration at most.
+-- A JSON value says one matcher, one rule, one configuration at most.
 use Rattle.std.proofs.Common.{◌≡◌, ◌∙◌, ℕ, true, false, List, [], ◌∷◌, Option, Some, None, MatchOption, Bor, codes, is_some, refl, sym, ap, subst}
 use Rattle.std.specs.List.{list_any}
 use Rattle.std.specs.Str.{bytes_eq}
@@ -23,42 +23,42 @@ use Rattle.am_cli.specs.Decoding.{DecodeEach, IsDuration, IsFlag, IsInterval, Is
 use Rattle.am_alerts.specs.Matcher.{operator_text}
 use Rattle.am_cli.specs.MatcherText.{IsMatcherText}
 use Rattle.am_cli.specs.Read.{duration_in, interval_in, number_in}
-use Rattle.am_cli.specs.declared.reader.Dialect.{Dialect}
-use Rattle.am_cli.specs.declared.reader.Dialect.TheVariants.{Lenient, Strict}
+use Rattle.am_cli.specs.declared.reader.Mode.{Mode}
+use Rattle.am_cli.specs.declared.reader.Mode.TheVariants.{Lenient, Strict}
 use Rattle.am_cli.proofs.MatcherTexts.{one_op, one_text}
 
--- a JSON value tells one at most
+-- a JSON value says one at most
 abbrev pub IsOne : {X : Type 0} → (Data → X → Type 0) → Type 0
-IsOne {X = X} tells = (value : Data) (x y : X) → tells value x → tells value y → x ≡ y
+IsOne {X = X} decodes = (value : Data) (x y : X) → decodes value x → decodes value y → x ≡ y
 
 pub one_read : {X : Type 0} (reading : Data → Option X) → IsOne (λ value x. reading value ≡ Some x)
 one_read reading value x y is also = cc
 
-pub one_each : {X : Type 0} (tells : Data → X → Type 0) → IsOne tells → (items : Items) (xs ys : List X) → DecodeEach tells items xs → DecodeEach tells items ys → xs ≡ ys
-one_each tells one no_items [] [] is also = refl
-one_each tells one no_items [] (y ∷ ys) is also = absurd also
-one_each tells one no_items (x ∷ xs) ys is also = absurd is
-one_each tells one (item v vs) [] ys is also = absurd is
-one_each tells one (item v vs) (x ∷ xs) [] is also = absurd also
-one_each tells one (item v vs) (x ∷ xs) (y ∷ ys) is also =
+pub one_each : {X : Type 0} (decodes : Data → X → Type 0) → IsOne decodes → (items : Items) (xs ys : List X) → DecodeEach decodes items xs → DecodeEach decodes items ys → xs ≡ ys
+one_each decodes one no_items [] [] is also = refl
+one_each decodes one no_items [] (y ∷ ys) is also = absurd also
+one_each decodes one no_items (x ∷ xs) ys is also = absurd is
+one_each decodes one (item v vs) [] ys is also = absurd is
+one_each decodes one (item v vs) (x ∷ xs) [] is also = absurd also
+one_each decodes one (item v vs) (x ∷ xs) (y ∷ ys) is also =
     let same = one v x y is.0 also.0 in
-    let rest = one_each tells one vs xs ys is.1 also.1 in
+    let rest = one_each decodes one vs xs ys is.1 also.1 in
     λ i. same i ∷ rest i
 
 -- what is there, and must be
-pub one_there : {A X : Type 0} (tells : A → X → Type 0) → ((a : A) (x y : X) → tells a x → tells a y → x ≡ y) → (found : Option A) (x y : X)
-    → MatchOption found ⊥ (λ a. tells a x) → MatchOption found ⊥ (λ a. tells a y) → x ≡ y
-one_there tells one None x y is also = absurd is
-one_there tells one (Some a) x y is also = one a x y is also
+pub one_there : {A X : Type 0} (decodes : A → X → Type 0) → ((a : A) (x y : X) → decodes a x → decodes a y → x ≡ y) → (found : Option A) (x y : X)
+    → MatchOption found ⊥ (λ a. decodes a x) → MatchOption found ⊥ (λ a. decodes a y) → x ≡ y
+one_there decodes one None x y is also = absurd is
+one_there decodes one (Some a) x y is also = one a x y is also
 
--- what is there, or what stands for it
-pub one_or : {X : Type 0} (tells : Data → X → Type 0) → IsOne tells → (absent : X) (found : Option Data) (x y : X)
-    → MatchOption found (x ≡ absent) (λ value. tells value x) → MatchOption found (y ≡ absent) (λ value. tells value y) → x ≡ y
-one_or tells one absent None x y is also = is ∙ sym also
-one_or tells one absent (Some value) x y is also = one value x y is also
+-- what is there, or what represents it
+pub one_or : {X : Type 0} (decodes : Data → X → Type 0) → IsOne decodes → (absent : X) (found : Option Data) (x y : X)
+    → MatchOption found (x ≡ absent) (λ value. decodes value x) → MatchOption found (y ≡ absent) (λ value. decodes value y) → x ≡ y
+one_or decodes one absent None x y is also = is ∙ sym also
+one_or decodes one absent (Some value) x y is also = one value x y is also
 
-pub one_list : {X : Type 0} (tells : Data → X → Type 0) → IsOne tells → IsOne (IsList tells)
-one_list tells one value xs ys is also = one_there (DecodeEach tells) (one_each tells one) (as_array value) xs ys is also
+pub one_list : {X : Type 0} (decodes : Data → X → Type 0) → IsOne decodes → IsOne (IsList decodes)
+one_list decodes one value xs ys is also = one_there (DecodeEach decodes) (one_each decodes one) (as_array value) xs ys is also
 
 pub one_object : {X : Type 0} (has : Members → X → Type 0) → ((members : Members) (x y : X) → has members x → has members y → x ≡ y) → IsOne (IsObject has)
 one_object has one value x y is also = one_there has one (as_object value) x y is also
@@ -95,8 +95,8 @@ one_members [] (q ∷ qs) is = absurd (cc)
 one_members (p ∷ ps) [] is = absurd (cc)
 one_members (p ∷ ps) (q ∷ qs) is = one_more p q ps qs (cc) (cc) (one_members ps qs (cc))
 
--- the pairs that a value tells are those of one list of labels
-pub one_pairs : (dialect : Dialect) (value : Data) (ps qs : List (Bor (List ℕ) × Bor (List ℕ))) → DecodesToPairs dialect value ps → DecodesToPairs dialect value qs
+-- the pairs that a value says are those of one list of labels
+pub one_pairs : (mode : Mode) (value : Data) (ps qs : List (Bor (List ℕ) × Bor (List ℕ))) → DecodesToPairs mode value ps → DecodesToPairs mode value qs
     → labels_in ps ≡ labels_in qs
 one_pairs Lenient value ps qs is also = one_array (as_array value) ps qs is also
 one_pairs Strict value ps qs is also = by (as_object value) is also
@@ -107,20 +107,20 @@ one_pairs Strict value ps qs is also = by (as_object value) is also
     by None is also = one_array (as_array value) ps qs is also
     by (Some ms) is also = one_members ps qs (sym is ∙ also)
 
--- in the strict dialect the members of an object are pairs
+-- in the strict mode the members of an object are pairs
 pub object_pairs : (value : Data) (members : Members) (ps : List (Bor (List ℕ) × Bor (List ℕ))) → Some members ≡ as_object value
     → DecodesToPairs Strict value ps → members ≡ text_members ps
-object_pairs value ms ps is told =
-    subst (λ (o : Option Members). MatchOption o (IsList IsPair value ps) (λ ms. ms ≡ text_members ps)) (sym is) told
+object_pairs value ms ps is decoded =
+    subst (λ (o : Option Members). MatchOption o (IsList IsPair value ps) (λ ms. ms ≡ text_members ps)) (sym is) decoded
 
 -- what is no object is an array of pairs
 pub array_pairs : (value : Data) (ps : List (Bor (List ℕ) × Bor (List ℕ))) → is_some (as_object value) ≡ false → DecodesToPairs Strict value ps
     → IsList IsPair value ps
-array_pairs value ps other told = by (as_object value) other told
+array_pairs value ps other decoded = by (as_object value) other decoded
   where
     by : (o : Option Members) → is_some o ≡ false → MatchOption o (IsList IsPair value ps) (λ ms. ms ≡ text_members ps) → IsList IsPair value ps
-    by None other told = told
-    by (Some ms) other told = absurd (cc)
+    by None other decoded = decoded
+    by (Some ms) other decoded = absurd (cc)
 
 -- an object that is none
 pub no_object : (value : Data) → None ≡ as_object value → is_some (as_object value) ≡ true → ⊥
@@ -150,7 +150,7 @@ pub written_so : (found : Option Items) (name operator value : List ℕ) (parts 
     → found ≡ Some (item (string parts.name) (item (string (operator_text parts.op)) (item (string parts.value) no_items)))
 written_so found name operator value parts is same_name same_op same_value = cc
 
-one_written : (dialect : Dialect) → IsOne (IsMatcherIn dialect)
+one_written : (mode : Mode) → IsOne (IsMatcherIn mode)
 one_written Lenient value m n is also = one_three value m n is also
 one_written Strict value m n is also = by (as_str value) is also
   where
@@ -158,28 +158,28 @@ one_written Strict value m n is also = by (as_str value) is also
     by None is also = one_three value m n is also
     by (Some text) is also = one_text text m n is also
 
-pub one_matcher : (dialect : Dialect) → IsOne (DecodesToMatcher dialect)
-one_matcher dialect value m n is also = one_written dialect value m n is.written also.written
+pub one_matcher : (mode : Mode) → IsOne (DecodesToMatcher mode)
+one_matcher mode value m n is also = one_written mode value m n is.written also.written
 
-pub one_matchers : (dialect : Dialect) (found : Option Data) (ms ns : List MatcherParts) → MatchOption found (ms ≡ []) (λ value. IsList (DecodesToMatcher dialect) value ms)
-    → MatchOption found (ns ≡ []) (λ value. IsList (DecodesToMatcher dialect) value ns) → ms ≡ ns
-one_matchers dialect found ms ns is also =
-    one_or (IsList (DecodesToMatcher dialect)) (one_list (DecodesToMatcher dialect) (one_matcher dialect)) [] found ms ns is also
+pub one_matchers : (mode : Mode) (found : Option Data) (ms ns : List MatcherParts) → MatchOption found (ms ≡ []) (λ value. IsList (DecodesToMatcher mode) value ms)
+    → MatchOption found (ns ≡ []) (λ value. IsList (DecodesToMatcher mode) value ns) → ms ≡ ns
+one_matchers mode found ms ns is also =
+    one_or (IsList (DecodesToMatcher mode)) (one_list (DecodesToMatcher mode) (one_matcher mode)) [] found ms ns is also
 
 -- ---- texts and rules
 
 pub one_text_of : IsOne IsText
 one_text_of = one_read as_str
 
-one_rule_of : (dialect : Dialect) (members : Members) (r s : RuleData) → HasRule dialect members r → HasRule dialect members s → r ≡ s
-one_rule_of dialect members r s is also =
-    let source = one_matchers dialect (get_member (codes "source") members) r.source s.source is.source also.source in
-    let target = one_matchers dialect (get_member (codes "target") members) r.target s.target is.target also.target in
+one_rule_of : (mode : Mode) (members : Members) (r s : RuleData) → HasRule mode members r → HasRule mode members s → r ≡ s
+one_rule_of mode members r s is also =
+    let source = one_matchers mode (get_member (codes "source") members) r.source s.source is.source also.source in
+    let target = one_matchers mode (get_member (codes "target") members) r.target s.target is.target also.target in
     let equal = one_or (IsList IsText) (one_list IsText one_text_of) [] (get_member (codes "equal") members) r.equal s.equal is.equal also.equal in
     λ i. record { source = source i; target = target i; equal = equal i }
 
-pub one_rule : (dialect : Dialect) → IsOne (DecodesToRule dialect)
-one_rule dialect = one_object (HasRule dialect) (one_rule_of dialect)
+pub one_rule : (mode : Mode) → IsOne (DecodesToRule mode)
+one_rule mode = one_object (HasRule mode) (one_rule_of mode)
 
 -- ---- routes
 
@@ -190,11 +190,11 @@ all_named (n ∷ []) each =
     ap (λ (t : List ℕ). list_any (λ name. bytes_eq name all_labels) (t ∷ [])) same
 all_named (n ∷ m ∷ ns) each = absurd each.1
 
--- names that are told beside all labels alone
+-- names that are given beside all labels alone
 pub all_or_names : (value : Data) (names : List (List ℕ)) → as_array value ≡ Some (item (string all_labels) no_items) → IsList IsText value names
     → list_any (λ name. bytes_eq name all_labels) names ≡ true
-all_or_names value names is told =
-    all_named names (subst (λ (o : Option Items). MatchOption o ⊥ (λ items. DecodeEach IsText items names)) is told)
+all_or_names value names is decoded =
+    all_named names (subst (λ (o : Option Items). MatchOption o ⊥ (λ items. DecodeEach IsText items names)) is decoded)
 
 pub one_group_by : IsOne IsGroupBy
 one_group_by value All All is also = refl
@@ -212,70 +212,70 @@ one_options members r s name is also =
     let repeat = one_or IsInterval (one_read interval_in) 14400000 (get_member (codes "repeat_interval") members) r.repeat_interval s.repeat_interval is.repeat_interval also.repeat_interval in
     λ i. record { name = name i; receiver = receiver i; group_by = group_by i; group_wait = wait i; group_interval = interval i; repeat_interval = repeat i }
 
-one_root_of : (dialect : Dialect) (members : Members) (r s : Route) → HasRoot dialect members r → HasRoot dialect members s → r ≡ s
-one_root_of dialect members r s is also =
+one_root_of : (mode : Mode) (members : Members) (r s : Route) → HasRoot mode members r → HasRoot mode members s → r ≡ s
+one_root_of mode members r s is also =
     one_options members r s (is.name ∙ sym also.name) is.options also.options
 
-pub one_root : (dialect : Dialect) → IsOne (DecodesToRoot dialect)
-one_root dialect = one_object (HasRoot dialect) (one_root_of dialect)
+pub one_root : (mode : Mode) → IsOne (DecodesToRoot mode)
+one_root mode = one_object (HasRoot mode) (one_root_of mode)
 
-one_child_of : (dialect : Dialect) (members : Members) (c d : Child) → HasChild dialect members c → HasChild dialect members d → c ≡ d
-one_child_of dialect members c d is also =
+one_child_of : (mode : Mode) (members : Members) (c d : Child) → HasChild mode members c → HasChild mode members d → c ≡ d
+one_child_of mode members c d is also =
     let name = one_there IsText one_text_of (get_member (codes "name") members) c.route.name d.route.name is.name also.name in
     let route = one_options members c.route d.route name is.options also.options in
-    let matchers = one_matchers dialect (get_member (codes "matchers") members) c.matchers d.matchers is.matchers also.matchers in
-    let goes_on = one_or IsFlag (one_read as_bool) false (get_member (codes "continue") members) c.goes_on d.goes_on is.goes_on also.goes_on in
-    λ i. record { route = route i; matchers = matchers i; goes_on = goes_on i }
+    let matchers = one_matchers mode (get_member (codes "matchers") members) c.matchers d.matchers is.matchers also.matchers in
+    let continues = one_or IsFlag (one_read as_bool) false (get_member (codes "continue") members) c.continues d.continues is.continues also.continues in
+    λ i. record { route = route i; matchers = matchers i; continues = continues i }
 
-pub one_child : (dialect : Dialect) → IsOne (DecodesToChild dialect)
-one_child dialect = one_object (HasChild dialect) (one_child_of dialect)
+pub one_child : (mode : Mode) → IsOne (DecodesToChild mode)
+one_child mode = one_object (HasChild mode) (one_child_of mode)
 
 -- ---- receivers, limits and the whole
 
-one_integration_of : (dialect : Dialect) (members : Members) (m n : Integration) → HasIntegration dialect members m → HasIntegration dialect members n → m ≡ n
-one_integration_of dialect members m n is also =
+one_integration_of : (mode : Mode) (members : Members) (m n : Integration) → HasIntegration mode members m → HasIntegration mode members n → m ≡ n
+one_integration_of mode members m n is also =
     let kind = one_there IsText one_text_of (get_member (codes "kind") members) m.kind n.kind is.kind also.kind in
     let resolved = one_or IsFlag (one_read as_bool) true (get_member (codes "send_resolved") members) m.send_resolved n.send_resolved is.send_resolved also.send_resolved in
     λ i. record { kind = kind i; send_resolved = resolved i }
 
-pub one_integration : (dialect : Dialect) → IsOne (DecodesToIntegration dialect)
-one_integration dialect = one_object (HasIntegration dialect) (one_integration_of dialect)
+pub one_integration : (mode : Mode) → IsOne (DecodesToIntegration mode)
+one_integration mode = one_object (HasIntegration mode) (one_integration_of mode)
 
-one_receiver_of : (dialect : Dialect) (members : Members) (r s : Receiver) → HasReceiver dialect members r → HasReceiver dialect members s → r ≡ s
-one_receiver_of dialect members r s is also =
+one_receiver_of : (mode : Mode) (members : Members) (r s : Receiver) → HasReceiver mode members r → HasReceiver mode members s → r ≡ s
+one_receiver_of mode members r s is also =
     let name = one_there IsText one_text_of (get_member (codes "name") members) r.name s.name is.name also.name in
-    let integrations = one_there (IsList (DecodesToIntegration dialect)) (one_list (DecodesToIntegration dialect) (one_integration dialect)) (get_member (codes "integrations") members)
+    let integrations = one_there (IsList (DecodesToIntegration mode)) (one_list (DecodesToIntegration mode) (one_integration mode)) (get_member (codes "integrations") members)
     r.integrations s.integrations is.integrations also.integrations in
     λ i. record { name = name i; integrations = integrations i }
 
-pub one_receiver : (dialect : Dialect) → IsOne (DecodesToReceiver dialect)
-one_receiver dialect = one_object (HasReceiver dialect) (one_receiver_of dialect)
+pub one_receiver : (mode : Mode) → IsOne (DecodesToReceiver mode)
+one_receiver mode = one_object (HasReceiver mode) (one_receiver_of mode)
 
-one_limits_of : (dialect : Dialect) (members : Members) (l m : Limits) → HasLimits dialect members l → HasLimits dialect members m → l ≡ m
-one_limits_of dialect members l m is also =
-    let names = one_or IsNumber (one_read number_in) greatest_limits.names (get_member (codes "names") members) l.names m.names is.names also.names in
+one_limits_of : (mode : Mode) (members : Members) (l m : Limits) → HasLimits mode members l → HasLimits mode members m → l ≡ m
+one_limits_of mode members l m is also =
+    let alerts = one_or IsNumber (one_read number_in) greatest_limits.alerts (get_member (codes "names") members) l.alerts m.alerts is.alerts also.alerts in
     let groups = one_or IsNumber (one_read number_in) greatest_limits.groups (get_member (codes "groups") members) l.groups m.groups is.groups also.groups in
     let silences = one_or IsNumber (one_read number_in) greatest_limits.silences (get_member (codes "silences") members) l.silences m.silences is.silences also.silences in
     let flushes = one_or IsNumber (one_read number_in) greatest_limits.flushes (get_member (codes "flushes") members) l.flushes m.flushes is.flushes also.flushes in
     let history = one_or IsNumber (one_read number_in) greatest_limits.history (get_member (codes "history") members) l.history m.history is.history also.history in
-    λ i. record { names = names i; groups = groups i; silences = silences i; flushes = flushes i; history = history i }
+    λ i. record { alerts = alerts i; groups = groups i; silences = silences i; flushes = flushes i; history = history i }
 
-pub one_limits : (dialect : Dialect) → IsOne (DecodesToLimits dialect)
-one_limits dialect = one_object (HasLimits dialect) (one_limits_of dialect)
+pub one_limits : (mode : Mode) → IsOne (DecodesToLimits mode)
+one_limits mode = one_object (HasLimits mode) (one_limits_of mode)
 
-one_parts_of : (dialect : Dialect) (members : Members) (c d : Config) → HasParts dialect members c → HasParts dialect members d → c ≡ d
-one_parts_of dialect members c d is also =
+one_parts_of : (mode : Mode) (members : Members) (c d : Config) → HasParts mode members c → HasParts mode members d → c ≡ d
+one_parts_of mode members c d is also =
     let retention = one_or IsDuration (one_read duration_in) 432000000 (get_member (codes "retention") members) c.retention d.retention is.retention also.retention in
-    let limits = one_or (DecodesToLimits dialect) (one_limits dialect) greatest_limits (get_member (codes "limits") members) c.limits d.limits is.limits also.limits in
-    let receivers = one_there (IsList (DecodesToReceiver dialect)) (one_list (DecodesToReceiver dialect) (one_receiver dialect)) (get_member (codes "receivers") members)
+    let limits = one_or (DecodesToLimits mode) (one_limits mode) greatest_limits (get_member (codes "limits") members) c.limits d.limits is.limits also.limits in
+    let receivers = one_there (IsList (DecodesToReceiver mode)) (one_list (DecodesToReceiver mode) (one_receiver mode)) (get_member (codes "receivers") members)
     c.receivers d.receivers is.receivers also.receivers in
-    let root = one_there (DecodesToRoot dialect) (one_root dialect) (get_member (codes "route") members) c.routes.root d.routes.root is.root also.root in
-    let children = one_or (IsList (DecodesToChild dialect)) (one_list (DecodesToChild dialect) (one_child dialect)) [] (get_member (codes "children") members)
+    let root = one_there (DecodesToRoot mode) (one_root mode) (get_member (codes "route") members) c.routes.root d.routes.root is.root also.root in
+    let children = one_or (IsList (DecodesToChild mode)) (one_list (DecodesToChild mode) (one_child mode)) [] (get_member (codes "children") members)
     is.children also.children is.listed also.listed in
     let routes : c.routes ≡ d.routes = is.tree ∙ (λ i. tree_of (root i) (children i)) ∙ sym also.tree in
-    let rules = one_or (IsList (DecodesToRule dialect)) (one_list (DecodesToRule dialect) (one_rule dialect)) [] (get_member (codes "inhibit") members)
+    let rules = one_or (IsList (DecodesToRule mode)) (one_list (DecodesToRule mode) (one_rule mode)) [] (get_member (codes "inhibit") members)
     c.rules d.rules is.rules also.rules in
     λ i. record { routes = routes i; receivers = receivers i; rules = rules i; retention = retention i; limits = limits i }
 
-pub one_parts : (dialect : Dialect) → IsOne (IsObject (HasParts dialect))
-one_parts dialect = one_object (HasParts dialect) (one_parts_of dialect)
+pub one_parts : (mode : Mode) → IsOne (IsObject (HasParts mode))
+one_parts mode = one_object (HasParts mode) (one_parts_of mode)

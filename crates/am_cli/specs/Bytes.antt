@@ -6,14 +6,14 @@ abbrev pub moved : {E : Type 0} → Result ℕ E → List ℕ → List ℕ
 moved (Ok count) bytes = take count bytes
 moved (Err fault) bytes = []
 
--- whether an answer tells the end: nothing was read into a buffer that isn't empty
+-- whether an answer reported the end: nothing was read into a buffer that isn't empty
 abbrev pub is_end : {E : Type 0} → Result ℕ E → List ℕ → Bool
 is_end (Ok count) buffer = (count == 0) && not (length buffer == 0)
 is_end (Err fault) buffer = false
 
--- what a device did: how often it was asked, failed and told its end, and the bytes that it moved
+-- what a device did: how often it was asked, failed and reported its end, and the bytes that it moved
 pub record IoTraceData : Type 0 where
-  pub asked : ℕ
+  pub reads : ℕ
   pub failed : ℕ
   pub ended : ℕ
   pub moved : List ℕ

@@ -1,4 +1,4 @@
--- What the JSON value of a configuration tells, a line for each member.
+-- What the JSON value of a configuration says, a line for each member.
 use Rattle.std.specs.Prelude.{◌≡◌, ◌≤◌, ◌++◌, ◌&&◌, ℕ, Bool, List, [], ◌∷◌, Some, None, true, false, codes, length, IsTrue, MatchOption}
 use Rattle.std.specs.Borrow.{Bor}
 use Rattle.std.specs.List.{list_all, list_any}
@@ -9,7 +9,7 @@ use Rattle.am_alerts.specs.Labels.{IsReadOf, labels_in, read_fault}
 use Rattle.am_alerts.specs.Matcher.{compare_texts, has_pattern, matcher_fault, operator_text}
 use Rattle.am_alerts.specs.RoutingTree.{children_of, level_fault, tree_of}
 use Rattle.am_alerts.specs.declared.labels.Label.{Label}
-use Rattle.am_alerts.specs.declared.limits.TheConstants.{MAX_MATCHERS, MAX_NAMES}
+use Rattle.am_alerts.specs.declared.limits.TheConstants.{MAX_MATCHERS, MAX_LABEL_NAMES}
 use Rattle.am_alerts.specs.declared.matcher.MatcherParts.{MatcherParts}
 use Rattle.am_alerts.specs.declared.route.Child.{Child}
 use Rattle.am_alerts.specs.declared.route.GroupBy.{GroupBy}
@@ -24,8 +24,8 @@ use Rattle.am_mute.specs.Inhibit.{RuleData, rule_fault}
 use Rattle.am_cli.specs.Decoding.{IsText, IsFlag, IsNumber, IsDuration, IsInterval, IsList, IsObject, Has, HasOr}
 use Rattle.am_cli.specs.MatcherText.{IsMatcherText}
 use Rattle.am_cli.specs.Read.{has_only}
-use Rattle.am_cli.specs.declared.reader.Dialect.{Dialect}
-use Rattle.am_cli.specs.declared.reader.Dialect.TheVariants.{Lenient, Strict}
+use Rattle.am_cli.specs.declared.reader.Mode.{Mode}
+use Rattle.am_cli.specs.declared.reader.Mode.TheVariants.{Lenient, Strict}
 
 -- a name and a value: an array of two texts
 abbrev pub IsPair : Data → Bor (List ℕ) × Bor (List ℕ) → Type 0
@@ -36,15 +36,15 @@ abbrev pub text_members : List (Bor (List ℕ) × Bor (List ℕ)) → Members
 text_members [] = no_members
 text_members (p ∷ ps) = member p.0.now (string p.1.now) (text_members ps)
 
--- an array of pairs; in the strict dialect an object can stand for it too, whose members are the pairs
-abbrev pub DecodesToPairs : Dialect → Data → List (Bor (List ℕ) × Bor (List ℕ)) → Type 0
+-- an array of pairs; in the strict mode an object can represent it too, whose members are the pairs
+abbrev pub DecodesToPairs : Mode → Data → List (Bor (List ℕ) × Bor (List ℕ)) → Type 0
 DecodesToPairs Lenient value pairs = IsList IsPair value pairs
 DecodesToPairs Strict value pairs = MatchOption (as_object value) (IsList IsPair value pairs) (λ members. members ≡ text_members pairs)
 
 -- the labels of these pairs, which have no fault; those without a value are dropped
-pub record DecodesToLabels (dialect : Dialect) (value : Data) (labels : List Label) : Type 0 where
+pub record DecodesToLabels (mode : Mode) (value : Data) (labels : List Label) : Type 0 where
   pub pairs : List (Bor (List ℕ) × Bor (List ℕ))
-  pub written : DecodesToPairs dialect value pairs
+  pub written : DecodesToPairs mode value pairs
   pub sound : read_fault (labels_in pairs) ≡ None
   pub read : IsReadOf (labels_in pairs) labels
 
@@ -52,8 +52,8 @@ pub record DecodesToLabels (dialect : Dialect) (value : Data) (labels : List Lab
 abbrev pub IsMatcher : Data → MatcherParts → Type 0
 IsMatcher value m = as_array value ≡ Some (item (string m.name) (item (string (operator_text m.op)) (item (string m.value) no_items)))
 
--- in the strict dialect one text can stand for a matcher too
-abbrev pub IsMatcherIn : Dialect → Data → MatcherParts → Type 0
+-- in the strict mode one text can represent a matcher too
+abbrev pub IsMatcherIn : Mode → Data → MatcherParts → Type 0
 IsMatcherIn Lenient value m = IsMatcher value m
 IsMatcherIn Strict value m = MatchOption (as_str value) (IsMatcher value m) (λ text. IsMatcherText text m)
 
@@ -62,26 +62,26 @@ pub record IsSound (m : MatcherParts) : Type 0 where
   pub faultless : matcher_fault m ≡ None
   pub pattern : IsTrue (has_pattern m)
 
-pub record DecodesToMatcher (dialect : Dialect) (value : Data) (m : MatcherParts) : Type 0 where
-  pub written : IsMatcherIn dialect value m
+pub record DecodesToMatcher (mode : Mode) (value : Data) (m : MatcherParts) : Type 0 where
+  pub written : IsMatcherIn mode value m
   pub sound : IsSound m
 
--- what the members of an inhibition rule tell
-pub record HasRule (dialect : Dialect) (members : Members) (rule : RuleData) : Type 0 where
-  pub only : IsTrue (has_only dialect (codes "source" ∷ codes "target" ∷ codes "equal" ∷ []) members)
-  pub source : HasOr (IsList (DecodesToMatcher dialect)) [] (codes "source") members rule.source
-  pub target : HasOr (IsList (DecodesToMatcher dialect)) [] (codes "target") members rule.target
+-- what the members of an inhibition rule say
+pub record HasRule (mode : Mode) (members : Members) (rule : RuleData) : Type 0 where
+  pub only : IsTrue (has_only mode (codes "source" ∷ codes "target" ∷ codes "equal" ∷ []) members)
+  pub source : HasOr (IsList (DecodesToMatcher mode)) [] (codes "source") members rule.source
+  pub target : HasOr (IsList (DecodesToMatcher mode)) [] (codes "target") members rule.target
   pub equal : HasOr (IsList IsText) [] (codes "equal") members rule.equal
   pub sound : rule_fault rule ≡ None
 
-abbrev pub DecodesToRule : Dialect → Data → RuleData → Type 0
-DecodesToRule dialect value rule = IsObject (HasRule dialect) value rule
+abbrev pub DecodesToRule : Mode → Data → RuleData → Type 0
+DecodesToRule mode value rule = IsObject (HasRule mode) value rule
 
 -- whether no matcher of a rule needs a regex
 abbrev pub rule_compares_texts : RuleData → Bool
 rule_compares_texts rule = compare_texts rule.source && compare_texts rule.target
 
--- what stands in `group_by` for all labels, and alone
+-- what is in `group_by` for all labels, and alone
 abbrev pub all_labels : List ℕ
 all_labels = codes "..."
 
@@ -89,7 +89,7 @@ all_labels = codes "..."
 abbrev pub IsGroupBy : Data → GroupBy → Type 0
 IsGroupBy value All = as_array value ≡ Some (item (string all_labels) no_items)
 IsGroupBy value (Names names) =
-    IsList IsText value names × (list_any (λ name. bytes_eq name all_labels) names ≡ false) × (length names ≤ MAX_NAMES)
+    IsList IsText value names × (list_any (λ name. bytes_eq name all_labels) names ≡ false) × (length names ≤ MAX_LABEL_NAMES)
 
 -- what the root and its children have alike: all of a route but its name
 pub record DecodesToOptions (members : Members) (route : Route) : Type 0 where
@@ -104,81 +104,81 @@ abbrev pub option_names : List (List ℕ)
 option_names =
     codes "receiver" ∷ codes "group_by" ∷ codes "group_wait" ∷ codes "group_interval" ∷ codes "repeat_interval" ∷ []
 
--- what the members of the root tell
-pub record HasRoot (dialect : Dialect) (members : Members) (route : Route) : Type 0 where
-  pub only : IsTrue (has_only dialect option_names members)
+-- what the members of the root say
+pub record HasRoot (mode : Mode) (members : Members) (route : Route) : Type 0 where
+  pub only : IsTrue (has_only mode option_names members)
   pub options : DecodesToOptions members route
   pub name : route.name ≡ codes "root"
 
-abbrev pub DecodesToRoot : Dialect → Data → Route → Type 0
-DecodesToRoot dialect value route = IsObject (HasRoot dialect) value route
+abbrev pub DecodesToRoot : Mode → Data → Route → Type 0
+DecodesToRoot mode value route = IsObject (HasRoot mode) value route
 
--- what the members of a child tell
-pub record HasChild (dialect : Dialect) (members : Members) (child : Child) : Type 0 where
-  pub only : IsTrue (has_only dialect (option_names ++ codes "name" ∷ codes "matchers" ∷ codes "continue" ∷ []) members)
+-- what the members of a child say
+pub record HasChild (mode : Mode) (members : Members) (child : Child) : Type 0 where
+  pub only : IsTrue (has_only mode (option_names ++ codes "name" ∷ codes "matchers" ∷ codes "continue" ∷ []) members)
   pub options : DecodesToOptions members child.route
   pub name : Has IsText (codes "name") members child.route.name
-  pub matchers : HasOr (IsList (DecodesToMatcher dialect)) [] (codes "matchers") members child.matchers
+  pub matchers : HasOr (IsList (DecodesToMatcher mode)) [] (codes "matchers") members child.matchers
   pub few : length child.matchers ≤ MAX_MATCHERS
-  pub goes_on : HasOr IsFlag false (codes "continue") members child.goes_on
+  pub continues : HasOr IsFlag false (codes "continue") members child.continues
 
-abbrev pub DecodesToChild : Dialect → Data → Child → Type 0
-DecodesToChild dialect value child = IsObject (HasChild dialect) value child
+abbrev pub DecodesToChild : Mode → Data → Child → Type 0
+DecodesToChild mode value child = IsObject (HasChild mode) value child
 
--- what the members of an integration tell
-pub record HasIntegration (dialect : Dialect) (members : Members) (integration : Integration) : Type 0 where
-  pub only : IsTrue (has_only dialect (codes "kind" ∷ codes "send_resolved" ∷ []) members)
+-- what the members of an integration say
+pub record HasIntegration (mode : Mode) (members : Members) (integration : Integration) : Type 0 where
+  pub only : IsTrue (has_only mode (codes "kind" ∷ codes "send_resolved" ∷ []) members)
   pub kind : Has IsText (codes "kind") members integration.kind
   pub send_resolved : HasOr IsFlag true (codes "send_resolved") members integration.send_resolved
 
-abbrev pub DecodesToIntegration : Dialect → Data → Integration → Type 0
-DecodesToIntegration dialect value integration = IsObject (HasIntegration dialect) value integration
+abbrev pub DecodesToIntegration : Mode → Data → Integration → Type 0
+DecodesToIntegration mode value integration = IsObject (HasIntegration mode) value integration
 
--- what the members of a receiver tell
-pub record HasReceiver (dialect : Dialect) (members : Members) (receiver : Receiver) : Type 0 where
-  pub only : IsTrue (has_only dialect (codes "name" ∷ codes "integrations" ∷ []) members)
+-- what the members of a receiver say
+pub record HasReceiver (mode : Mode) (members : Members) (receiver : Receiver) : Type 0 where
+  pub only : IsTrue (has_only mode (codes "name" ∷ codes "integrations" ∷ []) members)
   pub name : Has IsText (codes "name") members receiver.name
-  pub integrations : Has (IsList (DecodesToIntegration dialect)) (codes "integrations") members receiver.integrations
+  pub integrations : Has (IsList (DecodesToIntegration mode)) (codes "integrations") members receiver.integrations
 
-abbrev pub DecodesToReceiver : Dialect → Data → Receiver → Type 0
-DecodesToReceiver dialect value receiver = IsObject (HasReceiver dialect) value receiver
+abbrev pub DecodesToReceiver : Mode → Data → Receiver → Type 0
+DecodesToReceiver mode value receiver = IsObject (HasReceiver mode) value receiver
 
 -- the names of limits
 abbrev pub limit_names : List (List ℕ)
 limit_names = codes "names" ∷ codes "groups" ∷ codes "silences" ∷ codes "flushes" ∷ codes "history" ∷ []
 
--- what the members of limits tell
-pub record HasLimits (dialect : Dialect) (members : Members) (limits : Limits) : Type 0 where
-  pub only : IsTrue (has_only dialect limit_names members)
-  pub names : HasOr IsNumber greatest_limits.names (codes "names") members limits.names
+-- what the members of limits say
+pub record HasLimits (mode : Mode) (members : Members) (limits : Limits) : Type 0 where
+  pub only : IsTrue (has_only mode limit_names members)
+  pub alerts : HasOr IsNumber greatest_limits.alerts (codes "names") members limits.alerts
   pub groups : HasOr IsNumber greatest_limits.groups (codes "groups") members limits.groups
   pub silences : HasOr IsNumber greatest_limits.silences (codes "silences") members limits.silences
   pub flushes : HasOr IsNumber greatest_limits.flushes (codes "flushes") members limits.flushes
   pub history : HasOr IsNumber greatest_limits.history (codes "history") members limits.history
 
-abbrev pub DecodesToLimits : Dialect → Data → Limits → Type 0
-DecodesToLimits dialect value limits = IsObject (HasLimits dialect) value limits
+abbrev pub DecodesToLimits : Mode → Data → Limits → Type 0
+DecodesToLimits mode value limits = IsObject (HasLimits mode) value limits
 
 -- the names of the members of a configuration
 abbrev pub config_names : List (List ℕ)
 config_names =
     codes "retention" ∷ codes "limits" ∷ codes "receivers" ∷ codes "route" ∷ codes "children" ∷ codes "inhibit" ∷ []
 
--- what the members of a configuration tell, whether or not a dispatcher may have it
-pub record HasParts (dialect : Dialect) (members : Members) (config : Config) : Type 0 where
-  pub only : IsTrue (has_only dialect config_names members)
+-- what the members of a configuration say, whether or not a dispatcher may have it
+pub record HasParts (mode : Mode) (members : Members) (config : Config) : Type 0 where
+  pub only : IsTrue (has_only mode config_names members)
   pub retention : HasOr IsDuration 432000000 (codes "retention") members config.retention
-  pub limits : HasOr (DecodesToLimits dialect) greatest_limits (codes "limits") members config.limits
-  pub receivers : Has (IsList (DecodesToReceiver dialect)) (codes "receivers") members config.receivers
-  pub root : Has (DecodesToRoot dialect) (codes "route") members config.routes.root
+  pub limits : HasOr (DecodesToLimits mode) greatest_limits (codes "limits") members config.limits
+  pub receivers : Has (IsList (DecodesToReceiver mode)) (codes "receivers") members config.receivers
+  pub root : Has (DecodesToRoot mode) (codes "route") members config.routes.root
   pub children : List Child
-  pub listed : HasOr (IsList (DecodesToChild dialect)) [] (codes "children") members children
+  pub listed : HasOr (IsList (DecodesToChild mode)) [] (codes "children") members children
   pub tree : config.routes ≡ tree_of config.routes.root children
   pub sound : level_fault config.routes ≡ None
-  pub rules : HasOr (IsList (DecodesToRule dialect)) [] (codes "inhibit") members config.rules
+  pub rules : HasOr (IsList (DecodesToRule mode)) [] (codes "inhibit") members config.rules
 
-pub record DecodesToConfig (dialect : Dialect) (value : Data) (config : Config) : Type 0 where
-  pub parts : IsObject (HasParts dialect) value config
+pub record DecodesToConfig (mode : Mode) (value : Data) (config : Config) : Type 0 where
+  pub parts : IsObject (HasParts mode) value config
   pub sound : config_fault config ≡ None
 
 -- whether no matcher of a configuration needs a regex

@@ -9,8 +9,8 @@ use Rattle.am_cli.specs.declared.faults.TheConstants.{MAX_FAULTS}
 
 -- the faults with a refused value's behind them, unless there are a hundred
 abbrev pub with_fault : List Fault → InputFault → List Fault
-with_fault faults (Refused place fault_kind) =
-    if nat_lt (length faults) MAX_FAULTS then faults ++ (record { place = place; fault_kind = fault_kind }) ∷ [] else faults
+with_fault faults (Refused pointer fault_kind) =
+    if nat_lt (length faults) MAX_FAULTS then faults ++ (record { pointer = pointer; fault_kind = fault_kind }) ∷ [] else faults
 with_fault faults NoMemory = faults
 
 -- what was read is kept, with no further fault, or else its fault
@@ -20,7 +20,7 @@ IsKept before after (Err fault) kept = (after ≡ with_fault before fault) × (k
 
 -- which fault ends the reading where this one comes: a refused value doesn't, unless there is no memory to keep it
 abbrev pub Ends : InputFault → InputFault → Type 0
-Ends (Refused place fault_kind) end = end ≡ NoMemory
+Ends (Refused pointer fault_kind) end = end ≡ NoMemory
 Ends NoMemory end = end ≡ NoMemory
 
 -- the same of what was read
@@ -28,7 +28,7 @@ abbrev pub EndsReading : {T : Type 0} → Result T InputFault → InputFault →
 EndsReading (Ok read) end = ⊥
 EndsReading (Err fault) end = Ends fault end
 
--- a refusal tells a fault at least
-abbrev pub Tells : Refusal → Type 0
-Tells (One fault) = Unit {0}
-Tells (All faults) = 0 < length faults
+-- a refusal says a fault at least
+abbrev pub HasFaults : Refusal → Type 0
+HasFaults (One fault) = Unit {0}
+HasFaults (All faults) = 0 < length faults

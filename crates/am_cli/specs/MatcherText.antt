@@ -15,15 +15,15 @@ begins_operator b = (b == 61) || (b == 33)
 abbrev pub Lacks : ℕ → List ℕ → Type 0
 Lacks byte text = (k : ℕ) → k < length text → slice_index text k ≢ byte
 
--- what stands in the quotes of a value, or the value, where it has no quote and no comma
+-- what is in the quotes of a value, or the value, where it has no quote and no comma
 abbrev pub IsUnquoted : List ℕ → List ℕ → Type 0
 IsUnquoted written inner = (written ≡ 34 ∷ (inner ++ 34 ∷ [])) ⊎ ((inner ≡ written) × Lacks 34 written × Lacks 44 written)
 
--- what a backslash and the byte behind it stand for: a line feed, a quote or a backslash, or else themselves
+-- what a backslash and the byte behind it represent: a line feed, a quote or a backslash, or else themselves
 abbrev pub escape_of : ℕ → List ℕ
 escape_of b = if b == 110 then 10 ∷ [] else (if (b == 34) || (b == 92) then b ∷ [] else 92 ∷ b ∷ [])
 
--- what a text with escapes stands for, where it comes behind a backslash or doesn't. A quote has a backslash before it, and a backslash
+-- what a text with escapes represents, where it comes behind a backslash or doesn't. A quote has a backslash before it, and a backslash
 -- something behind it
 abbrev pub unescaped : Bool → List ℕ → Option (List ℕ)
 unescaped true [] = None
@@ -45,4 +45,4 @@ pub record IsMatcherText (text : List ℕ) (m : MatcherParts) : Type 0 where
   pub named : IsTrimAscii name m.name
   pub trimmed : IsTrimAscii value written
   pub unquoted : IsUnquoted written inner
-  pub stands : unescaped false inner ≡ Some m.value
+  pub holds : unescaped false inner ≡ Some m.value

@@ -12,24 +12,24 @@ use Rattle.serde_json.specs.Find.{as_array, as_number, as_str, as_u64}
 use Rattle.serde_json.specs.Read.{read}
 use Rattle.serde_json.specs.declared.value.Value.{Value}
 use Rattle.am_alerts.specs.Duration.{duration_of, within_limit}
-use Rattle.am_alerts.specs.Labels.{stands_in}
+use Rattle.am_alerts.specs.Labels.{occurs_in}
 use Rattle.am_cli.specs.declared.fault.InputFault.{InputFault}
 use Rattle.am_cli.specs.declared.fault.InputFault.TheVariants.{Refused, NoMemory}
 use Rattle.am_cli.specs.declared.fault.ParseFault.{ParseFault}
 use Rattle.am_cli.specs.declared.fault.ParseFault.TheVariants as parse
 use Rattle.am_cli.specs.declared.fault.FaultKind.{FaultKind}
-use Rattle.am_cli.specs.declared.reader.Dialect.{Dialect}
-use Rattle.am_cli.specs.declared.reader.Dialect.TheVariants.{Lenient, Strict}
+use Rattle.am_cli.specs.declared.reader.Mode.{Mode}
+use Rattle.am_cli.specs.declared.reader.Mode.TheVariants.{Lenient, Strict}
 
--- a JSON value, and the dialect in which it is read
+-- a JSON value, and the mode in which it is read
 pub record ReaderData : Type 0 where
   pub value : Value
-  pub dialect : Dialect
+  pub mode : Mode
 
--- the members of a JSON object, and the dialect in which they are read
+-- the members of a JSON object, and the mode in which they are read
 pub record ObjectData : Type 0 where
   pub members : List (String Global × Value)
-  pub dialect : Dialect
+  pub mode : Mode
 
 -- the number that a value is, from 0 to 2^64 - 1 and written without point or exponent
 abbrev pub number_in : Data → Option ℕ
@@ -49,16 +49,16 @@ HasItems value count = option_map items_len (as_array value) ≡ Some count
 
 -- whether a fault refuses a value; the other is want of memory
 abbrev pub is_refusal : InputFault → Bool
-is_refusal (Refused place by) = true
+is_refusal (Refused pointer by) = true
 is_refusal NoMemory = false
 
--- a value that is refused tells none of these; want of memory says nothing of it
+-- a value that is refused says none of these; want of memory says nothing of it
 abbrev pub Excludes : {X : Type 0} → (X → Type 0) → InputFault → Type 0
-Excludes {X = X} Tells fault = IsTrue (is_refusal fault) → (x : X) → Tells x → ⊥
+Excludes {X = X} Decodes fault = IsTrue (is_refusal fault) → (x : X) → Decodes x → ⊥
 
--- refused by this kind of fault, or for want of memory to tell the place
+-- refused by this kind of fault, or for want of memory to say the pointer
 abbrev pub IsRefusedBy : FaultKind → InputFault → Type 0
-IsRefusedBy fault_kind (Refused place by) = by ≡ fault_kind
+IsRefusedBy fault_kind (Refused pointer by) = by ≡ fault_kind
 IsRefusedBy fault_kind NoMemory = Unit {0}
 
 -- the bytes are the text of a JSON value
@@ -81,9 +81,9 @@ is_one_of names name = list_any (λ known. bytes_eq known.now name) names
 -- whether each member has one of these names
 abbrev pub are_named : List (List ℕ) → Members → Bool
 are_named names no_members = true
-are_named names (member name value rest) = stands_in name names && are_named names rest
+are_named names (member name value rest) = occurs_in name names && are_named names rest
 
--- whether the names of members are known: in the strict dialect each has one of these names
-abbrev pub has_only : Dialect → List (List ℕ) → Members → Bool
+-- whether the names of members are known: in the strict mode each has one of these names
+abbrev pub has_only : Mode → List (List ℕ) → Members → Bool
 has_only Lenient names ms = true
 has_only Strict names ms = are_named names ms

@@ -8,7 +8,7 @@ impl<'v> FromJson<'v> for Answer {
     ghost use Rattle.std.specs.Prelude.{true};
     ghost use Rattle.am_cli.specs.Decoding.{IsAnswer};
 
-    ghost decodes_to = { λ dialect value answer. IsAnswer value answer };
+    ghost decodes_to = { λ mode value answer. IsAnswer value answer };
 
     ghost never_refused = { λ _. true };
 

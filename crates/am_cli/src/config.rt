@@ -29,9 +29,9 @@ const RETENTION: u64 = 432_000_000;
 /// Reads a configuration. One that no dispatcher may have is refused.
 pub fn read_config(reader: &Reader<'_, '_>) -> Result<Config, InputFault>
     ensures fault { IfOk result (λ config. config_fault config ≡ None) }
-    ensures told { IfOk result (DecodesToConfig reader.now.dialect (view reader.now.value)) }
+    ensures decoded { IfOk result (DecodesToConfig reader.now.mode (view reader.now.value)) }
     ensures refused { IfErr result (Excludes (λ config.
-        DecodesToConfig reader.now.dialect (view reader.now.value) config × IsTrue (config_compares_texts config))) }
+        DecodesToConfig reader.now.mode (view reader.now.value) config × IsTrue (config_compares_texts config))) }
 {
     let config = read_parts(reader)?;
     match config.check() {
@@ -42,9 +42,9 @@ pub fn read_config(reader: &Reader<'_, '_>) -> Result<Config, InputFault>
 
 /// Reads the parts of a configuration.
 fn read_parts(reader: &Reader<'_, '_>) -> Result<Config, InputFault>
-    ensures told { IfOk result (IsObject (HasParts reader.now.dialect) (view reader.now.value)) }
+    ensures decoded { IfOk result (IsObject (HasParts reader.now.mode) (view reader.now.value)) }
     ensures refused { IfErr result (Excludes (λ config.
-        DecodesToConfig reader.now.dialect (view reader.now.value) config × IsTrue (config_compares_texts config))) }
+        DecodesToConfig reader.now.mode (view reader.now.value) config × IsTrue (config_compares_texts config))) }
 {
     let config = reader.object()?;
     config.only(&[
@@ -94,11 +94,11 @@ fn make_routes(
     }
 }
 
-/// The limits of a configuration, or the greatest where it tells none.
+/// The limits of a configuration, or the greatest where it says none.
 fn read_limits(config: &Object<'_, '_>) -> Result<Limits, InputFault>
-    ensures told { IfOk result (HasOr (DecodesToLimits config.now.dialect) greatest_limits (codes "limits")
+    ensures decoded { IfOk result (HasOr (DecodesToLimits config.now.mode) greatest_limits (codes "limits")
         (members_view config.now.members)) }
-    ensures refused { IfErr result (Excludes (HasOr (DecodesToLimits config.now.dialect) greatest_limits (codes "limits")
+    ensures refused { IfErr result (Excludes (HasOr (DecodesToLimits config.now.mode) greatest_limits (codes "limits")
         (members_view config.now.members))) }
 {
     match config.optional("limits") {
@@ -110,7 +110,7 @@ fn read_limits(config: &Object<'_, '_>) -> Result<Limits, InputFault>
 impl<'v> FromJson<'v> for Limits {
     ghost use Rattle.std.specs.Prelude.{true};
 
-    ghost decodes_to = { λ dialect value limits. DecodesToLimits dialect value limits };
+    ghost decodes_to = { λ mode value limits. DecodesToLimits mode value limits };
 
     ghost never_refused = { λ _. true };
 
@@ -119,7 +119,7 @@ impl<'v> FromJson<'v> for Limits {
         limits.only(&["names", "groups", "silences", "flushes", "history"])?;
         let most = Limits::default();
         Ok(Limits {
-            names: read_limit(&limits, "names", most.names)?,
+            alerts: read_limit(&limits, "names", most.alerts)?,
             groups: read_limit(&limits, "groups", most.groups)?,
             silences: read_limit(&limits, "silences", most.silences)?,
             flushes: read_limit(&limits, "flushes", most.flushes)?,
@@ -129,7 +129,7 @@ impl<'v> FromJson<'v> for Limits {
 }
 
 fn read_limit(limits: &Object<'_, '_>, name: &str, absent: usize) -> Result<usize, InputFault>
-    ensures told { IfOk result (HasOr IsNumber absent name.now (members_view limits.now.members)) }
+    ensures decoded { IfOk result (HasOr IsNumber absent name.now (members_view limits.now.members)) }
     ensures refused { IfErr result (Excludes (HasOr IsNumber absent name.now (members_view limits.now.members))) }
 {
     Ok(limits.number_or(name, absent as u64)? as usize)
@@ -139,7 +139,7 @@ impl<'v> FromJson<'v> for Receiver {
     ghost use Rattle.am_cli.specs.Configured.{DecodesToReceiver};
     ghost use Rattle.std.specs.Prelude.{true};
 
-    ghost decodes_to = { λ dialect value receiver. DecodesToReceiver dialect value receiver };
+    ghost decodes_to = { λ mode value receiver. DecodesToReceiver mode value receiver };
 
     ghost never_refused = { λ _. true };
 
@@ -159,7 +159,7 @@ impl<'v> FromJson<'v> for Integration {
     ghost use Rattle.am_cli.specs.Configured.{DecodesToIntegration};
     ghost use Rattle.std.specs.Prelude.{true};
 
-    ghost decodes_to = { λ dialect value integration. DecodesToIntegration dialect value integration };
+    ghost decodes_to = { λ mode value integration. DecodesToIntegration mode value integration };
 
     ghost never_refused = { λ _. true };
 

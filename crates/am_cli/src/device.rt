@@ -16,10 +16,10 @@ pub struct DeviceFault;
 
 /// Where bytes are read from.
 ///
-/// Contracts see how often it was asked, how often it failed, how often it told its end, and the
+/// Contracts see how often it was asked, how often it failed, how often it reported its end, and the
 /// list of the bytes that it gave.
 pub trait Source {
-    ghost asked: { Self → ℕ };
+    ghost reads: { Self → ℕ };
 
     ghost failed: { Self → ℕ };
 
@@ -31,7 +31,7 @@ pub trait Source {
     /// input, where the buffer isn't empty.
     fn read(&mut self, buffer: &mut [u8]) -> Result<usize, DeviceFault>
         ensures within { IfOk result (λ count. count ≤ length buffer.new) }
-        ensures asks { asked self.new ≡ asked self.old + 1 }
+        ensures counts_read { reads self.new ≡ reads self.old + 1 }
         ensures fails { failed self.new ≡ failed self.old + (if is_ok result then 0 else 1) }
         ensures ends { ended self.new ≡ ended self.old + (if is_end result buffer.new then 1 else 0) }
         ensures gives { given self.new ≡ given self.old ++ moved result buffer.new };
@@ -41,7 +41,7 @@ pub trait Source {
 ///
 /// Contracts see how often it was asked, how often it failed and the list of the bytes that it took.
 pub trait Sink {
-    ghost asked: { Self → ℕ };
+    ghost reads: { Self → ℕ };
 
     ghost failed: { Self → ℕ };
 
@@ -50,7 +50,7 @@ pub trait Sink {
     /// Writes from the front of the bytes, and answers how many it took. To take none is to fail.
     fn write(&mut self, bytes: &[u8]) -> Result<usize, DeviceFault>
         ensures within { IfOk result (λ count. count ≤ length bytes.now) }
-        ensures asks { asked self.new ≡ asked self.old + 1 }
+        ensures counts_read { reads self.new ≡ reads self.old + 1 }
         ensures fails { failed self.new ≡ failed self.old
             + (if result_unwrap_or result 0 == 0 then 1 else 0) }
         ensures takes { taken self.new ≡ taken self.old ++ moved result bytes.now };
@@ -89,7 +89,7 @@ impl StandardOutput {
 }
 
 impl Source for StandardInput {
-    ghost asked = { λ i. i.io_trace.asked };
+    ghost reads = { λ i. i.io_trace.reads };
 
     ghost failed = { λ i. i.io_trace.failed };
 
@@ -116,7 +116,7 @@ impl Source for StandardInput {
 }
 
 impl Sink for StandardOutput {
-    ghost asked = { λ o. o.io_trace.asked };
+    ghost reads = { λ o. o.io_trace.reads };
 
     ghost failed = { λ o. o.io_trace.failed };
 

@@ -3,7 +3,7 @@ use std::alloc::{AllocError, AllocFailed};
 use std::fmt;
 use thiserror::Error;
 
-/// Why a value of an input is refused at its place.
+/// Why a value of an input is refused at its pointer.
 #[derive(Clone, Copy, Debug, PartialEq, Eq)]
 pub enum FaultKind {
     /// A member that must be there isn't.
@@ -12,7 +12,7 @@ pub enum FaultKind {
     WrongType,
     /// The kind is right, and the value is refused.
     BadValue,
-    /// Nobody knows a member of this name, which the strict dialect refuses.
+    /// Nobody knows a member of this name, which the strict mode refuses.
     Unknown,
     /// A call of the board was refused for want of room.
     Full,
@@ -23,7 +23,7 @@ pub enum FaultKind {
 /// Why bytes are no JSON value.
 #[derive(Clone, Copy, Debug, PartialEq, Eq, Error)]
 pub enum ParseFault {
-    /// They are no JSON text in UTF-8, for what stands at this line and column. Both count from 1, the
+    /// They are no JSON text in UTF-8, for what is at this line and column. Both count from 1, the
     /// column in bytes; 0 is the column of a line's end before it.
     #[error("not JSON: line {line}, column {column}")]
     NotJson { line: usize, column: usize },
@@ -35,10 +35,10 @@ pub enum ParseFault {
 /// Why nothing is made of the JSON value of an input.
 #[derive(Debug, Drop, Error)]
 pub enum InputFault {
-    /// A value is refused; the place is a JSON pointer.
-    #[error("refused at {place}: {fault_kind}")]
+    /// A value is refused; the pointer is a JSON pointer.
+    #[error("refused at {pointer}: {fault_kind}")]
     Refused {
-        place: String,
+        pointer: String,
         fault_kind: FaultKind,
     },
     /// Memory was refused.

@@ -5,14 +5,14 @@ use crate::reader::{Object, is_one_of};
 use std::alloc::Global;
 use std::marker::Model;
 
-/// How many faults are told at most.
+/// How many faults are listed at most.
 pub const MAX_FAULTS: usize = 100;
 
 /// A value that is refused.
 #[derive(Debug, Drop)]
 pub struct Fault {
     /// A JSON pointer.
-    pub place: String,
+    pub pointer: String,
     pub fault_kind: FaultKind,
 }
 
@@ -20,7 +20,7 @@ pub struct Fault {
 /// list.
 #[derive(Debug, Drop)]
 pub struct Faults {
-    told: Vec<Fault>,
+    listed: Vec<Fault>,
 }
 
 impl Model for Faults {
@@ -30,9 +30,9 @@ impl Model for Faults {
 
     ghost Value = { List Fault };
 
-    ghost view = { λ f. f.told.items };
+    ghost view = { λ f. f.listed.items };
 
-    ghost invariant = { λ f. length f.told.items ≤ MAX_FAULTS };
+    ghost invariant = { λ f. length f.listed.items ≤ MAX_FAULTS };
 }
 
 /// Why nothing is read of an input.
@@ -64,7 +64,7 @@ impl Faults {
         ensures { result ≡ [] }
     {
         Faults {
-            told: Vec::new(alloc),
+            listed: Vec::new(alloc),
         }
     }
 
@@ -73,21 +73,21 @@ impl Faults {
         ensures faults { result.now ≡ self.now }
         ensures few { length self.now ≤ MAX_FAULTS }
     {
-        self.told.as_slice()
+        self.listed.as_slice()
     }
 
     /// How many there are.
     pub fn len(&self) -> usize
         ensures { result ≡ length self.now }
     {
-        self.told.len()
+        self.listed.len()
     }
 
     /// Whether there are none.
     pub fn is_empty(&self) -> bool
         ensures { IsTrue result ↔ (self.now ≡ []) }
     {
-        self.told.is_empty()
+        self.listed.is_empty()
     }
 
     /// Keeps the fault of a refused value, unless a hundred are kept. Another fault ends the reading.
@@ -97,9 +97,15 @@ impl Faults {
         ensures ends { IfErr result (Ends fault) }
     {
         match fault {
-            InputFault::Refused { place, fault_kind } => {
-                if self.told.len() < MAX_FAULTS {
-                    self.told.push(Fault { place, fault_kind })?;
+            InputFault::Refused {
+                pointer,
+                fault_kind,
+            } => {
+                if self.listed.len() < MAX_FAULTS {
+                    self.listed.push(Fault {
+                        pointer,
+                        fault_kind,
+                    })?;
                 }
                 Ok(())
             }

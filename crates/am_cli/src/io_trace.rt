@@ -4,11 +4,11 @@ ghost use Rattle.std.specs.Prelude.{◌≡◌, ◌+◌, ◌++◌, []};
 use am_ghost::GhostList;
 use std::marker::Model;
 
-/// How often a device was asked, how often it failed, how often it told its end, and the bytes that
+/// How often a device was asked, how often it failed, how often it reported its end, and the bytes that
 /// it moved, in their order. They exist in proofs alone: a trace takes no memory.
 #[derive(Drop)]
 pub struct IoTrace {
-    asked: GhostList<()>,
+    reads: GhostList<()>,
     failed: GhostList<()>,
     ended: GhostList<()>,
     moved: GhostList<u8>,
@@ -21,7 +21,7 @@ impl Model for IoTrace {
     ghost Value = { IoTraceData };
 
     ghost view = { λ u. record {
-      asked = length u.asked.items;
+      reads = length u.reads.items;
       failed = length u.failed.items;
       ended = length u.ended.items;
       moved = u.moved.items;
@@ -31,13 +31,13 @@ impl Model for IoTrace {
 impl IoTrace {
     /// The trace of a device that wasn't asked yet.
     pub fn none() -> IoTrace
-        ensures asked { result.asked ≡ 0 }
+        ensures reads { result.reads ≡ 0 }
         ensures failed { result.failed ≡ 0 }
         ensures ended { result.ended ≡ 0 }
         ensures moved { result.moved ≡ [] }
     {
         IoTrace {
-            asked: GhostList::new(),
+            reads: GhostList::new(),
             failed: GhostList::new(),
             ended: GhostList::new(),
             moved: GhostList::new(),
@@ -46,34 +46,34 @@ impl IoTrace {
 
     /// The device was asked, and moved these bytes.
     pub fn add_success(&mut self, bytes: &[u8])
-        ensures asked { self.new.asked ≡ self.old.asked + 1 }
+        ensures reads { self.new.reads ≡ self.old.reads + 1 }
         ensures failed { self.new.failed ≡ self.old.failed }
         ensures ended { self.new.ended ≡ self.old.ended }
         ensures moved { self.new.moved ≡ self.old.moved ++ bytes.now }
     {
-        self.asked.add(&());
+        self.reads.add(&());
         self.moved.add_all(bytes);
     }
 
-    /// The device was asked, and told that this is the end.
+    /// The device was asked, and reported that this is the end.
     pub fn add_end(&mut self)
-        ensures asked { self.new.asked ≡ self.old.asked + 1 }
+        ensures reads { self.new.reads ≡ self.old.reads + 1 }
         ensures failed { self.new.failed ≡ self.old.failed }
         ensures ended { self.new.ended ≡ self.old.ended + 1 }
         ensures moved { self.new.moved ≡ self.old.moved }
     {
-        self.asked.add(&());
+        self.reads.add(&());
         self.ended.add(&());
     }
 
     /// The device was asked, and failed.
     pub fn add_failure(&mut self)
-        ensures asked { self.new.asked ≡ self.old.asked + 1 }
+        ensures reads { self.new.reads ≡ self.old.reads + 1 }
         ensures failed { self.new.failed ≡ self.old.failed + 1 }
         ensures ended { self.new.ended ≡ self.old.ended }
         ensures moved { self.new.moved ≡ self.old.moved }
     {
-        self.asked.add(&());
+        self.reads.add(&());
         self.failed.add(&());
     }
 }

@@ -7,7 +7,7 @@ ghost use Rattle.am_cli.specs.Read.{Excludes};
 ghost use Rattle.am_cli.specs.declared.fault.InputFault.{InputFault};
 
 use crate::fault::{FaultKind, InputFault};
-use crate::reader::{Dialect, FromJson, Reader};
+use crate::reader::{FromJson, Mode, Reader};
 use am_alerts::labels::{LabelFault, Labels, is_label_name};
 use am_alerts::limits::MAX_LABEL_BYTES;
 
@@ -16,7 +16,7 @@ impl<'v> FromJson<'v> for (&'v str, &'v str) {
     ghost use Rattle.std.specs.Prelude.{true};
     ghost use Rattle.am_cli.specs.Configured.{IsPair};
 
-    ghost decodes_to = { λ dialect value pair. IsPair value pair };
+    ghost decodes_to = { λ mode value pair. IsPair value pair };
 
     ghost never_refused = { λ _. true };
 
@@ -30,7 +30,7 @@ impl<'v> FromJson<'v> for Labels {
     ghost use Rattle.std.specs.Prelude.{true};
     ghost use Rattle.am_cli.specs.Configured.{DecodesToLabels};
 
-    ghost decodes_to = { λ dialect value labels. DecodesToLabels dialect value labels };
+    ghost decodes_to = { λ mode value labels. DecodesToLabels mode value labels };
 
     ghost never_refused = { λ _. true };
 
@@ -39,12 +39,12 @@ impl<'v> FromJson<'v> for Labels {
     }
 }
 
-/// Reads a label set: an array of pairs of a name and a value, or in the strict dialect also an object
-/// whose members are the labels. Refused as a whole, or in the strict dialect at the label at fault: of
+/// Reads a label set: an array of pairs of a name and a value, or in the strict mode also an object
+/// whose members are the labels. Refused as a whole, or in the strict mode at the label at fault: of
 /// two of one name the second.
 pub fn read_labels(reader: &Reader<'_, '_>) -> Result<Labels, InputFault>
-    ensures told { IfOk result (DecodesToLabels reader.now.dialect (view reader.now.value)) }
-    ensures refused { IfErr result (Excludes (DecodesToLabels reader.now.dialect (view reader.now.value))) }
+    ensures decoded { IfOk result (DecodesToLabels reader.now.mode (view reader.now.value)) }
+    ensures refused { IfErr result (Excludes (DecodesToLabels reader.now.mode (view reader.now.value))) }
 {
     let pairs = read_pairs(reader)?;
     match Labels::read(reader.alloc(), pairs.as_slice()) {
@@ -54,19 +54,19 @@ pub fn read_labels(reader: &Reader<'_, '_>) -> Result<Labels, InputFault>
 }
 
 fn read_pairs<'v>(reader: &Reader<'v, '_>) -> Result<Vec<(&'v str, &'v str)>, InputFault>
-    ensures told { IfOk result (λ pairs. DecodesToPairs reader.now.dialect (view reader.now.value) pairs.items) }
-    ensures refused { IfErr result (Excludes (DecodesToPairs reader.now.dialect (view reader.now.value))) }
+    ensures decoded { IfOk result (λ pairs. DecodesToPairs reader.now.mode (view reader.now.value) pairs.items) }
+    ensures refused { IfErr result (Excludes (DecodesToPairs reader.now.mode (view reader.now.value))) }
 {
-    match reader.dialect() {
-        Dialect::Lenient => reader.list::<(&str, &str)>(),
-        Dialect::Strict => read_strict_pairs(reader),
+    match reader.mode() {
+        Mode::Lenient => reader.list::<(&str, &str)>(),
+        Mode::Strict => read_strict_pairs(reader),
     }
 }
 
 /// The members of an object, or else the pairs of an array.
 fn read_strict_pairs<'v>(reader: &Reader<'v, '_>) -> Result<Vec<(&'v str, &'v str)>, InputFault>
-    ensures told { IfOk result (λ pairs. DecodesToPairs Dialect.Strict (view reader.now.value) pairs.items) }
-    ensures refused { IfErr result (Excludes (DecodesToPairs Dialect.Strict (view reader.now.value))) }
+    ensures decoded { IfOk result (λ pairs. DecodesToPairs Mode.Strict (view reader.now.value) pairs.items) }
+    ensures refused { IfErr result (Excludes (DecodesToPairs Mode.Strict (view reader.now.value))) }
 {
     if reader.is_object() {
         return reader.object()?.texts();
@@ -85,13 +85,13 @@ fn refuse_labels(reader: &Reader<'_, '_>, pairs: &[(&str, &str)], cause: LabelFa
 }
 
 fn refuse_pairs(reader: &Reader<'_, '_>, pairs: &[(&str, &str)], fault: LabelFault) -> InputFault {
-    let place = reader.place();
+    let pointer = reader.pointer();
     for (position, (name, value)) in pairs.iter().enumerate() {
         if is_at_fault(&pairs[..position], name, value, fault) {
             return if reader.is_object() {
-                reader.refuse_at(&place.member(name), FaultKind::BadValue)
+                reader.refuse_at(&pointer.member(name), FaultKind::BadValue)
             } else {
-                reader.refuse_at(&place.item(position), FaultKind::BadValue)
+                reader.refuse_at(&pointer.item(position), FaultKind::BadValue)
             };
         }
     }

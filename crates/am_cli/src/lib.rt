@@ -13,7 +13,7 @@ pub mod labels;
 pub mod law;
 mod matcher;
 pub mod matcher_text;
-pub mod place;
+pub mod pointer;
 pub mod reader;
 mod refusal;
 mod route;

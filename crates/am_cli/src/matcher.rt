@@ -13,43 +13,43 @@ ghost use Rattle.am_cli.specs.MatcherText.{IsMatcherText};
 
 use crate::fault::{FaultKind, InputFault};
 use crate::matcher_text::parts_of_text;
-use crate::reader::{Dialect, FromJson, Object, Reader};
+use crate::reader::{FromJson, Mode, Object, Reader};
 use am_alerts::limits::{MAX_LABEL_BYTES, MAX_MATCHERS};
 use am_alerts::matcher::{Matcher, MatcherFault, MatcherParts, Operator};
 use am_alerts::text::Text;
 use am_mute::inhibit::{InhibitRule, RuleFault};
 
-/// Where the name stands in a matcher of three texts.
+/// Where the name is in a matcher of three texts.
 const NAME: usize = 0;
 
-/// Where the operator stands.
+/// Where the operator is.
 const OPERATOR: usize = 1;
 
-/// Where the value stands.
+/// Where the value is.
 const VALUE: usize = 2;
 
-/// Three texts, or in the strict dialect also one. A pattern that needs a regex may be refused for its size.
+/// Three texts, or in the strict mode also one. A pattern that needs a regex may be refused for its size.
 impl<'v> FromJson<'v> for Matcher {
     ghost use Rattle.am_alerts.specs.Matcher.{compares_texts};
     ghost use Rattle.am_cli.specs.Configured.{DecodesToMatcher};
 
-    ghost decodes_to = { λ dialect value matcher. DecodesToMatcher dialect value matcher };
+    ghost decodes_to = { λ mode value matcher. DecodesToMatcher mode value matcher };
 
     ghost never_refused = { λ matcher. compares_texts matcher };
 
     fn read(reader: &Reader<'v, '_>) -> Result<Matcher, InputFault> {
-        match reader.dialect() {
-            Dialect::Lenient => read_three_texts(reader),
-            Dialect::Strict => read_strict(reader),
+        match reader.mode() {
+            Mode::Lenient => read_three_texts(reader),
+            Mode::Strict => read_strict(reader),
         }
     }
 }
 
 /// One text, or else three.
 fn read_strict(reader: &Reader<'_, '_>) -> Result<Matcher, InputFault>
-    ensures told { IfOk result (DecodesToMatcher Dialect.Strict (view reader.now.value)) }
+    ensures decoded { IfOk result (DecodesToMatcher Mode.Strict (view reader.now.value)) }
     ensures refused { IfErr result (Excludes (λ m.
-        DecodesToMatcher Dialect.Strict (view reader.now.value) m × IsTrue (compares_texts m))) }
+        DecodesToMatcher Mode.Strict (view reader.now.value) m × IsTrue (compares_texts m))) }
 {
     if reader.is_text() {
         return read_one_text(reader);
@@ -58,7 +58,7 @@ fn read_strict(reader: &Reader<'_, '_>) -> Result<Matcher, InputFault>
 }
 
 fn read_one_text(reader: &Reader<'_, '_>) -> Result<Matcher, InputFault>
-    ensures told { IfOk result (λ matcher. IsSomeAnd (as_str (view reader.now.value)) (λ text. IsMatcherText text matcher)) }
+    ensures decoded { IfOk result (λ matcher. IsSomeAnd (as_str (view reader.now.value)) (λ text. IsMatcherText text matcher)) }
     ensures sound { IfOk result IsSound }
     ensures refused { IfErr result (Excludes (λ m. IsSomeAnd (as_str (view reader.now.value)) (λ text. IsMatcherText text m)
         × IsSound m × IsTrue (compares_texts m))) }
@@ -74,15 +74,15 @@ fn read_one_text(reader: &Reader<'_, '_>) -> Result<Matcher, InputFault>
 }
 
 fn read_three_texts(reader: &Reader<'_, '_>) -> Result<Matcher, InputFault>
-    ensures told { IfOk result (IsMatcher (view reader.now.value)) }
+    ensures decoded { IfOk result (IsMatcher (view reader.now.value)) }
     ensures sound { IfOk result IsSound }
     ensures refused { IfErr result (Excludes (λ m.
         IsMatcher (view reader.now.value) m × IsSound m × IsTrue (compares_texts m))) }
 {
-    let place = reader.place();
+    let pointer = reader.pointer();
     let (name, operator, value) = reader.three_texts()?;
     let Some(op) = operator_of(operator) else {
-        return Err(reader.refuse_at(&place.item(OPERATOR), FaultKind::BadValue));
+        return Err(reader.refuse_at(&pointer.item(OPERATOR), FaultKind::BadValue));
     };
     let parts = MatcherParts {
         name: Text::new(reader.alloc(), name)?,
@@ -93,7 +93,7 @@ fn read_three_texts(reader: &Reader<'_, '_>) -> Result<Matcher, InputFault>
         Ok(matcher) => Ok(matcher),
         Err(MatcherFault::NoMemory) => Err(InputFault::NoMemory),
         Err(fault) => Err(reader.refuse_at(
-            &place.item(part_at_fault(fault, name)),
+            &pointer.item(part_at_fault(fault, name)),
             FaultKind::BadValue,
         )),
     }
@@ -124,7 +124,7 @@ fn operator_of(text: &str) -> Option<Operator>
 impl<'v> FromJson<'v> for InhibitRule {
     ghost use Rattle.am_cli.specs.Configured.{DecodesToRule, rule_compares_texts};
 
-    ghost decodes_to = { λ dialect value rule. DecodesToRule dialect value rule };
+    ghost decodes_to = { λ mode value rule. DecodesToRule mode value rule };
 
     ghost never_refused = { λ rule. rule_compares_texts rule };
 
@@ -138,7 +138,7 @@ impl<'v> FromJson<'v> for InhibitRule {
             Ok(rule) => Ok(rule),
             Err(fault) => {
                 let list = list_at_fault(fault);
-                Err(reader.refuse_at(&reader.place().member(list), FaultKind::BadValue))
+                Err(reader.refuse_at(&reader.pointer().member(list), FaultKind::BadValue))
             }
         }
     }
@@ -151,17 +151,17 @@ fn read_side(
     rule: &Object<'_, '_>,
     name: &'static str,
 ) -> Result<Vec<Matcher>, InputFault>
-    ensures told { IfOk result (λ matchers. HasOr (IsList (DecodesToMatcher rule.now.dialect)) [] name.now
+    ensures decoded { IfOk result (λ matchers. HasOr (IsList (DecodesToMatcher rule.now.mode)) [] name.now
         (members_view rule.now.members) matchers.items) }
     ensures refused { IfErr result (Excludes (λ (matchers : List MatcherParts).
-        HasOr (IsList (DecodesToMatcher rule.now.dialect)) [] name.now (members_view rule.now.members) matchers
+        HasOr (IsList (DecodesToMatcher rule.now.mode)) [] name.now (members_view rule.now.members) matchers
         × IsTrue (compare_texts matchers) × (length matchers ≤ MAX_MATCHERS))) }
 {
     let Some(member) = rule.optional(name) else {
         return Ok(Vec::new(rule.alloc()));
     };
     if member.array()?.len() > MAX_MATCHERS {
-        let side = reader.place().member(name);
+        let side = reader.pointer().member(name);
         return Err(reader.refuse_at(&side, FaultKind::BadValue));
     }
     member.list::<Matcher>()

@@ -19,9 +19,9 @@ use std::alloc::{AllocError, Global};
 /// The parts of a matcher that is written as one text, or `None` where the text is no matcher's. Whether
 /// the name has the form of a label name isn't looked at.
 ///
-/// A name, an operator and a value, with ASCII blanks around each. The value stands in quotes, or it has no
-/// quote in it and no comma, which would begin another matcher. In both forms `\"`, `\\` and `\n` stand
-/// for a quote, a backslash and a line feed, and another backslash for itself; none stands at the end.
+/// A name, an operator and a value, with ASCII blanks around each. The value is in quotes, or it has no
+/// quote in it and no comma, which would begin another matcher. In both forms `\"`, `\\` and `\n` are
+/// for a quote, a backslash and a line feed, and another backslash for itself; none is at the end.
 pub fn parts_of_text(alloc: Global, text: &str) -> Result<Option<MatcherParts>, AllocError>
     ensures { IfOk result (λ parts.
         MatchOption parts ((m : MatcherParts) → IsMatcherText text.now m → ⊥) (IsMatcherText text.now)) }
@@ -42,7 +42,7 @@ pub fn parts_of_text(alloc: Global, text: &str) -> Result<Option<MatcherParts>, 
     }))
 }
 
-/// What stands before the operator, the operator, and what stands behind it.
+/// What is before the operator, the operator, and what is behind it.
 fn split(text: &str) -> Option<(&str, Operator, &str)>
     ensures is { IfSome result (λ parts. text.now ≡ parts.0.now ++ (operator_text parts.1 ++ parts.2.now)) }
     ensures begins { IfSome result (λ parts. position begins_operator text.now ≡ Some (length parts.0.now)) }
@@ -50,19 +50,19 @@ fn split(text: &str) -> Option<(&str, Operator, &str)>
     ensures none { result ≡ None → (name value : List ℕ) (op : Operator) → text.now ≡ name ++ (operator_text op ++ value)
         → position begins_operator text.now ≢ Some (length name) }
 {
-    let (name, rest) = text.split_at(operator_place(text)?);
+    let (name, rest) = text.split_at(operator_index(text)?);
     let (op, value) = operator_in(rest)?;
     Some((name, op, value))
 }
 
 /// Where the operator begins: with the first `=` or `!`.
-fn operator_place(text: &str) -> Option<usize>
+fn operator_index(text: &str) -> Option<usize>
     ensures { result ≡ position begins_operator text.now }
 {
     text.bytes().position(|byte| byte == b'=' || byte == b'!')
 }
 
-/// The longest operator with which a text begins, and what stands behind it.
+/// The longest operator with which a text begins, and what is behind it.
 fn operator_in(text: &str) -> Option<(Operator, &str)>
     ensures is { IfSome result (λ read. text.now ≡ operator_text read.0 ++ read.1.now) }
     ensures longest { IfSome result (λ read. read.0 ≡ Operator.Equal → slice_index read.1.now 0 ≢ 126) }
@@ -83,7 +83,7 @@ fn operator_in(text: &str) -> Option<(Operator, &str)>
     }
 }
 
-/// What stands in the quotes of a value, or the whole where it is in none and needs none.
+/// What is in the quotes of a value, or the whole where it is in none and needs none.
 fn without_quotes(written: &str) -> Option<&str>
     ensures { MatchOption result ((inner : List ℕ) → IsUnquoted written.now inner → ⊥)
         (λ inner. IsUnquoted written.now inner.now) }
@@ -119,10 +119,10 @@ fn unescaped(alloc: Global, written: &str) -> Result<Option<String>, AllocError>
     Ok(Some(value))
 }
 
-/// Adds what a backslash before this text stands for, with the character that it escapes; answers what is left.
+/// Adds what a backslash before this text represents, with the character that it escapes; answers what is left.
 fn push_escaped<'t>(behind: &'t str, value: &mut String) -> Result<&'t str, AllocError>
     requires { 0 < length behind.now }
-    ensures stands { IfOk result (λ rest. (added : List ℕ) × (string_bytes value.new ≡ string_bytes value.old ++ added)
+    ensures holds { IfOk result (λ rest. (added : List ℕ) × (string_bytes value.new ≡ string_bytes value.old ++ added)
         × (unescaped true behind.now ≡ option_map (λ r. added ++ r) (unescaped false rest.now))) }
     ensures less { IfOk result (λ rest. length rest.now ≤ length behind.now) }
 {

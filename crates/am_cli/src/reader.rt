@@ -1,8 +1,8 @@
 //! Going down a JSON value with its pointer. The modules that read one part each call it.
 //!
-//! A reader carries the value, its pointer and the dialect. The strict dialect rejects what the
+//! A reader carries the value, its pointer and the mode. The strict mode rejects what the
 //! lenient one ignores, and rejects at the value at fault. Of two faults the same one is reported
-//! in both, except unknown fields, which come first. Contracts see the value and the dialect.
+//! in both, except unknown fields, which come first. Contracts see the value and the mode.
 //!
 //! A type that is read (`FromJson`) has a relation `decodes_to` between a JSON value and itself,
 //! with a line for each field and its default. The reader of a list hands the relation of its items
@@ -24,7 +24,7 @@ ghost use Rattle.am_cli.specs.Configured.{text_members};
 ghost use Rattle.am_cli.specs.Decoding.{Has, HasOr, IsList, IsText};
 
 use crate::fault::{FaultKind, InputFault, ParseFault};
-use crate::place::JsonPointer;
+use crate::pointer::JsonPointer;
 use am_alerts::text::Text;
 use serde_json::{Map, Value};
 use std::alloc::Global;
@@ -32,31 +32,31 @@ use std::marker::Model;
 
 /// How much a reader takes, and where it refuses.
 #[derive(Clone, Copy, PartialEq, Eq)]
-pub enum Dialect {
+pub enum Mode {
     /// Members of unknown names are passed over. What is made of several values is refused at the value
     /// that holds them.
     Lenient,
-    /// A member of an unknown name is refused, and so is each value at its very own place. Labels may be
+    /// A member of an unknown name is refused, and so is each value at its very own pointer. Labels may be
     /// an object of texts, and a matcher may be one text.
     Strict,
 }
 
-/// A JSON value and its place.
+/// A JSON value and its pointer.
 #[derive(Drop)]
 pub struct Reader<'v, 'p> {
     alloc: Global,
     value: &'v Value,
-    place: JsonPointer<'p>,
-    dialect: Dialect,
+    pointer: JsonPointer<'p>,
+    mode: Mode,
 }
 
-/// A JSON object and its place.
+/// A JSON object and its pointer.
 #[derive(Drop)]
 pub struct Object<'v, 'p> {
     alloc: Global,
     members: &'v Map<String, Value>,
-    place: JsonPointer<'p>,
-    dialect: Dialect,
+    pointer: JsonPointer<'p>,
+    mode: Mode,
 }
 
 impl<'v, 'p> Model for Reader<'v, 'p> {
@@ -68,7 +68,7 @@ impl<'v, 'p> Model for Reader<'v, 'p> {
 
     ghost coded = { Prim.hlevel (codes, json.the_row.coded) };
 
-    ghost view = { λ r. record { value = r.value.now; dialect = r.dialect } };
+    ghost view = { λ r. record { value = r.value.now; mode = r.mode } };
 }
 
 impl<'v, 'p> Model for Object<'v, 'p> {
@@ -80,26 +80,26 @@ impl<'v, 'p> Model for Object<'v, 'p> {
 
     ghost coded = { Prim.hlevel (codes, json.the_row.coded) };
 
-    ghost view = { λ o. record { members = o.members.now.entries; dialect = o.dialect } };
+    ghost view = { λ o. record { members = o.members.now.entries; mode = o.mode } };
 }
 
 /// What is read from a JSON value.
 pub trait FromJson<'v>: Drop + Sized {
     ghost use Rattle.std.specs.Prelude.{⊤, Bool, false};
     ghost use Rattle.serde_json.specs.Data.{Data};
-    ghost use Rattle.am_cli.specs.declared.reader.Dialect.{Dialect};
+    ghost use Rattle.am_cli.specs.declared.reader.Mode.{Mode};
 
-    // What a JSON value tells in a dialect; where nothing is said here, nothing is known of it.
-    ghost decodes_to: { Dialect → Data → Self → Type 0 } = { λ _ _ _. ⊤ };
+    // What a JSON value says in a mode; where nothing is said here, nothing is known of it.
+    ghost decodes_to: { Mode → Data → Self → Type 0 } = { λ _ _ _. ⊤ };
 
-    // Whether what tells this is never refused; where nothing is said here, it may be.
+    // Whether what says this is never refused; where nothing is said here, it may be.
     ghost never_refused: { Self → Bool } = { λ _. false };
 
-    /// Reads it. The first fault is answered, at its place.
+    /// Reads it. The first fault is answered, at its pointer.
     fn read(reader: &Reader<'v, '_>) -> Result<Self, InputFault>
-        ensures told { IfOk result (decodes_to reader.now.dialect (view reader.now.value)) }
+        ensures decoded { IfOk result (decodes_to reader.now.mode (view reader.now.value)) }
         ensures refused { IfErr result (Excludes (λ x.
-            decodes_to reader.now.dialect (view reader.now.value) x × IsTrue (never_refused x))) };
+            decodes_to reader.now.mode (view reader.now.value) x × IsTrue (never_refused x))) };
 }
 
 /// The JSON value that these bytes are.
@@ -118,29 +118,29 @@ pub fn parse(alloc: Global, input: &[u8]) -> Result<Value, ParseFault>
 }
 
 impl<'v, 'p> Reader<'v, 'p> {
-    /// The value as a whole, which is read in the lenient dialect.
+    /// The value as a whole, which is read in the lenient mode.
     pub fn top(alloc: Global, value: &'v Value) -> Reader<'v, 'p>
         ensures value { result.value ≡ value.now }
-        ensures dialect { result.dialect ≡ Dialect.Lenient }
+        ensures mode { result.mode ≡ Mode.Lenient }
     {
         Reader {
             alloc,
             value,
-            place: JsonPointer::Root,
-            dialect: Dialect::Lenient,
+            pointer: JsonPointer::Root,
+            mode: Mode::Lenient,
         }
     }
 
-    /// The value as a whole, which is read in the strict dialect.
+    /// The value as a whole, which is read in the strict mode.
     pub fn strict(alloc: Global, value: &'v Value) -> Reader<'v, 'p>
         ensures value { result.value ≡ value.now }
-        ensures dialect { result.dialect ≡ Dialect.Strict }
+        ensures mode { result.mode ≡ Mode.Strict }
     {
         Reader {
             alloc,
             value,
-            place: JsonPointer::Root,
-            dialect: Dialect::Strict,
+            pointer: JsonPointer::Root,
+            mode: Mode::Strict,
         }
     }
 
@@ -149,25 +149,25 @@ impl<'v, 'p> Reader<'v, 'p> {
         self.alloc
     }
 
-    /// The dialect of reading.
-    pub fn dialect(&self) -> Dialect
-        ensures { result ≡ self.now.dialect }
+    /// The mode of reading.
+    pub fn mode(&self) -> Mode
+        ensures { result ≡ self.now.mode }
     {
-        self.dialect
+        self.mode
     }
 
-    /// Where this value stands.
-    pub fn place(&self) -> &JsonPointer<'p> {
-        &self.place
+    /// Where this value is.
+    pub fn pointer(&self) -> &JsonPointer<'p> {
+        &self.pointer
     }
 
-    /// The fault that refuses a value at a place below this one; in the lenient dialect, this value.
+    /// The fault that refuses a value at a pointer below this one; in the lenient mode, this value.
     pub fn refuse_at(&self, below: &JsonPointer<'_>, fault_kind: FaultKind) -> InputFault
         ensures { IsRefusedBy fault_kind result }
     {
-        match self.dialect {
-            Dialect::Lenient => self.refuse(fault_kind),
-            Dialect::Strict => below.refuse(self.alloc, fault_kind),
+        match self.mode {
+            Mode::Lenient => self.refuse(fault_kind),
+            Mode::Strict => below.refuse(self.alloc, fault_kind),
         }
     }
 
@@ -175,7 +175,7 @@ impl<'v, 'p> Reader<'v, 'p> {
     pub fn refuse(&self, fault_kind: FaultKind) -> InputFault
         ensures { IsRefusedBy fault_kind result }
     {
-        self.place.refuse(self.alloc, fault_kind)
+        self.pointer.refuse(self.alloc, fault_kind)
     }
 
     /// Whether the value is an object.
@@ -202,7 +202,7 @@ impl<'v, 'p> Reader<'v, 'p> {
     /// The object that this value is, or `Kind`.
     pub fn object(&self) -> Result<Object<'v, 'p>, InputFault>
         ensures members { option_map (λ o. members_view o.members) (result_ok result) ≡ as_object (view self.now.value) }
-        ensures dialect { IfOk result (λ object. object.dialect ≡ self.now.dialect) }
+        ensures mode { IfOk result (λ object. object.mode ≡ self.now.mode) }
         ensures refused { IfErr result (IsRefusedBy FaultKind.WrongType) }
     {
         match self.value.as_object() {
@@ -210,8 +210,8 @@ impl<'v, 'p> Reader<'v, 'p> {
             Some(members) => Ok(Object {
                 alloc: self.alloc,
                 members,
-                place: self.place,
-                dialect: self.dialect,
+                pointer: self.pointer,
+                mode: self.mode,
             }),
         }
     }
@@ -266,9 +266,9 @@ impl<'v, 'p> Reader<'v, 'p> {
     /// The items of an array, each read wholly before the next. `Kind` where there is no array.
     pub fn list<T: FromJson<'v>>(&self) -> Result<Vec<T>, InputFault>
         ensures count { IfOk result (λ items. HasItems (view self.now.value) (vec_len items)) }
-        ensures told { IfOk result (λ items. IsList (T.decodes_to self.now.dialect) (view self.now.value) items.items) }
+        ensures decoded { IfOk result (λ items. IsList (T.decodes_to self.now.mode) (view self.now.value) items.items) }
         ensures refused { IfErr result (Excludes (λ (items : List T).
-            IsList (T.decodes_to self.now.dialect) (view self.now.value) items × IsTrue (list_all T.never_refused items))) }
+            IsList (T.decodes_to self.now.mode) (view self.now.value) items × IsTrue (list_all T.never_refused items))) }
     {
         let mut items = Vec::new(self.alloc);
         let values = self.array()?;
@@ -282,12 +282,12 @@ impl<'v, 'p> Reader<'v, 'p> {
     /// first is read: each can want much memory.
     pub fn list_up_to<T: FromJson<'v>>(&self, most: usize) -> Result<Vec<T>, InputFault>
         ensures count { IfOk result (λ items. HasItems (view self.now.value) (vec_len items)) }
-        ensures told { IfOk result (λ items. IsList (T.decodes_to self.now.dialect) (view self.now.value) items.items) }
+        ensures decoded { IfOk result (λ items. IsList (T.decodes_to self.now.mode) (view self.now.value) items.items) }
         ensures bound { IfOk result (λ items. vec_len items ≤ most) }
         ensures too_many { (count : ℕ) → HasItems (view self.now.value) count → most < count
             → IsErrAnd result (IsRefusedBy FaultKind.BadValue) }
         ensures refused { IfErr result (Excludes (λ (items : List T).
-            IsList (T.decodes_to self.now.dialect) (view self.now.value) items
+            IsList (T.decodes_to self.now.mode) (view self.now.value) items
             × IsTrue (list_all T.never_refused items) × (length items ≤ most))) }
     {
         if self.array()?.len() > most {
@@ -300,7 +300,7 @@ impl<'v, 'p> Reader<'v, 'p> {
     pub fn pair<'q>(&'q self) -> Result<(Reader<'v, 'q>, Reader<'v, 'q>), InputFault>
         ensures items { IfOk result (λ pair. as_array (view self.now.value)
             ≡ Some (item (view pair.0.value) (item (view pair.1.value) no_items))) }
-        ensures dialect { IfOk result (λ pair. (pair.0.dialect ≡ self.now.dialect) × (pair.1.dialect ≡ self.now.dialect)) }
+        ensures mode { IfOk result (λ pair. (pair.0.mode ≡ self.now.mode) × (pair.1.mode ≡ self.now.mode)) }
         ensures refused { IfErr result (IsRefusedBy FaultKind.WrongType) }
         ensures no_pair { IfErr result (λ _. (first second : Data) →
             as_array (view self.now.value) ≢ Some (item first (item second no_items))) }
@@ -343,13 +343,13 @@ impl<'v, 'p> Reader<'v, 'p> {
     /// The reader of this value, which is the item at an index of the array here.
     pub fn item<'q>(&'q self, index: usize, value: &'v Value) -> Reader<'v, 'q>
         ensures value { result.value ≡ value.now }
-        ensures dialect { result.dialect ≡ self.now.dialect }
+        ensures mode { result.mode ≡ self.now.mode }
     {
         Reader {
             alloc: self.alloc,
             value,
-            place: self.place.item(index),
-            dialect: self.dialect,
+            pointer: self.pointer.item(index),
+            mode: self.mode,
         }
     }
 }
@@ -360,15 +360,15 @@ impl<'v> Object<'v, '_> {
         self.alloc
     }
 
-    /// In the strict dialect refuses, as `Unknown`, the first member, by name, that has none of these
+    /// In the strict mode refuses, as `Unknown`, the first member, by name, that has none of these
     /// names.
     pub fn only(&self, names: &[&str]) -> Result<(), InputFault>
-        ensures known { is_ok result ≡ has_only self.now.dialect (map (λ name. name.now) names.now) (members_view self.now.members) }
+        ensures known { is_ok result ≡ has_only self.now.mode (map (λ name. name.now) names.now) (members_view self.now.members) }
         ensures refused { IfErr result (IsRefusedBy FaultKind.Unknown) }
     {
-        match self.dialect {
-            Dialect::Lenient => Ok(()),
-            Dialect::Strict => self.refuse_unnamed(names),
+        match self.mode {
+            Mode::Lenient => Ok(()),
+            Mode::Strict => self.refuse_unnamed(names),
         }
     }
 
@@ -380,7 +380,7 @@ impl<'v> Object<'v, '_> {
         match unnamed(self.members, names) {
             None => Ok(()),
             Some(name) => {
-                let member = self.place.member(name.as_str());
+                let member = self.pointer.member(name.as_str());
                 Err(member.refuse(self.alloc, FaultKind::Unknown))
             }
         }
@@ -403,7 +403,7 @@ impl<'v> Object<'v, '_> {
     /// A member, if it is there.
     pub fn optional<'q>(&'q self, name: &'q str) -> Option<Reader<'v, 'q>>
         ensures value { option_map (λ r. view r.value) result ≡ get_member name.now (members_view self.now.members) }
-        ensures dialect { IfSome result (λ r. r.dialect ≡ self.now.dialect) }
+        ensures mode { IfSome result (λ r. r.mode ≡ self.now.mode) }
     {
         match member_of(self.members, name) {
             None => None,
@@ -421,13 +421,13 @@ impl<'v> Object<'v, '_> {
     /// The reader of this value, which is the member of a name of the object here.
     pub fn member<'q>(&'q self, name: &'q str, value: &'v Value) -> Reader<'v, 'q>
         ensures value { result.value ≡ value.now }
-        ensures dialect { result.dialect ≡ self.now.dialect }
+        ensures mode { result.mode ≡ self.now.mode }
     {
         Reader {
             alloc: self.alloc,
             value,
-            place: self.place.member(name),
-            dialect: self.dialect,
+            pointer: self.pointer.member(name),
+            mode: self.mode,
         }
     }
 
@@ -435,12 +435,12 @@ impl<'v> Object<'v, '_> {
     pub fn required<'q>(&'q self, name: &'q str) -> Result<Reader<'v, 'q>, InputFault>
         ensures value { option_map (λ r. view r.value) (result_ok result)
             ≡ get_member name.now (members_view self.now.members) }
-        ensures dialect { IfOk result (λ r. r.dialect ≡ self.now.dialect) }
+        ensures mode { IfOk result (λ r. r.mode ≡ self.now.mode) }
         ensures refused { IfErr result (IsRefusedBy FaultKind.Missing) }
     {
         match self.optional(name) {
             None => Err(
-                self.place
+                self.pointer
                     .member(name)
                     .refuse(self.alloc, FaultKind::Missing),
             ),
@@ -477,10 +477,10 @@ impl<'v> Object<'v, '_> {
         ensures count { IfOk result (λ items.
             MatchOption (get_member name.now (members_view self.now.members)) (items.items ≡ [])
             (λ member. HasItems member (vec_len items))) }
-        ensures told { IfOk result (λ items.
-            HasOr (IsList (T.decodes_to self.now.dialect)) [] name.now (members_view self.now.members) items.items) }
+        ensures decoded { IfOk result (λ items.
+            HasOr (IsList (T.decodes_to self.now.mode)) [] name.now (members_view self.now.members) items.items) }
         ensures refused { IfErr result (Excludes (λ (items : List T).
-            HasOr (IsList (T.decodes_to self.now.dialect)) [] name.now (members_view self.now.members) items
+            HasOr (IsList (T.decodes_to self.now.mode)) [] name.now (members_view self.now.members) items
             × IsTrue (list_all T.never_refused items))) }
     {
         match self.optional(name) {
@@ -491,11 +491,11 @@ impl<'v> Object<'v, '_> {
 
     /// The items of an array that has at most so many, or none if the member isn't there.
     pub fn list_up_to<T: FromJson<'v>>(&self, name: &str, most: usize) -> Result<Vec<T>, InputFault>
-        ensures told { IfOk result (λ items.
-            HasOr (IsList (T.decodes_to self.now.dialect)) [] name.now (members_view self.now.members) items.items) }
+        ensures decoded { IfOk result (λ items.
+            HasOr (IsList (T.decodes_to self.now.mode)) [] name.now (members_view self.now.members) items.items) }
         ensures bound { IfOk result (λ items. vec_len items ≤ most) }
         ensures refused { IfErr result (Excludes (λ (items : List T).
-            HasOr (IsList (T.decodes_to self.now.dialect)) [] name.now (members_view self.now.members) items
+            HasOr (IsList (T.decodes_to self.now.mode)) [] name.now (members_view self.now.members) items
             × IsTrue (list_all T.never_refused items) × (length items ≤ most))) }
     {
         match self.optional(name) {
@@ -506,7 +506,7 @@ impl<'v> Object<'v, '_> {
 
     /// A copy of a text that must be there, or `Missing`.
     pub fn required_text(&self, name: &str) -> Result<Text, InputFault>
-        ensures told { IfOk result (Has IsText name.now (members_view self.now.members)) }
+        ensures decoded { IfOk result (Has IsText name.now (members_view self.now.members)) }
         ensures refused { IfErr result (Excludes (Has IsText name.now (members_view self.now.members))) }
     {
         Ok(Text::new(self.alloc, self.required(name)?.text()?)?)
@@ -539,7 +539,7 @@ impl<'v> FromJson<'v> for Text {
     ghost use Rattle.std.specs.Prelude.{true};
     ghost use Rattle.am_cli.specs.Decoding.{IsText};
 
-    ghost decodes_to = { λ dialect value text. IsText value text };
+    ghost decodes_to = { λ mode value text. IsText value text };
 
     ghost never_refused = { λ _. true };
 

@@ -1,18 +1,18 @@
 //! The pointer of the fault for which a configuration is rejected as a whole. `config` calls it.
 use crate::fault::{FaultKind, InputFault};
-use crate::reader::{Dialect, FromJson, Reader};
+use crate::reader::{FromJson, Mode, Reader};
 use crate::route::ALL_LABELS;
 use am_alerts::labels::is_label_name;
 use am_alerts::route::RouteFault;
 use am_model::config::{Config, ConfigFault, Limits, MAX_INTEGRATIONS, Receiver};
 
-/// The fault that refuses a configuration for this cause: in the strict dialect at the value at fault.
+/// The fault that refuses a configuration for this cause: in the strict mode at the value at fault.
 pub(crate) fn refuse_config(
     reader: &Reader<'_, '_>,
     config: &Config,
     cause: ConfigFault,
 ) -> InputFault {
-    if reader.dialect() == Dialect::Lenient {
+    if reader.mode() == Mode::Lenient {
         return reader.refuse(FaultKind::BadValue);
     }
     let receivers = config.receivers.as_slice();
@@ -28,17 +28,17 @@ pub(crate) fn refuse_config(
     }
 }
 
-/// The fault that refuses more receivers than a configuration may have: in the strict dialect at their list.
+/// The fault that refuses more receivers than a configuration may have: in the strict mode at their list.
 pub(crate) fn refuse_receivers(reader: &Reader<'_, '_>) -> InputFault {
-    if reader.dialect() == Dialect::Lenient {
+    if reader.mode() == Mode::Lenient {
         return reader.refuse(FaultKind::BadValue);
     }
     refuse_member(reader, "receivers")
 }
 
-/// The fault that refuses routes that make no routing tree: in the strict dialect at the value at fault.
+/// The fault that refuses routes that make no routing tree: in the strict mode at the value at fault.
 pub(crate) fn refuse_routes(reader: &Reader<'_, '_>, cause: RouteFault) -> InputFault {
-    if reader.dialect() == Dialect::Lenient {
+    if reader.mode() == Mode::Lenient {
         return reader.refuse(FaultKind::BadValue);
     }
     let looked = match cause {
@@ -54,12 +54,12 @@ pub(crate) fn refuse_routes(reader: &Reader<'_, '_>, cause: RouteFault) -> Input
 }
 
 fn refuse_member(reader: &Reader<'_, '_>, name: &str) -> InputFault {
-    reader.refuse_at(&reader.place().member(name), FaultKind::BadValue)
+    reader.refuse_at(&reader.pointer().member(name), FaultKind::BadValue)
 }
 
 /// Refuses the first route's receiver that isn't there.
 fn refuse_receiver_of_route(reader: &Reader<'_, '_>, config: &Config) -> InputFault {
-    let top = reader.place();
+    let top = reader.pointer();
     if config
         .receiver(config.routes.root().receiver.as_str())
         .is_none()
@@ -79,14 +79,14 @@ fn refuse_receiver_of_route(reader: &Reader<'_, '_>, config: &Config) -> InputFa
 
 /// Refuses the first receiver that has the name of one before it.
 fn refuse_second_receiver(reader: &Reader<'_, '_>, receivers: &[Receiver]) -> InputFault {
-    let place = reader.place().member("receivers");
+    let pointer = reader.pointer().member("receivers");
     for (index, receiver) in receivers.iter().enumerate() {
         let name = receiver.name.as_str();
         if receivers[..index]
             .iter()
             .any(|earlier| earlier.name.as_str() == name)
         {
-            let receiver = place.item(index);
+            let receiver = pointer.item(index);
             return reader.refuse_at(&receiver.member("name"), FaultKind::BadValue);
         }
     }
@@ -95,10 +95,10 @@ fn refuse_second_receiver(reader: &Reader<'_, '_>, receivers: &[Receiver]) -> In
 
 /// Refuses the first receiver's integrations that are too many.
 fn refuse_integrations(reader: &Reader<'_, '_>, receivers: &[Receiver]) -> InputFault {
-    let place = reader.place().member("receivers");
+    let pointer = reader.pointer().member("receivers");
     for (index, receiver) in receivers.iter().enumerate() {
         if receiver.integrations.len() > MAX_INTEGRATIONS {
-            let receiver = place.item(index);
+            let receiver = pointer.item(index);
             return reader.refuse_at(&receiver.member("integrations"), FaultKind::BadValue);
         }
     }
@@ -107,10 +107,10 @@ fn refuse_integrations(reader: &Reader<'_, '_>, receivers: &[Receiver]) -> Input
 
 /// Refuses the first integration's kind that has no label name's form.
 fn refuse_kind(reader: &Reader<'_, '_>, receivers: &[Receiver]) -> InputFault {
-    let place = reader.place().member("receivers");
+    let pointer = reader.pointer().member("receivers");
     for (index, receiver) in receivers.iter().enumerate() {
         if let Some(bad) = bad_kind(receiver) {
-            let receiver = place.item(index);
+            let receiver = pointer.item(index);
             let integrations = receiver.member("integrations");
             let integration = integrations.item(bad);
             return reader.refuse_at(&integration.member("kind"), FaultKind::BadValue);
@@ -131,16 +131,16 @@ fn bad_kind(receiver: &Receiver) -> Option<usize> {
 /// Refuses the first limit that is zero or above its greatest value.
 fn refuse_limit(reader: &Reader<'_, '_>, limits: &Limits) -> InputFault {
     let most = Limits::default();
-    let place = reader.place().member("limits");
+    let pointer = reader.pointer().member("limits");
     for (name, limit, greatest) in [
-        ("names", limits.names, most.names),
+        ("names", limits.alerts, most.alerts),
         ("groups", limits.groups, most.groups),
         ("silences", limits.silences, most.silences),
         ("flushes", limits.flushes, most.flushes),
         ("history", limits.history, most.history),
     ] {
         if limit == 0 || limit > greatest {
-            return reader.refuse_at(&place.member(name), FaultKind::BadValue);
+            return reader.refuse_at(&pointer.member(name), FaultKind::BadValue);
         }
     }
     reader.refuse(FaultKind::BadValue)
@@ -159,7 +159,7 @@ fn check_names(reader: &Reader<'_, '_>) -> Result<(), InputFault> {
 fn check_once(reader: &Reader<'_, '_>) -> Result<(), InputFault> {
     let config = reader.object()?;
     let names = config.list_or_none::<NameOfChild<'_>>("children")?;
-    let children = reader.place().member("children");
+    let children = reader.pointer().member("children");
     for (index, child) in names.iter().enumerate() {
         let is_second = names[..index]
             .iter()
@@ -176,7 +176,7 @@ fn check_once(reader: &Reader<'_, '_>) -> Result<(), InputFault> {
     Ok(())
 }
 
-/// An item of `group_by`, which has the form of a label name or stands for all labels.
+/// An item of `group_by`, which has the form of a label name or represents all labels.
 #[derive(Drop)]
 struct GroupingName;
 

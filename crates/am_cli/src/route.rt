@@ -1,7 +1,7 @@
 //! The routing tree of a configuration. `config` calls it.
 //!
 //! In `group_by` a `...` must be alone: a second one is rejected too. Names that are listed twice
-//! count twice for the limit of 64. In the lenient dialect `name`, `matchers` and `continue` of the
+//! count twice for the limit of 64. In the lenient mode `name`, `matchers` and `continue` of the
 //! root are ignored.
 ghost use Rattle.std.specs.Prelude.{◌≡◌, [], IfErr, IfOk, List, ℕ, codes};
 ghost use Rattle.std.specs.List.{list_any};
@@ -16,7 +16,7 @@ ghost use Rattle.serde_json.specs.View.{members_view, view};
 use crate::duration::{duration_or, interval_or};
 use crate::fault::{FaultKind, InputFault};
 use crate::reader::{FromJson, Object, Reader};
-use am_alerts::limits::{MAX_MATCHERS, MAX_NAMES};
+use am_alerts::limits::{MAX_LABEL_NAMES, MAX_MATCHERS};
 use am_alerts::matcher::Matcher;
 use am_alerts::route::{Child, GroupBy, Route};
 use am_alerts::sequence::Sequence;
@@ -31,7 +31,7 @@ const GROUP_INTERVAL: u64 = 300_000;
 /// When a notice without news is repeated: after 4 hours, in milliseconds.
 const REPEAT_INTERVAL: u64 = 14_400_000;
 
-/// Stands in `group_by` for all labels.
+/// Is in `group_by` for all labels.
 pub(crate) const ALL_LABELS: &str = "...";
 
 /// What the root and its children have alike: all of a route but its name.
@@ -46,7 +46,8 @@ struct Options {
 
 impl Options {
     fn read(route: &Object<'_, '_>) -> Result<Options, InputFault>
-        ensures told { (name : List ℕ) → IfOk result (λ options. DecodesToOptions (members_view route.now.members) (routed name options)) }
+        ensures decoded { (name : List ℕ) → IfOk result (λ options.
+            DecodesToOptions (members_view route.now.members) (routed name options)) }
         ensures refused { IfErr result (Excludes (DecodesToOptions (members_view route.now.members))) }
     {
         let receiver = route.required_text("receiver")?;
@@ -86,8 +87,8 @@ impl Options {
 
 /// Reads the root route.
 pub fn read_root(reader: &Reader<'_, '_>) -> Result<Route, InputFault>
-    ensures told { IfOk result (DecodesToRoot reader.now.dialect (view reader.now.value)) }
-    ensures refused { IfErr result (Excludes (DecodesToRoot reader.now.dialect (view reader.now.value))) }
+    ensures decoded { IfOk result (DecodesToRoot reader.now.mode (view reader.now.value)) }
+    ensures refused { IfErr result (Excludes (DecodesToRoot reader.now.mode (view reader.now.value))) }
 {
     let root = reader.object()?;
     root.only(&[
@@ -105,7 +106,7 @@ impl<'v> FromJson<'v> for Child {
     ghost use Rattle.am_alerts.specs.Matcher.{compare_texts};
     ghost use Rattle.am_cli.specs.Configured.{DecodesToChild};
 
-    ghost decodes_to = { λ dialect value child. DecodesToChild dialect value child };
+    ghost decodes_to = { λ mode value child. DecodesToChild mode value child };
 
     ghost never_refused = { λ child. compare_texts child.matchers };
 
@@ -124,18 +125,18 @@ impl<'v> FromJson<'v> for Child {
         let options = Options::read(&child)?;
         let name = child.required_text("name")?;
         let matchers = child.list_up_to::<Matcher>("matchers", MAX_MATCHERS)?;
-        let goes_on = child.flag_or("continue", false)?;
+        let continues = child.flag_or("continue", false)?;
         Ok(Child {
             route: options.named(name),
             matchers: Sequence::from(matchers),
-            goes_on,
+            continues,
         })
     }
 }
 
 /// The labels by which a route groups.
 fn read_group_by(route: &Object<'_, '_>) -> Result<GroupBy, InputFault>
-    ensures told { IfOk result (HasOr IsGroupBy (Names []) (codes "group_by") (members_view route.now.members)) }
+    ensures decoded { IfOk result (HasOr IsGroupBy (Names []) (codes "group_by") (members_view route.now.members)) }
     ensures refused { IfErr result (Excludes (HasOr IsGroupBy (Names []) (codes "group_by") (members_view route.now.members))) }
 {
     match route.optional("group_by") {
@@ -144,12 +145,12 @@ fn read_group_by(route: &Object<'_, '_>) -> Result<GroupBy, InputFault>
     }
 }
 
-/// Names of labels. `...` stands for all of them, and alone.
+/// Names of labels. `...` represents all of them, and alone.
 fn read_names(member: &Reader<'_, '_>) -> Result<GroupBy, InputFault>
-    ensures told { IfOk result (IsGroupBy (view member.now.value)) }
+    ensures decoded { IfOk result (IsGroupBy (view member.now.value)) }
     ensures refused { IfErr result (Excludes (IsGroupBy (view member.now.value))) }
 {
-    let names = member.list_up_to::<Text>(MAX_NAMES)?;
+    let names = member.list_up_to::<Text>(MAX_LABEL_NAMES)?;
     if !has_all_labels(names.as_slice()) {
         return Ok(GroupBy::Names(Sequence::from(names)));
     }

@@ -34,7 +34,7 @@ pub fn read_all<S: Source>(alloc: Global, source: &mut S) -> Result<Vec<u8>, Rea
     ensures whole { IfOk result (λ input.
         S.given source.new ≡ S.given source.old ++ input.items) }
     ensures ended { OnOk result (S.ended source.new ≡ S.ended source.old + 1) }
-    ensures asked { S.asked source.new ≤ S.asked source.old + (MAX_INPUT + 1) }
+    ensures reads { S.reads source.new ≤ S.reads source.old + (MAX_INPUT + 1) }
     ensures unreadable { (result ≡ Err ReadFault.Unreadable)
         ↔ ((S.failed source.old < S.failed source.new)
         ⊎ (length (S.given source.old) + MAX_INPUT < length (S.given source.new))) }

@@ -39,7 +39,7 @@ fn alert(alloc: Global, pairs: &[(&str, &str)]) -> Result<Alert, AllocError> {
 /// A notice of one alert for a flush, with the deadline 330,000.
 fn notice(alloc: Global, ticket: u64) -> Result<Notice, AllocError> {
     Ok(Notice {
-        desk: 7,
+        board_id: 7,
         ticket,
         deadline: 330_000,
         group: group(alloc)?,

@@ -25,11 +25,11 @@ Statuses: 0 done; 1 a file isn't readable, or there are no random numbers; \
 /// What an argument takes.
 #[derive(Clone, Copy)]
 enum Takes {
-    /// A value at its place, which must be there.
+    /// A value at its location, which must be there.
     One,
-    /// Values at its place, one at least.
+    /// Values at its location, one at least.
     Some,
-    /// Values at its place, if there are any.
+    /// Values at its location, if there are any.
     Any,
     /// Nothing: it is an option that is given or not.
     Nothing,

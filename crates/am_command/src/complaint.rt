@@ -1,5 +1,5 @@
 //! Lines on what is wrong.
-use am_yaml::place::Place;
+use am_yaml::location::Location;
 use serde_json::{Map, Number, Value};
 use std::alloc::{AllocError, AllocFailed, Global};
 
@@ -8,7 +8,7 @@ use std::alloc::{AllocError, AllocFailed, Global};
 pub struct Complaint<'a> {
     pub file: &'a str,
     /// Where, if that is known.
-    pub place: Option<Place>,
+    pub location: Option<Location>,
     /// The JSON pointer of the value, if there is one.
     pub pointer: Option<&'a str>,
     /// The kind of error, for programs.
@@ -32,7 +32,7 @@ impl Complaint<'_> {
             ("", "")
         };
         text.push_str(bold)?;
-        self.push_place(text)?;
+        self.push_location(text)?;
         text.push_str(plain)?;
         text.push(' ')?;
         push_shown(text, self.message)?;
@@ -47,11 +47,11 @@ impl Complaint<'_> {
         }
     }
 
-    fn push_place(&self, text: &mut String) -> Result<(), AllocError> {
+    fn push_location(&self, text: &mut String) -> Result<(), AllocError> {
         text.push_str(self.file)?;
-        match self.place {
+        match self.location {
             None => text.push(':'),
-            Some(Place { line, column }) => write!(text, ":{line}:{column}:"),
+            Some(Location { line, column }) => write!(text, ":{line}:{column}:"),
         }
     }
 
@@ -66,7 +66,7 @@ impl Complaint<'_> {
 
     fn put_fields(&self, alloc: Global, object: &mut Map<String, Value>) -> Result<(), Refused> {
         put_text(alloc, object, "file", self.file)?;
-        if let Some(Place { line, column }) = self.place {
+        if let Some(Location { line, column }) = self.location {
             put_number(alloc, object, "line", line)?;
             put_number(alloc, object, "column", column)?;
         }

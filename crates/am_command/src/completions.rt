@@ -22,14 +22,14 @@ const VALUES: [(&str, &[&str]); 3] = [
     ("format", &FORMATS),
 ];
 
-/// What stands before the words of the commands.
+/// What is before the words of the commands.
 const HEAD: &str = "\
 _am_rehearse() {
     local word=\"${COMP_WORDS[COMP_CWORD]}\" before=\"${COMP_WORDS[COMP_CWORD-1]}\" command= words=
     if [ \"$COMP_CWORD\" -gt 1 ]; then command=\"${COMP_WORDS[1]}\"; fi
 ";
 
-/// What stands behind them.
+/// What is behind them.
 const TAIL: &str = "    esac
     COMPREPLY=($(compgen -W \"$words\" -- \"$word\"))
 }
@@ -46,7 +46,7 @@ fn push_script(script: &mut String, command: &Command<'_>) -> Result<(), AllocEr
     script.push_str(TAIL)
 }
 
-/// Adds the words behind each command, and those that stand where there is none yet.
+/// Adds the words behind each command, and those that are where there is none yet.
 fn push_commands(script: &mut String, commands: &[Command<'_>]) -> Result<(), AllocError> {
     script.push_str("    case \"$command\" in\n    '') words=\"")?;
     for command in commands {

@@ -19,12 +19,12 @@ struct Understood {
     written: String,
     number: String,
     word: String,
-    /// The place of the next unit that may come in `UNITS`.
+    /// The location of the next unit that may come in `UNITS`.
     next_unit: usize,
 }
 
 impl Understood {
-    /// Adds a text, and tells whether it can be understood.
+    /// Adds a text, and says whether it can be understood.
     fn read(&mut self, text: &str) -> Result<bool, AllocError> {
         for character in text.chars() {
             match character {
@@ -42,7 +42,7 @@ impl Understood {
         self.add_part()
     }
 
-    /// Adds the number and its unit that were read, and tells whether that was possible.
+    /// Adds the number and its unit that were read, and says whether that was possible.
     fn add_part(&mut self) -> Result<bool, AllocError> {
         let Some((unit, sign)) = unit_of(self.word.as_str()) else {
             return Ok(false);
@@ -59,14 +59,14 @@ impl Understood {
     }
 }
 
-/// Returns the place in `UNITS` of the unit that a word means, and how that unit has to be written.
+/// Returns the location in `UNITS` of the unit that a word means, and how that unit has to be written.
 fn unit_of(word: &str) -> Option<(usize, &'static str)> {
-    let mut place = 0usize;
+    let mut index = 0usize;
     for (sign, words) in &UNITS {
         if words.contains(&word) {
-            return Some((place, *sign));
+            return Some((index, *sign));
         }
-        place = place.saturating_add(1);
+        index = index.saturating_add(1);
     }
     None
 }

@@ -1,6 +1,6 @@
 //! What is wrong with a value, in words.
 use crate::durations::rewritten;
-use crate::fields::{FIELDS, Wanted, in_words, wanted_in};
+use crate::fields::{FIELDS, FieldKind, in_words, kind_in};
 use crate::spelling::Nearest;
 use crate::spot::Spot;
 use serde_json::Value;
@@ -39,7 +39,7 @@ impl Wrong {
 
 /// What a whole file has to be.
 #[derive(Clone, Copy)]
-pub enum Whole {
+pub enum FileShape {
     /// Fields, as a story has.
     Fields,
     /// A list, as Alertmanager answers.
@@ -53,7 +53,7 @@ pub struct Bounds {
     pub children: usize,
     /// Routes below the root of a tree.
     pub routes: usize,
-    /// Levels at which they stand.
+    /// Levels at which they are.
     pub levels: usize,
     pub receivers: usize,
     /// Integrations of a receiver.
@@ -77,10 +77,10 @@ pub fn explain(
     top: &Value,
     pointer: &str,
     wrong: Wrong,
-    whole: Whole,
+    shape: FileShape,
     bounds: &Bounds,
 ) -> Result<String, AllocError> {
-    let spot = Spot::of(alloc, top, pointer, wanted_of(whole))?;
+    let spot = Spot::of(alloc, top, pointer, kind_of_file(shape))?;
     match wrong {
         Wrong::Missing => missing(alloc, top, &spot),
         Wrong::WrongType => wrong_type(alloc, &spot),
@@ -113,32 +113,32 @@ fn missing_config(alloc: Global, top: &Value) -> Result<String, AllocError> {
 
 fn wrong_type(alloc: Global, spot: &Spot<'_>) -> Result<String, AllocError> {
     let found = kind_in_words(spot.value);
-    let wanted = match spot.wanted {
-        Some(wanted) => wanted,
+    let kind = match spot.kind {
+        Some(kind) => kind,
         None => return format!(in alloc; "another kind of value is wanted here, not {found}"),
     };
-    let words = in_words(wanted, spot.item.is_some());
+    let words = in_words(kind, spot.item.is_some());
     let verb = match words {
         "fields" | "labels and their values" => "are",
         _ => "is",
     };
     let hint = match spot.value {
-        Some(Value::Number(_) | Value::Bool(_)) if is_text(wanted) => " (write it in quotes)",
+        Some(Value::Number(_) | Value::Bool(_)) if is_text(kind) => " (write it in quotes)",
         _ => "",
     };
     format!(in alloc; "{words} {verb} wanted here, not {found}{hint}")
 }
 
 /// Returns what is wanted of a whole file.
-fn wanted_of(whole: Whole) -> Wanted {
-    match whole {
-        Whole::Fields => Wanted::Object,
-        Whole::List => Wanted::Objects,
+fn kind_of_file(shape: FileShape) -> FieldKind {
+    match shape {
+        FileShape::Fields => FieldKind::Object,
+        FileShape::List => FieldKind::Objects,
     }
 }
 
-fn is_text(wanted: Wanted) -> bool {
-    matches!(wanted, Wanted::Text | Wanted::Texts | Wanted::Labels)
+fn is_text(kind: FieldKind) -> bool {
+    matches!(kind, FieldKind::Text | FieldKind::Texts | FieldKind::Labels)
 }
 
 /// Returns the kind of a value, in words.
@@ -156,7 +156,7 @@ fn kind_in_words(value: Option<&Value>) -> &'static str {
 
 fn unknown(alloc: Global, spot: &Spot<'_>) -> Result<String, AllocError> {
     let name = spot.name.as_str();
-    if wanted_in(name).is_some() {
+    if kind_in(name).is_some() {
         return format!(in alloc; "`{name}` doesn't belong here");
     }
     match nearest_field(alloc, name)? {
@@ -199,13 +199,13 @@ fn full(alloc: Global, top: &Value, spot: &Spot<'_>) -> Result<String, AllocErro
 
 /// Returns whether the root groups by all labels.
 fn groups_by_all(top: &Value) -> bool {
-    for place in [
+    for suffix in [
         "/route/group_by/0",
         "/config/route/group_by/0",
         "/alertmanager/route/group_by/0",
     ] {
         if top
-            .pointer(place)
+            .pointer(suffix)
             .is_some_and(|name| name.as_str() == Some("..."))
         {
             return true;
@@ -228,16 +228,16 @@ fn bad_value(
     let Some(text) = spot.text() else {
         return bad_list(alloc, pointer, spot, bounds);
     };
-    match spot.wanted {
-        Some(Wanted::Duration) => bad_duration(alloc, name, text, bounds),
-        Some(Wanted::Matchers) => format!(in alloc;
+    match spot.kind {
+        Some(FieldKind::Duration) => bad_duration(alloc, name, text, bounds),
+        Some(FieldKind::Matchers) => format!(in alloc;
             "`{text}` is no matcher; write it as severity=\"critical\" or dc=~\"a|b\""
         ),
-        Some(Wanted::Integration) => format!(in alloc;
+        Some(FieldKind::Integration) => format!(in alloc;
             "the receiver has no integration `{text}`; write its kind, such as webhook, or webhook/0, or its number"
         ),
-        Some(Wanted::Texts) => bad_name(alloc, text),
-        Some(Wanted::Text) => bad_text(alloc, top, pointer, name, text),
+        Some(FieldKind::Texts) => bad_name(alloc, text),
+        Some(FieldKind::Text) => bad_text(alloc, top, pointer, name, text),
         _ => too_many(alloc, spot, bounds),
     }
 }
@@ -249,7 +249,7 @@ fn bad_list(
     spot: &Spot<'_>,
     bounds: &Bounds,
 ) -> Result<String, AllocError> {
-    if !matches!(spot.wanted, Some(Wanted::Matchers)) {
+    if !matches!(spot.kind, Some(FieldKind::Matchers)) {
         return too_many(alloc, spot, bounds);
     }
     let most = bounds.matchers;
@@ -280,7 +280,7 @@ fn bad_duration(
     }
 }
 
-/// Says how a duration has to be written; where it is written so, why it can't stand there.
+/// Says how a duration has to be written; where it is written so, why it can't be there.
 fn misplaced_duration(
     alloc: Global,
     name: &str,
@@ -374,7 +374,7 @@ fn no_receiver(
     }
 }
 
-/// Returns the name of the receiver that may be meant: one of the configuration that the place belongs to. What an outage or an
+/// Returns the name of the receiver that may be meant: one of the configuration that the location belongs to. What an outage or an
 /// expectation names may be of any configuration of the story.
 fn nearest_receiver<'v>(
     alloc: Global,
@@ -396,7 +396,7 @@ fn nearest_receiver<'v>(
     Ok(nearest.found())
 }
 
-/// Returns the reload that a place of a story belongs to.
+/// Returns the reload that a location of a story belongs to.
 fn reload_of<'v>(top: &'v Value, pointer: &str) -> Option<&'v Value> {
     let behind = pointer.strip_prefix("/reload/")?;
     let reload = top.get("reload")?;
@@ -454,7 +454,7 @@ fn consider_receivers<'v>(
     Ok(())
 }
 
-/// Says which limit a list or a number passes, if it can be told.
+/// Says which limit a list or a number passes, if it can be given.
 fn too_many(alloc: Global, spot: &Spot<'_>, bounds: &Bounds) -> Result<String, AllocError> {
     let (what, most, and) = match spot.name.as_str() {
         "children" => ("there are too many routes", bounds.children, ""),

@@ -24,7 +24,7 @@ fn push_page(page: &mut String, command: &Command<'_>) -> Result<(), AllocError>
     push_statuses(page)
 }
 
-/// Adds what stands before the commands.
+/// Adds what is before the commands.
 fn push_head(page: &mut String, name: &str, about: &str) -> Result<(), AllocError> {
     page.push_str(".TH AM-REHEARSE 1\n.SH NAME\n")?;
     page.push_str(name)?;

@@ -1,9 +1,9 @@
 //! What a JSON pointer points to.
-use crate::fields::{Wanted, wanted_in};
+use crate::fields::{FieldKind, kind_in};
 use serde_json::Value;
 use std::alloc::{AllocError, Global};
 
-/// A place in a value: the nearest member's name on the way to it, and what stands there.
+/// A location in a value: the nearest member's name on the way to it, and what is there.
 #[derive(Drop)]
 pub(crate) struct Spot<'v> {
     /// The name of the member, or of the one that has the list.
@@ -13,18 +13,18 @@ pub(crate) struct Spot<'v> {
     /// The value, if there is one.
     pub(crate) value: Option<&'v Value>,
     /// What is wanted there, if that is known.
-    pub(crate) wanted: Option<Wanted>,
+    pub(crate) kind: Option<FieldKind>,
     /// Whether it is a label of a label set.
     pub(crate) is_label: bool,
 }
 
 impl<'v> Spot<'v> {
-    /// Returns the place that a JSON pointer has in a value. `whole` is wanted at the top of it.
+    /// Returns the location that a JSON pointer has in a value. `whole` is wanted at the top of it.
     pub(crate) fn of(
         alloc: Global,
         top: &'v Value,
         pointer: &str,
-        whole: Wanted,
+        whole: FieldKind,
     ) -> Result<Spot<'v>, AllocError> {
         let value = top.pointer(pointer);
         let (above, last) = parted(pointer);
@@ -34,39 +34,39 @@ impl<'v> Spot<'v> {
                 name: unescaped(alloc, name)?,
                 item: last.parse::<usize>().ok(),
                 value,
-                wanted: wanted_in_list(above, name, whole),
+                kind: kind_in_list(above, name, whole),
                 is_label: false,
             });
         }
         let (_, parent) = parted(above);
-        let is_label = wanted_in(parent) == Some(Wanted::Labels);
-        let wanted = match parent {
-            "limits" => Some(Wanted::Number),
-            _ if is_label => Some(Wanted::Text),
+        let is_label = kind_in(parent) == Some(FieldKind::Labels);
+        let kind = match parent {
+            "limits" => Some(FieldKind::Number),
+            _ if is_label => Some(FieldKind::Text),
             _ if pointer.is_empty() => Some(whole),
-            _ => wanted_in(last),
+            _ => kind_in(last),
         };
         Ok(Spot {
             name: unescaped(alloc, last)?,
             item: None,
             value,
-            wanted,
+            kind,
             is_label,
         })
     }
 
-    /// Returns the text that stands there, if it is one.
+    /// Returns the text that is there, if it is one.
     pub(crate) fn text(&self) -> Option<&'v str> {
         self.value?.as_str()
     }
 }
 
 /// Returns what the list of this name takes. A list at the top takes what is wanted there.
-fn wanted_in_list(above: &str, name: &str, whole: Wanted) -> Option<Wanted> {
+fn kind_in_list(above: &str, name: &str, whole: FieldKind) -> Option<FieldKind> {
     if above.is_empty() {
         return Some(whole);
     }
-    wanted_in(name)
+    kind_in(name)
 }
 
 fn is_list(value: Option<&Value>) -> bool {

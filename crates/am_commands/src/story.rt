@@ -4,7 +4,7 @@ use am_alerts::duration::read_duration;
 use am_cli::fault::InputFault;
 use am_cli::faults::Refusal;
 use am_cli::reader::Reader;
-use am_command::explain::Whole;
+use am_command::explain::FileShape;
 use am_command::request::StoryRequest;
 use am_console::bounds::bounds;
 use am_console::console::{Console, Document, REJECTED};
@@ -119,7 +119,7 @@ fn alertmanager<R: Files + Eprint + AllocGlobal>(
     path: &str,
 ) -> Result<Incident, u8> {
     let mut document = console.read(rt, path)?;
-    document.whole = Whole::List;
+    document.shape = FileShape::List;
     refuse_error(rt, console, &document, "Alertmanager")?;
     let read = read_alerts(&Reader::top(rt.alloc(), &document.value));
     accepted(rt, console, &document, read)
@@ -152,7 +152,7 @@ fn error_in(answer: &Value) -> Option<(&'static str, &str)> {
     Some(("/message", answer.get("message")?.as_str()?))
 }
 
-/// Complains of an error that a server says at this place of its answer, and returns the status.
+/// Complains of an error that a server says at this index of its answer, and returns the status.
 fn complain_of_error<R: Eprint + AllocGlobal>(
     rt: &R,
     console: &Console,
@@ -174,7 +174,7 @@ fn silences<R: Files + Eprint + AllocGlobal>(
     path: &str,
 ) -> Result<Vec<SeenSilence>, u8> {
     let mut document = console.read(rt, path)?;
-    document.whole = Whole::List;
+    document.shape = FileShape::List;
     let read = read_silences(&Reader::top(rt.alloc(), &document.value));
     accepted(rt, console, &document, read)
 }

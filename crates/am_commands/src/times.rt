@@ -47,8 +47,8 @@ impl<'v> WrittenRoutes<'v> {
         position: u32,
         lines: &mut String,
     ) -> Result<(), AllocError> {
-        let place = (position as usize).checked_sub(1);
-        let Some(route) = place.and_then(|place| self.routes.get(place)) else {
+        let index = (position as usize).checked_sub(1);
+        let Some(route) = index.and_then(|index| self.routes.get(index)) else {
             return Ok(());
         };
         for list in LISTS {

@@ -25,29 +25,29 @@ fn push_root(root: &Route, lines: &mut String) -> Result<(), AllocError> {
     lines.push('\n')
 }
 
-/// Where a route below the root stands.
+/// Where a route below the root is.
 #[derive(Clone, Copy)]
-pub struct Standing {
+pub struct RoutePosition {
     /// The position of the route right above it.
     pub above: usize,
     /// How many levels it is below the root.
     pub level: usize,
 }
 
-/// Returns where the routes below the root stand, in the order of their positions. Cost: the routes, times their levels.
-pub fn standings(alloc: Global, routes: &Routes) -> Result<Vec<Standing>, AllocError> {
+/// Returns where the routes below the root are, in the order of their positions. Cost: the routes, times their levels.
+pub fn route_positions(alloc: Global, routes: &Routes) -> Result<Vec<RoutePosition>, AllocError> {
     let mut found = Vec::new(alloc);
     for _ in routes.children() {
-        found.push(Standing { above: 0, level: 1 })?;
+        found.push(RoutePosition { above: 0, level: 1 })?;
     }
-    for place in 0..routes.last() {
-        let position = place + 1;
+    for index in 0..routes.last() {
+        let position = index + 1;
         let first = position as usize;
         let behind = first.saturating_add(routes.below(position) as usize);
         for lower in first..behind {
-            if let Some(standing) = found.get_mut(lower) {
-                standing.above = first;
-                standing.level = standing.level.saturating_add(1);
+            if let Some(route_position) = found.get_mut(lower) {
+                route_position.above = first;
+                route_position.level = route_position.level.saturating_add(1);
             }
         }
     }
@@ -63,19 +63,19 @@ fn push_children(
     lines: &mut String,
 ) -> Result<(), AllocError> {
     let children = routes.children();
-    let standings = standings(alloc, routes)?;
+    let route_positions = route_positions(alloc, routes)?;
     let mut position = 0u32;
-    for (child, standing) in children.iter().zip(standings.as_slice()) {
+    for (child, route_position) in children.iter().zip(route_positions.as_slice()) {
         position = position.saturating_add(1);
-        let above = match standing
+        let above = match route_position
             .above
             .checked_sub(1)
-            .and_then(|place| children.get(place))
+            .and_then(|index| children.get(index))
         {
             None => routes.root(),
             Some(above) => &above.route,
         };
-        push_child(child, above, standing.level, lines)?;
+        push_child(child, above, route_position.level, lines)?;
         written.push_times(alloc, position, lines)?;
         lines.push('\n')?;
     }
@@ -108,7 +108,7 @@ fn push_child(
             push_wait(name, wait, lines)?;
         }
     }
-    if child.goes_on {
+    if child.continues {
         lines.push_str("; continue")?;
     }
     Ok(())

@@ -1,5 +1,5 @@
 //! What is odd in a configuration, though it is accepted.
-use crate::tree::{push_matchers, standings};
+use crate::tree::{push_matchers, route_positions};
 use am_alerts::route::{Child, Routes};
 use std::alloc::{AllocError, Global};
 
@@ -21,14 +21,14 @@ pub fn push_warnings(
     routes: &Routes,
     lines: &mut String,
 ) -> Result<(), AllocError> {
-    let standings = standings(alloc, routes)?;
+    let route_positions = route_positions(alloc, routes)?;
     let mut entries = Vec::new(alloc);
-    for (child, standing) in routes.children().iter().zip(standings.as_slice()) {
+    for (child, route_position) in routes.children().iter().zip(route_positions.as_slice()) {
         let mut matchers = String::new(alloc);
         push_matchers(child.matchers.as_slice(), &mut matchers)?;
         entries.push(Entry {
             child,
-            above: standing.above,
+            above: route_position.above,
             matchers,
         })?;
     }
@@ -38,7 +38,7 @@ pub fn push_warnings(
     Ok(())
 }
 
-/// Adds a line on the route at this place, if one before it and beside it is the cause.
+/// Adds a line on the route at this index, if one before it and beside it is the cause.
 fn push_warning(
     file: &str,
     entries: &[Entry<'_>],
@@ -52,7 +52,7 @@ fn push_warning(
         let is_beside = before.above == entry.above;
         let is_same = is_beside && before.matchers.as_str() == entry.matchers.as_str();
         let takes_all = is_beside && before.child.matchers.is_empty();
-        if !before.child.goes_on && (is_same || takes_all) {
+        if !before.child.continues && (is_same || takes_all) {
             write!(
                 lines,
                 "{file}: warning: no label set reaches route `{name}`: "

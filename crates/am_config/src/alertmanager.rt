@@ -1,6 +1,6 @@
 //! Reads a whole `alertmanager.yml`, as JSON. `am_rehearse` calls `read_alertmanager`.
 ghost use Rattle.std.specs.Prelude.{◌≡◌, IfErr, IfOk, None};
-ghost use Rattle.am_cli.specs.Faults.{Tells};
+ghost use Rattle.am_cli.specs.Faults.{HasFaults};
 ghost use Rattle.am_model.specs.Config.{config_fault};
 
 use crate::dropped::IgnoredSettings;
@@ -109,7 +109,7 @@ pub fn read_alertmanager(
     hours: Option<&Hours>,
 ) -> Result<Alertmanager, Refusal>
     ensures sound { IfOk result (λ read. config_fault read.config ≡ None) }
-    ensures told { IfErr result Tells }
+    ensures reported { IfErr result HasFaults }
 {
     let mut faults = Faults::none(reader.alloc());
     let mut dropped = IgnoredSettings::nothing();
@@ -172,7 +172,7 @@ fn finish(
     parts: Parts,
 ) -> Result<Alertmanager, Refusal>
     ensures sound { IfOk result (λ read. config_fault read.config ≡ None) }
-    ensures told { IfErr result Tells }
+    ensures reported { IfErr result HasFaults }
 {
     let Parts {
         tree,
@@ -207,7 +207,7 @@ fn finish(
 
 /// The refusal for these faults; where there are none the configuration is refused as a whole.
 fn refused(reader: &Reader<'_, '_>, mut faults: Faults) -> Refusal
-    ensures { Tells result }
+    ensures { HasFaults result }
 {
     if !faults.is_empty() {
         return Refusal::All(faults);

@@ -47,17 +47,17 @@ impl Hours {
         }
     }
 
-    /// The place of a zone among those that are known by name.
-    fn place_of(&self, name: &str) -> Option<usize> {
+    /// The index of a zone among those that are known by name.
+    fn index_of(&self, name: &str) -> Option<usize> {
         self.zones
             .iter()
             .position(|known| known.name.as_str() == name)
     }
 
-    /// The clock of the zone at a place, or of UTC, if there is one so far.
+    /// The clock of the zone at an index, or of UTC, if there is one so far.
     fn clock(&self, alloc: Global, zone: Option<usize>) -> Result<Option<Clock>, InputFault> {
         let utc = Zone::utc();
-        let zone = match zone.and_then(|place| self.zones.get(place)) {
+        let zone = match zone.and_then(|index| self.zones.get(index)) {
             None => &utc,
             Some(known) => &known.zone,
         };
@@ -69,14 +69,14 @@ impl Hours {
     }
 }
 
-/// A clock, and the place of its zone; none is UTC's.
+/// A clock, and the index of its zone; none is UTC's.
 #[derive(Drop)]
 struct ZoneClock {
     zone: Option<usize>,
     clock: Clock,
 }
 
-/// An interval, and the place of its clock, unless it was refused.
+/// An interval, and the index of its clock, unless it was refused.
 #[derive(Drop)]
 pub(crate) struct Placed {
     pub(crate) interval: Interval,
@@ -98,14 +98,14 @@ impl<'h> Clocks<'h> {
         }
     }
 
-    /// The moment at which they end.
+    /// The time at which they end.
     pub(crate) fn horizon(&self) -> u64 {
         self.hours.horizon
     }
 
-    /// The place of a zone's clock, behind all others if it is new. None where the zone isn't known, or
+    /// The index of a zone's clock, behind all others if it is new. None where the zone isn't known, or
     /// has no clock from the start to the horizon.
-    pub(crate) fn place_of(
+    pub(crate) fn index_of(
         &mut self,
         alloc: Global,
         name: &str,
@@ -113,20 +113,20 @@ impl<'h> Clocks<'h> {
         let zone = if is_utc(name) {
             None
         } else {
-            match self.hours.place_of(name) {
+            match self.hours.index_of(name) {
                 None => return Ok(None),
-                place => place,
+                index => index,
             }
         };
-        if let Some(place) = self.made.iter().position(|made| made.zone == zone) {
-            return Ok(Some(place));
+        if let Some(index) = self.made.iter().position(|made| made.zone == zone) {
+            return Ok(Some(index));
         }
-        let place = self.made.len();
+        let index = self.made.len();
         match self.hours.clock(alloc, zone)? {
             None => Ok(None),
             Some(clock) => {
                 self.made.push(ZoneClock { zone, clock })?;
-                Ok(Some(place))
+                Ok(Some(index))
             }
         }
     }
@@ -135,7 +135,7 @@ impl<'h> Clocks<'h> {
     pub(crate) fn expand(&self, alloc: Global, placed: &[Placed]) -> Result<Spans, HoursFault> {
         let mut timed = Vec::new(alloc);
         for Placed { interval, clock } in placed {
-            if let Some(made) = clock.and_then(|place| self.made.get(place)) {
+            if let Some(made) = clock.and_then(|index| self.made.get(index)) {
                 timed
                     .push(Timed {
                         interval,

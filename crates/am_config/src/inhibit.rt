@@ -2,7 +2,7 @@
 use crate::matchers::{MatcherMembers, read_matchers};
 use crate::optional::non_null;
 use am_alerts::labels::is_label_name;
-use am_alerts::limits::MAX_NAMES;
+use am_alerts::limits::MAX_LABEL_NAMES;
 use am_alerts::text::Text;
 use am_cli::fault::{FaultKind, InputFault};
 use am_cli::faults::Faults;
@@ -85,7 +85,7 @@ fn read_equal(faults: &mut Faults, rule: &Object<'_, '_>) -> Result<Vec<Text>, I
     let Some(items) = faults.kept(member.array())? else {
         return Ok(names);
     };
-    if items.len() > MAX_NAMES {
+    if items.len() > MAX_LABEL_NAMES {
         faults.push(member.refuse(FaultKind::BadValue))?;
         return Ok(names);
     }

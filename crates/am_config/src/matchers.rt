@@ -138,8 +138,8 @@ fn matcher_of(reader: &Reader<'_, '_>, parts: MatcherParts) -> Result<Matcher, I
     }
 }
 
-/// The texts of single matchers in one text: it may stand in braces, and a comma outside quotes ends a
-/// matcher. One may stand behind the last.
+/// The texts of single matchers in one text: it may be in braces, and a comma outside quotes ends a
+/// matcher. One may be behind the last.
 fn split(alloc: Global, text: &str) -> Result<Vec<String>, AllocError> {
     let text = text.strip_prefix('{').unwrap_or(text);
     let text = text.strip_suffix('}').unwrap_or(text);
@@ -171,7 +171,7 @@ impl Splitter {
     fn take(&mut self, character: char) -> Result<(), AllocError> {
         match character {
             ',' if !self.is_quoted => return self.end(),
-            // In quotes a comma leaves it as it is whether a backslash stands before.
+            // In quotes a comma leaves it as it is whether a backslash is before.
             ',' => {}
             '\\' => self.is_escaped = !self.is_escaped,
             '"' if !self.is_escaped => self.is_quoted = !self.is_quoted,

@@ -147,11 +147,11 @@ fn receiver_of(alloc: Global, route: &Value) -> Result<Option<Text>, AllocError>
     }
 }
 
-/// Adds the places of a route and of those above it, each in its list.
+/// Adds the indexes of a route and of those above it, each in its list.
 fn push_path(name: &mut String, path: &[usize]) -> Result<(), AllocError> {
     name.push_str("_at")?;
-    for place in path {
-        write!(name, "_{place}")?;
+    for index in path {
+        write!(name, "_{index}")?;
     }
     Ok(())
 }

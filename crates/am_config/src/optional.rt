@@ -62,11 +62,11 @@ pub(crate) fn flag_or(
     faults: &mut Faults,
     object: &Object<'_, '_>,
     name: &str,
-    not_excludable: bool,
+    without_member: bool,
 ) -> Result<bool, InputFault> {
     match non_null(object, name) {
-        None => Ok(not_excludable),
-        Some(member) => Ok(faults.kept(member.flag())?.unwrap_or(not_excludable)),
+        None => Ok(without_member),
+        Some(member) => Ok(faults.kept(member.flag())?.unwrap_or(without_member)),
     }
 }
 

@@ -3,7 +3,7 @@ use crate::inhibit::label_name;
 use crate::optional::{non_null, optional_duration, optional_interval};
 use crate::route::Routing;
 use crate::scalar::optional_text;
-use am_alerts::limits::MAX_NAMES;
+use am_alerts::limits::MAX_LABEL_NAMES;
 use am_alerts::route::GroupBy;
 use am_alerts::sequence::Sequence;
 use am_alerts::text::Text;
@@ -13,7 +13,7 @@ use am_cli::faults::Faults;
 use am_cli::reader::{Object, Reader};
 use serde_json::Value;
 
-/// Stands in `group_by` for all labels.
+/// Is in `group_by` for all labels.
 const ALL_LABELS: &str = "...";
 
 /// Reads what a route says of its receiver, its groups and its times.
@@ -56,7 +56,7 @@ fn refuse_receiver(route: &Object<'_, '_>) -> Result<(), InputFault> {
     Err(route.required("receiver")?.refuse(FaultKind::BadValue))
 }
 
-/// Reads the labels by which a route groups. `...` stands for all of them, and with no other. An empty
+/// Reads the labels by which a route groups. `...` represents all of them, and with no other. An empty
 /// array says nothing.
 fn read_group_by(
     faults: &mut Faults,
@@ -74,7 +74,7 @@ fn read_group_by(
     if items.iter().all(is_all_labels) {
         return Ok(Some(GroupBy::All));
     }
-    if items.len() > MAX_NAMES || items.iter().any(is_all_labels) {
+    if items.len() > MAX_LABEL_NAMES || items.iter().any(is_all_labels) {
         faults.push(member.refuse(FaultKind::BadValue))?;
         return Ok(None);
     }
@@ -89,7 +89,7 @@ fn is_all_labels(item: &Value) -> bool {
     }
 }
 
-/// Reads names of labels, each of which stands once.
+/// Reads names of labels, each of which is once.
 fn read_names<'v>(
     faults: &mut Faults,
     member: &Reader<'v, '_>,

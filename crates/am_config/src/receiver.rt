@@ -136,7 +136,7 @@ const MEMBERS: [&str; 19] = [
     "incidentio_configs",
 ];
 
-/// The names of all receivers, if they can be told.
+/// The names of all receivers, if they can be given.
 pub(crate) fn receiver_names(top: &Object<'_, '_>) -> Result<Option<Vec<Text>>, InputFault> {
     let mut names = Vec::new(top.alloc());
     let mut unread = Faults::none(top.alloc());
@@ -155,7 +155,7 @@ pub(crate) fn receiver_names(top: &Object<'_, '_>) -> Result<Option<Vec<Text>>, 
     Ok(Some(names))
 }
 
-/// The name of a receiver, or why it can't be told.
+/// The name of a receiver, or why it can't be given.
 fn name_in(unread: &mut Faults, reader: &Reader<'_, '_>) -> Result<Option<Text>, InputFault> {
     match unread.kept(reader.object())? {
         None => Ok(None),
@@ -211,7 +211,7 @@ fn read_receiver(
     }))
 }
 
-/// Reads the name of a receiver; one that stands before it, or none, is refused.
+/// Reads the name of a receiver; one that is before it, or none, is refused.
 fn read_name(before: &[Receiver], receiver: &Object<'_, '_>) -> Result<Text, InputFault> {
     let member = required(receiver, "name")?;
     let name = required_text(receiver, "name")?;

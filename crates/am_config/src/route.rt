@@ -1,7 +1,7 @@
 //! The tree of routes. `alertmanager` calls it.
 //!
 //! The first route that the tree has no capacity for is rejected: there are 1,023 already, or it
-//! stands more than 64 levels below the root. Routes that it has no capacity for aren't read. An
+//! is more than 64 levels below the root. Routes that it has no capacity for aren't read. An
 //! empty `group_by` below the root is none, as in Alertmanager.
 ghost use Rattle.std.specs.Prelude.{◌<◌, IfOk, IsTrue};
 
@@ -63,11 +63,11 @@ pub(crate) struct Tree {
 /// What is known of the routes that were read.
 #[derive(Drop)]
 pub(crate) struct Routing<'h> {
-    /// The names of the receivers, if they can be told.
+    /// The names of the receivers, if they can be given.
     receivers: Option<Vec<Text>>,
     pub(crate) times: Times<'h>,
     names: RouteNames,
-    /// The places of the route that is read and of those above it, each in its list; the lowest one behind.
+    /// The indexes of the route that is read and of those above it, each in its list; the lowest one behind.
     path: Vec<usize>,
     /// How many routes below the root were begun.
     begun: usize,
@@ -87,7 +87,7 @@ impl<'h> Routing<'h> {
         })
     }
 
-    /// Whether there is a receiver of this name, or none can be told.
+    /// Whether there is a receiver of this name, or none can be given.
     pub(crate) fn has_receiver(&self, name: &str) -> bool {
         match &self.receivers {
             None => true,
@@ -233,7 +233,7 @@ fn read_routes(
     Ok(routes)
 }
 
-/// Reads a route, and those below it, that stands below a route with this receiver.
+/// Reads a route, and those below it, that is below a route with this receiver.
 #[cycle(routes)]
 fn read_node(
     faults: &mut Faults,
@@ -248,8 +248,8 @@ fn read_node(
     faults.only(&route, &MEMBERS)?;
     let options = read_options(faults, routing, &route)?;
     let matchers = read_matchers(faults, &route, &MATCHERS)?;
-    let goes_on = flag_or(faults, &route, "continue", false)?;
-    let shut = routing.times.read_shut(faults, &route)?;
+    let continues = flag_or(faults, &route, "continue", false)?;
+    let muted = routing.times.read_muted(faults, &route)?;
     let receiver = match &options.receiver {
         None => Text::new(route.alloc(), above)?,
         Some(receiver) => receiver.copy(route.alloc())?,
@@ -262,8 +262,8 @@ fn read_node(
             name,
             options,
             matchers: Sequence::from(matchers),
-            goes_on,
-            shut,
+            continues,
+            muted,
         },
         routes,
     }))

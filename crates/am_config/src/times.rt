@@ -34,7 +34,7 @@ pub(crate) const INTERVALS: &str = "time_intervals";
 /// The zone of an interval.
 pub(crate) const LOCATION: &str = "location";
 
-/// The location that stands for the zone of the machine.
+/// The location that represents the zone of the machine.
 pub(crate) const LOCAL: &str = "Local";
 
 /// The members of a definition.
@@ -71,12 +71,12 @@ struct Definition {
     is_listed: bool,
 }
 
-/// The spans of routes that list these names, each by the place of its definition.
+/// The spans of routes that list these names, each by the index of its definition.
 #[derive(Drop)]
 struct Given {
     mute: Vec<usize>,
     active: Vec<usize>,
-    shut: Spans,
+    muted: Spans,
 }
 
 /// The time intervals of a configuration.
@@ -86,7 +86,7 @@ pub(crate) struct Times<'h> {
     clocks: Option<Clocks<'h>>,
     definitions: Vec<Definition>,
     /// Whether each definition's name could be read.
-    are_told: bool,
+    are_listed: bool,
     given: Vec<Given>,
 }
 
@@ -100,7 +100,7 @@ impl<'h> Times<'h> {
         let mut times = Times {
             clocks: hours.map(|hours| Clocks::new(top.alloc(), hours)),
             definitions: Vec::new(top.alloc()),
-            are_told: true,
+            are_listed: true,
             given: Vec::new(top.alloc()),
         };
         for name in LISTS {
@@ -132,7 +132,7 @@ impl<'h> Times<'h> {
     ) -> Result<(), InputFault> {
         let most = MAX_DEFINITIONS.saturating_sub(self.definitions.len());
         let Some(items) = items_up_to(faults, member, most)? else {
-            self.are_told = false;
+            self.are_listed = false;
             return Ok(());
         };
         for (index, value) in items.iter().enumerate() {
@@ -147,7 +147,7 @@ impl<'h> Times<'h> {
         reader: &Reader<'_, '_>,
     ) -> Result<(), InputFault> {
         let Some(definition) = faults.kept(reader.object())? else {
-            self.are_told = false;
+            self.are_listed = false;
             return Ok(());
         };
         faults.only(&definition, &DEFINITION)?;
@@ -170,17 +170,17 @@ impl<'h> Times<'h> {
         definition: &Object<'_, '_>,
     ) -> Result<Option<Text>, InputFault> {
         let Some(name) = faults.kept(required_text(definition, "name"))? else {
-            self.are_told = false;
+            self.are_listed = false;
             return Ok(None);
         };
-        if name.as_str().is_empty() || self.place_of(name.as_str()).is_some() {
+        if name.as_str().is_empty() || self.index_of(name.as_str()).is_some() {
             refuse_member(faults, definition, "name", FaultKind::BadValue)?;
             return Ok(None);
         }
         Ok(Some(name))
     }
 
-    fn place_of(&self, name: &str) -> Option<usize> {
+    fn index_of(&self, name: &str) -> Option<usize> {
         self.definitions
             .iter()
             .position(|definition| definition.name.as_str() == name)
@@ -264,15 +264,15 @@ impl<'h> Times<'h> {
         let Some(clocks) = &mut self.clocks else {
             return Ok(None);
         };
-        match clocks.place_of(reader.alloc(), name)? {
+        match clocks.index_of(reader.alloc(), name)? {
             None => Err(reader.refuse(FaultKind::BadValue)),
-            place => Ok(place),
+            index => Ok(index),
         }
     }
 
     /// Reads the names that a route lists, and finds the spans in which it is muted. Too many are refused
     /// at the list that mutes it, or at the other where it has no such list.
-    pub(crate) fn read_shut(
+    pub(crate) fn read_muted(
         &mut self,
         faults: &mut Faults,
         route: &Object<'_, '_>,
@@ -284,10 +284,10 @@ impl<'h> Times<'h> {
             return Ok(Spans::none());
         }
         match (
-            self.shut_by(route.alloc(), mute, active),
+            self.muted_by(route.alloc(), mute, active),
             non_null(route, list),
         ) {
-            (shut, Some(member)) => kept_spans(faults, &member, shut),
+            (muted, Some(member)) => kept_spans(faults, &member, muted),
             _ => Ok(Spans::none()),
         }
     }
@@ -299,37 +299,37 @@ impl<'h> Times<'h> {
         route: &Object<'_, '_>,
         name: &str,
     ) -> Result<Vec<usize>, InputFault> {
-        let mut places = Vec::new(route.alloc());
+        let mut indexes = Vec::new(route.alloc());
         let Some(member) = non_null(route, name) else {
-            return Ok(places);
+            return Ok(indexes);
         };
         let Some(items) = items_up_to(faults, &member, MAX_DEFINITIONS)? else {
-            return Ok(places);
+            return Ok(indexes);
         };
         for (index, value) in items.iter().enumerate() {
             let item = member.item(index, value);
             if let Some(name) = faults.kept(text_of(&item, value))? {
                 match self.list(name.as_str()) {
-                    Some(place) => places.push(place)?,
-                    None if self.are_told => faults.push(item.refuse(FaultKind::BadValue))?,
+                    Some(found) => indexes.push(found)?,
+                    None if self.are_listed => faults.push(item.refuse(FaultKind::BadValue))?,
                     None => {}
                 }
             }
         }
-        Ok(places)
+        Ok(indexes)
     }
 
-    /// The place of a definition that a route lists.
+    /// The index of a definition that a route lists.
     fn list(&mut self, name: &str) -> Option<usize> {
-        let place = self.place_of(name)?;
-        if let Some(definition) = self.definitions.get_mut(place) {
+        let index = self.index_of(name)?;
+        if let Some(definition) = self.definitions.get_mut(index) {
             definition.is_listed = true;
         }
-        Some(place)
+        Some(index)
     }
 
     /// The spans of a route with these names, which those before it share that have the same.
-    fn shut_by(
+    fn muted_by(
         &mut self,
         alloc: Global,
         mute: Vec<usize>,
@@ -337,17 +337,21 @@ impl<'h> Times<'h> {
     ) -> Result<Spans, HoursFault> {
         for given in &self.given {
             if given.mute == mute && given.active == active {
-                return Ok(given.shut.share()?);
+                return Ok(given.muted.share()?);
             }
         }
-        let shut = self.found_shut(alloc, &mute, &active)?;
-        let shared = shut.share()?;
-        let given = Given { mute, active, shut };
+        let muted = self.found_muted(alloc, &mute, &active)?;
+        let shared = muted.share()?;
+        let given = Given {
+            mute,
+            active,
+            muted,
+        };
         self.given.push(given).map_err(|_| HoursFault::NoMemory)?;
         Ok(shared)
     }
 
-    fn found_shut(
+    fn found_muted(
         &self,
         alloc: Global,
         mute: &[usize],
@@ -363,11 +367,11 @@ impl<'h> Times<'h> {
         }
     }
 
-    /// The spans of the definitions at these places.
-    fn spans_of(&self, alloc: Global, places: &[usize]) -> Result<Vec<&Spans>, HoursFault> {
+    /// The spans of the definitions at these indexes.
+    fn spans_of(&self, alloc: Global, indexes: &[usize]) -> Result<Vec<&Spans>, HoursFault> {
         let mut spans = Vec::new(alloc);
-        for place in places {
-            if let Some(definition) = self.definitions.get(*place) {
+        for index in indexes {
+            if let Some(definition) = self.definitions.get(*index) {
                 spans
                     .push(&definition.spans)
                     .map_err(|_| HoursFault::NoMemory)?;

@@ -1,6 +1,6 @@
 //! The limits that complaints name.
 use am_alerts::limits::{
-    MAX_CHILDREN, MAX_DEPTH, MAX_LABEL_BYTES, MAX_MATCHERS, MAX_NAMES, MAX_ROUTES,
+    MAX_CHILDREN, MAX_DEPTH, MAX_LABEL_BYTES, MAX_LABEL_NAMES, MAX_MATCHERS, MAX_ROUTES,
 };
 use am_cli::fault::FaultKind;
 use am_command::explain::{Bounds, Wrong};
@@ -20,7 +20,7 @@ pub fn bounds() -> Bounds {
         integrations: MAX_INTEGRATIONS,
         rules: MAX_RULES,
         matchers: MAX_MATCHERS,
-        names: MAX_NAMES,
+        names: MAX_LABEL_NAMES,
         label_bytes: MAX_LABEL_BYTES,
         days: (MAX_UNTIL / DAY) as usize,
     }

@@ -1,7 +1,7 @@
 //! What a command reads from and prints to.
 use crate::bounds::{bounds, wrong_of};
+use crate::dispatcher_change_words::explain_dispatcher_change;
 use crate::files::{FileFault, PaintedOutput, read};
-use crate::handover_words::explain_handover;
 use crate::matcher_words::explain_matcher;
 use crate::story_words::explain_story;
 use crate::time_words::explain_times;
@@ -10,12 +10,12 @@ use am_cli::fault::{FaultKind, InputFault};
 use am_cli::faults::{Fault, Faults, Refusal};
 use am_cli::transfer::write_all;
 use am_command::complaint::Complaint;
-use am_command::explain::{Whole, Wrong, explain};
+use am_command::explain::{FileShape, Wrong, explain};
 use am_command::request::{FaultFormat, STANDARD_INPUT};
 use am_yaml::document::{DocumentFault, read_document};
 use am_yaml::fault::YamlFault;
 use am_yaml::locate::{Part, locate};
-use am_yaml::place::Place;
+use am_yaml::location::Location;
 use serde_json::Value;
 use std::alloc::{AllocError, Global};
 use std::rt::Files;
@@ -32,7 +32,7 @@ pub const UNWRITABLE: u8 = 4;
 /// The status where the routes don't have the receivers that are verified, or, if it is asked for, where a notice differs.
 pub const DIFFERS: u8 = 6;
 
-/// How many bytes of text are gone over to find where faults stand. The whole text is, for each fault, so of a long file
+/// How many bytes of text are gone over to find where faults are. The whole text is, for each fault, so of a long file
 /// with many faults only the first ones get a line and a column.
 const WALKED: usize = 8_388_608;
 
@@ -55,7 +55,7 @@ pub struct Document<'p> {
     pub text: Vec<u8>,
     pub value: Value,
     /// What the whole file has to be, for complaints.
-    pub whole: Whole,
+    pub shape: FileShape,
 }
 
 /// Returns the name of a file as people see it.
@@ -92,7 +92,7 @@ impl Console {
                 path,
                 text,
                 value,
-                whole: Whole::Fields,
+                shape: FileShape::Fields,
             }),
             Err(fault) => Err(self.complain_of_text(rt, path, fault)),
         }
@@ -118,17 +118,17 @@ impl Console {
         path: &str,
         fault: DocumentFault,
     ) -> u8 {
-        let place = place_of(fault);
+        let location = location_of(fault);
         let Ok(message) = message_of(rt, fault) else {
             return self.complain_of_memory(rt);
         };
-        match self.complain(rt, path, place, None, "text", message.as_str()) {
+        match self.complain(rt, path, location, None, "text", message.as_str()) {
             Ok(()) => REJECTED,
             Err(_) => self.complain_of_memory(rt),
         }
     }
 
-    /// Complains of each fault of a document, at its place in the text, in the order of lines, and returns the status.
+    /// Complains of each fault of a document, at its location in the text, in the order of lines, and returns the status.
     pub fn complain_of_faults<R: Eprint + AllocGlobal>(
         &self,
         rt: &R,
@@ -151,9 +151,9 @@ impl Console {
         document: &Document<'_>,
         located: &[Located<'_>],
     ) -> Result<(), AllocError> {
-        for Located { fault, place } in located {
-            let pointer = fault.place.as_str();
-            self.complain_of_value(rt, document, pointer, fault.fault_kind, *place)?;
+        for Located { fault, location } in located {
+            let pointer = fault.pointer.as_str();
+            self.complain_of_value(rt, document, pointer, fault.fault_kind, *location)?;
         }
         Ok(())
     }
@@ -168,8 +168,13 @@ impl Console {
         match refusal {
             Refusal::All(faults) => self.complain_of_faults(rt, document, &faults),
             Refusal::One(InputFault::NoMemory) => self.complain_of_memory(rt),
-            Refusal::One(InputFault::Refused { place, fault_kind }) => {
-                match self.complain_at(rt, document, place.as_str(), fault_kind) {
+            Refusal::One(
+                InputFault::Refused {
+                    pointer,
+                    fault_kind,
+                },
+            ) => {
+                match self.complain_at(rt, document, pointer.as_str(), fault_kind) {
                     Ok(()) => REJECTED,
                     Err(_) => self.complain_of_memory(rt),
                 }
@@ -186,11 +191,11 @@ impl Console {
         words: &str,
     ) -> u8 {
         let kind = FaultKind::BadValue;
-        let said = match place_in(rt.alloc(), document, pointer, kind) {
+        let said = match location_in(rt.alloc(), document, pointer, kind) {
             Err(refused) => Err(refused),
-            Ok(place) => {
+            Ok(location) => {
                 let kind = wrong_of(kind).name();
-                self.complain(rt, document.path, place, Some(pointer), kind, words)
+                self.complain(rt, document.path, location, Some(pointer), kind, words)
             }
         };
         match said {
@@ -205,7 +210,7 @@ impl Console {
         NO_MEMORY
     }
 
-    /// Complains of a value of a document, at its place in the text.
+    /// Complains of a value of a document, at its location in the text.
     fn complain_at<R: Eprint + AllocGlobal>(
         &self,
         rt: &R,
@@ -213,25 +218,25 @@ impl Console {
         pointer: &str,
         fault_kind: FaultKind,
     ) -> Result<(), AllocError> {
-        let place = place_in(rt.alloc(), document, pointer, fault_kind)?;
-        self.complain_of_value(rt, document, pointer, fault_kind, place)
+        let location = location_in(rt.alloc(), document, pointer, fault_kind)?;
+        self.complain_of_value(rt, document, pointer, fault_kind, location)
     }
 
-    /// Complains of a value of a document, which stands at this place of the text, if that is known.
+    /// Complains of a value of a document, which is at this location of the text, if that is known.
     fn complain_of_value<R: Eprint + AllocGlobal>(
         &self,
         rt: &R,
         document: &Document<'_>,
         pointer: &str,
         fault_kind: FaultKind,
-        place: Option<Place>,
+        location: Option<Location>,
     ) -> Result<(), AllocError> {
         let message = words_for(rt.alloc(), document, pointer, fault_kind)?;
         let kind = wrong_of(fault_kind).name();
         self.complain(
             rt,
             document.path,
-            place,
+            location,
             Some(pointer),
             kind,
             message.as_str(),
@@ -243,14 +248,14 @@ impl Console {
         &self,
         rt: &R,
         path: &str,
-        place: Option<Place>,
+        location: Option<Location>,
         pointer: Option<&str>,
         kind: &str,
         message: &str,
     ) -> Result<(), AllocError> {
         let complaint = Complaint {
             file: shown(path),
-            place,
+            location,
             pointer,
             kind,
             message,
@@ -278,29 +283,30 @@ fn words_for(
     if let Some(words) = explain_story(alloc, top, pointer, fault_kind)? {
         return Ok(words);
     }
-    if let Some(words) = explain_handover(alloc, top, pointer, fault_kind)? {
+    if let Some(words) = explain_dispatcher_change(alloc, top, pointer, fault_kind)? {
         return Ok(words);
     }
     if let Some(words) = explain_matcher(alloc, top, pointer, fault_kind)? {
         return Ok(words);
     }
     let wrong = wrong_of(fault_kind);
-    explain(alloc, top, pointer, wrong, document.whole, &bounds())
+    explain(alloc, top, pointer, wrong, document.shape, &bounds())
 }
 
-/// A fault, and where its value stands in the text, if that is known.
+/// A fault, and where its value is in the text, if that is known.
 #[derive(Clone, Copy)]
 struct Located<'f> {
     fault: &'f Fault,
-    place: Option<Place>,
+    location: Option<Location>,
 }
 
 impl Located<'_> {
-    /// Returns whether this fault stands before another. One whose place isn't known stands behind all.
+    /// Returns whether this fault is before another. One whose location isn't known is behind all.
     fn comes_before(&self, other: &Located<'_>) -> bool {
-        match (self.place, other.place) {
-            (Some(place), Some(other)) => {
-                place.line < other.line || place.line == other.line && place.column < other.column
+        match (self.location, other.location) {
+            (Some(location), Some(other)) => {
+                location.line < other.line
+                    || location.line == other.line && location.column < other.column
             }
             (Some(_), None) => true,
             (None, _) => false,
@@ -309,7 +315,7 @@ impl Located<'_> {
 }
 
 /// Returns the faults of a document in the order of lines and columns. Of a long text only the first ones that were found
-/// have a place; the others are behind them.
+/// have a location; the others are behind them.
 fn in_order<'f>(
     alloc: Global,
     document: &Document<'_>,
@@ -318,12 +324,12 @@ fn in_order<'f>(
     let walked = (WALKED / document.text.len().max(1)).max(1);
     let mut ordered: Vec<Located<'f>> = Vec::new(alloc);
     for (index, fault) in faults.iter().enumerate() {
-        let place = if index < walked {
-            place_in(alloc, document, fault.place.as_str(), fault.fault_kind)?
+        let location = if index < walked {
+            location_in(alloc, document, fault.pointer.as_str(), fault.fault_kind)?
         } else {
             None
         };
-        let located = Located { fault, place };
+        let located = Located { fault, location };
         let end = ordered.len();
         let later = ordered.iter().position(|later| located.comes_before(later));
         ordered.insert(later.unwrap_or(end).min(end), located)?;
@@ -331,13 +337,13 @@ fn in_order<'f>(
     Ok(ordered)
 }
 
-/// Returns where a value of a document stands in its text; of an unknown field where its name stands.
-fn place_in(
+/// Returns where a value of a document is in its text; of an unknown field where its name is.
+fn location_in(
     alloc: Global,
     document: &Document<'_>,
     pointer: &str,
     fault_kind: FaultKind,
-) -> Result<Option<Place>, AllocError> {
+) -> Result<Option<Location>, AllocError> {
     let part = if wrong_of(fault_kind) == Wrong::Unknown {
         Part::Key
     } else {
@@ -350,13 +356,13 @@ fn place_in(
 }
 
 /// Returns where a text isn't read, if that is known.
-fn place_of(fault: DocumentFault) -> Option<Place> {
+fn location_of(fault: DocumentFault) -> Option<Location> {
     match fault {
         DocumentFault::NotText { line, column }
         | DocumentFault::NotJson { line, column }
         | DocumentFault::NotYaml {
             fault: YamlFault::Refused { line, column, .. },
-        } => Some(Place { line, column }),
+        } => Some(Location { line, column }),
         DocumentFault::NotYaml { .. } | DocumentFault::NoMemory => None,
     }
 }

@@ -98,7 +98,7 @@ pub fn read<R: Files + AllocGlobal>(
 }
 
 impl<F: Read + Drop> Source for FileSource<F> {
-    ghost asked = { λ s. s.io_trace.asked };
+    ghost reads = { λ s. s.io_trace.reads };
 
     ghost failed = { λ s. s.io_trace.failed };
 
@@ -158,7 +158,7 @@ impl PaintedOutput {
 
 /// It takes the bytes without their colors.
 impl Sink for PaintedOutput {
-    ghost asked = { λ o. o.io_trace.asked };
+    ghost reads = { λ o. o.io_trace.reads };
 
     ghost failed = { λ o. o.io_trace.failed };
 

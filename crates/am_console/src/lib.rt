@@ -6,8 +6,8 @@
 
 pub mod bounds;
 pub mod console;
+mod dispatcher_change_words;
 pub mod files;
-mod handover_words;
 pub mod matcher_words;
 pub mod progress;
 pub mod story_words;

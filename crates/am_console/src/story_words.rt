@@ -15,7 +15,7 @@ pub const PAGE_HAS_NO_LINES: &str =
 const PAGE_HAS_ONE_DISPATCHER: &str =
     "a page shows one dispatcher; it can't show a reload or a restart";
 
-/// A field of an expectation, and what stands there.
+/// A field of an expectation, and what is there.
 #[derive(Clone, Copy)]
 struct Field<'v, 'p> {
     story: &'v Value,
@@ -51,7 +51,7 @@ pub fn explain_story(
 /// Returns why a page isn't made of a story, where that is why its output is refused. The command line may ask for the page.
 fn explain_page(alloc: Global, story: &Value) -> Result<Option<String>, AllocError> {
     let words = match story.get("output").and_then(Value::as_str) {
-        None | Some("timeline" | "notices" | "json" | "html") if has_handovers(story) => {
+        None | Some("timeline" | "notices" | "json" | "html") if has_dispatcher_changes(story) => {
             PAGE_HAS_ONE_DISPATCHER
         }
         Some("html") => PAGE_HAS_NO_LINES,
@@ -61,7 +61,7 @@ fn explain_page(alloc: Global, story: &Value) -> Result<Option<String>, AllocErr
 }
 
 /// Returns whether a story reloads or restarts the dispatcher.
-fn has_handovers(story: &Value) -> bool {
+fn has_dispatcher_changes(story: &Value) -> bool {
     has_items(story, "reload") || has_items(story, "restart")
 }
 
@@ -237,7 +237,7 @@ fn is_empty(value: &Value) -> bool {
     }
 }
 
-/// Returns what a field can't stand beside, in words.
+/// Returns what a field can't be beside, in words.
 fn words_beside(field: &Field<'_, '_>) -> Option<&'static str> {
     match field.name {
         "exactly" if is_empty(field.value) => {

@@ -47,11 +47,11 @@ fn count_names(pointer: &str) -> usize {
     count
 }
 
-fn nth_name(pointer: &str, place: usize) -> &str {
+fn nth_name(pointer: &str, index: usize) -> &str {
     let mut seen = 0usize;
     for part in pointer.split('/') {
         if !is_number(part) {
-            if seen == place {
+            if seen == index {
                 return part;
             }
             seen = seen.saturating_add(1);

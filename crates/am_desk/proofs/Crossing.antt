@@ -17,7 +17,7 @@ use Rattle.am_alerts.proofs.text.Text.TheSendSync as text
 use Rattle.am_alerts.proofs.sequence.Sequence.TheSendSync as sequence
 use Rattle.am_alerts.proofs.matcher.MatcherParts.TheSendSync as parts
 use Rattle.am_alerts.proofs.route.Route.TheSendSync as route
-use Rattle.am_alerts.proofs.planting.Place.TheSendSync as place
+use Rattle.am_alerts.proofs.route_layout.RouteLayout.TheSendSync as layout
 use Rattle.am_alerts.proofs.spans.Span.TheSendSync as span
 use Rattle.am_model.proofs.config.Receiver.TheSendSync as receiver
 use Rattle.am_model.proofs.config.Limits.TheSendSync as limits
@@ -121,10 +121,10 @@ pub spans_sync : IsSync spans_row.the_row
 spans_sync = search (every, span.the_send, span.the_sync) depth 40 fits 10000
 
 pub routes_send : IsSend routes_row.the_row
-routes_send = search (every, child_send, spans_send, route.the_send, place.the_send, sequence.the_send) depth 40 fits 10000
+routes_send = search (every, child_send, spans_send, route.the_send, layout.the_send, sequence.the_send) depth 40 fits 10000
 
 pub routes_sync : IsSync routes_row.the_row
-routes_sync = search (every, child_sync, spans_sync, route.the_sync, place.the_sync, sequence.the_sync) depth 40 fits 10000
+routes_sync = search (every, child_sync, spans_sync, route.the_sync, layout.the_sync, sequence.the_sync) depth 40 fits 10000
 
 pub silence_send : IsSend silence_row.the_row
 silence_send = search (every, matcher_send, sequence.the_send) depth 40 fits 10000

@@ -35,7 +35,7 @@ impl<N: Name> Model for OwnTicket<N> {
 
     ghost view = { λ own. own.ticket };
 
-    ghost invariant = { λ own. own.ticket.desk ≡ N.terms.id };
+    ghost invariant = { λ own. own.ticket.board_id ≡ N.terms.id };
 }
 
 impl<N: Name> OwnTicket<N> {
@@ -43,7 +43,7 @@ impl<N: Name> OwnTicket<N> {
     ///
     /// Clause `fresh` of `Desk::begin` shows that a ticket is the desk's.
     pub fn new(ticket: Ticket) -> OwnTicket<N>
-        requires { ticket.desk ≡ N.terms.id }
+        requires { ticket.board_id ≡ N.terms.id }
         ensures { result ≡ ticket }
     {
         OwnTicket {
@@ -55,7 +55,7 @@ impl<N: Name> OwnTicket<N> {
     /// Returns the ticket, to be read or noted.
     pub fn ticket(&self) -> &Ticket
         ensures ticket { result.now ≡ self.now }
-        ensures ours { result.now.desk ≡ N.terms.id }
+        ensures ours { result.now.board_id ≡ N.terms.id }
     {
         &self.ticket
     }
@@ -72,7 +72,7 @@ impl<N: Name> OwnTicket<N> {
     /// Returns the ticket, for `Desk::finish`.
     pub fn into_ticket(self) -> Ticket
         ensures ticket { result ≡ self }
-        ensures ours { result.desk ≡ N.terms.id }
+        ensures ours { result.board_id ≡ N.terms.id }
     {
         let OwnTicket { ticket, of: _ } = self;
         ticket

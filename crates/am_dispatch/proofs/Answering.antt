@@ -5,7 +5,7 @@ use Rattle.json.specs.Token.{Token}
 use Rattle.serde_json.specs.Data.{Members}
 use Rattle.serde_json.specs.Find.{as_object}
 use Rattle.serde_json.specs.Read.{read}
-use Rattle.am_cli.specs.declared.reader.Dialect.TheVariants.{Strict}
+use Rattle.am_cli.specs.declared.reader.Mode.TheVariants.{Strict}
 use Rattle.am_model.specs.Config.{config_fault}
 use Rattle.am_lines.specs.declared.fault.LineFault.{LineFault}
 use Rattle.am_lines.specs.declared.request.Request.{Request}
@@ -14,25 +14,25 @@ use Rattle.am_lines.specs.declared.lines.LineRead.{LineRead}
 use Rattle.am_lines.specs.declared.request.Opening.{Opening}
 use Rattle.am_lines.specs.Lines.{IsRead}
 use Rattle.am_lines.specs.Request.{HasOneMember, IsRequestIn, IsRequestOf}
-use Rattle.am_dispatch.specs.Refusal.{IsWhyUnopened}
+use Rattle.am_dispatch.specs.Refusal.{IsCauseOfUnopened}
 use Rattle.am_dispatch.specs.Serve.{IsOpenedBy, Opened, OpensNone}
-use Rattle.am_dispatch.specs.Session.{Does, IsAsked, IsTold}
+use Rattle.am_dispatch.specs.Session.{Does, IsRequest, IsAnswerTo}
 use Rattle.am_dispatch.specs.declared.session.Session.{Session}
 
--- what is told, where the answer began with nothing
-pub told_line : (old new : Session) (text : List ℕ) (request : Request) (before after : List Token)
-    → before ≡ [] → Does old request new before after → text ≡ print after ++ 10 ∷ [] → IsTold old request text new
-told_line old new text request before after empty does text_is =
+-- what is answered, where the answer began with nothing
+pub answers_line : (old new : Session) (text : List ℕ) (request : Request) (before after : List Token)
+    → before ≡ [] → Does old request new before after → text ≡ print after ++ 10 ∷ [] → IsAnswerTo old request text new
+answers_line old new text request before after empty does text_is =
     record { tokens = after; does = subst (λ (b : List Token). Does old request new b after) empty does; text_is = text_is }
 
 -- a line that asks for a board, which is there
-pub opened_text : {T E : Type 0} (r : Result T E) (items : T → List ℕ) (session : T → Session) (read : LineRead) (kept : List ℕ) (asked : Request) (opening : Opening)
-    → asked ≡ Open opening → ((text : List ℕ) → IsRead read text kept → IsAsked text asked)
+pub opened_text : {T E : Type 0} (r : Result T E) (items : T → List ℕ) (session : T → Session) (read : LineRead) (kept : List ℕ) (requested : Request) (opening : Opening)
+    → requested ≡ Open opening → ((text : List ℕ) → IsRead read text kept → IsRequest text requested)
     → IfOk r (λ made. IsOpenedBy opening (items made) (session made))
     → IfOk r (λ made. (text : List ℕ) → IsRead read text kept → Opened text (items made) (session made))
-opened_text (Ok made) items session read kept asked opening is asks opened =
-    λ text heard. (opening, subst (λ (q : Request). IsAsked text q) is (asks text heard), opened)
-opened_text (Err f) items session read kept asked opening is asks opened = tt
+opened_text (Ok made) items session read kept requested opening is is_request opened =
+    λ text heard. (opening, subst (λ (q : Request). IsRequest text q) is (is_request text heard), opened)
+opened_text (Err f) items session read kept requested opening is is_request opened = tt
 
 -- a line's configuration has no fault
 faultless : (o : Option Members) (opening : Opening)
@@ -41,16 +41,16 @@ faultless None opening is = absurd is
 faultless (Some found) opening is = is.1.0
 
 -- so only memory keeps it from being opened
-unopened_line : (f : LineFault) (text : List ℕ) (asked : Request) (opening : Opening) → asked ≡ Open opening → IsAsked text asked
-    → IsWhyUnopened opening.config f → OpensNone text f
-unopened_line f text asked opening is asks (inl memory) = subst (λ (g : LineFault). OpensNone text g) (sym memory) tt
-unopened_line f text asked opening is asks (inr faulty) =
-    let opens = subst (λ (q : Request). IsRequestIn Strict asks.0 q) is asks.2 in
-    absurd (faulty.0 (faultless (as_object asks.0) opening opens))
+unopened_line : (f : LineFault) (text : List ℕ) (requested : Request) (opening : Opening) → requested ≡ Open opening → IsRequest text requested
+    → IsCauseOfUnopened opening.config f → OpensNone text f
+unopened_line f text requested opening is is_request (inl memory) = subst (λ (g : LineFault). OpensNone text g) (sym memory) tt
+unopened_line f text requested opening is is_request (inr faulty) =
+    let opens = subst (λ (q : Request). IsRequestIn Strict is_request.0 q) is is_request.2 in
+    absurd (faulty.0 (faultless (as_object is_request.0) opening opens))
 
-pub unopened_text : {T : Type 0} (r : Result T LineFault) (read : LineRead) (kept : List ℕ) (asked : Request) (opening : Opening)
-    → asked ≡ Open opening → ((text : List ℕ) → IsRead read text kept → IsAsked text asked)
-    → IfErr r (IsWhyUnopened opening.config)
+pub unopened_text : {T : Type 0} (r : Result T LineFault) (read : LineRead) (kept : List ℕ) (requested : Request) (opening : Opening)
+    → requested ≡ Open opening → ((text : List ℕ) → IsRead read text kept → IsRequest text requested)
+    → IfErr r (IsCauseOfUnopened opening.config)
     → IfErr r (λ f. (text : List ℕ) → IsRead read text kept → OpensNone text f)
-unopened_text (Ok made) read kept asked opening is asks why = tt
-unopened_text (Err f) read kept asked opening is asks why = λ text heard. unopened_line f text asked opening is (asks text heard) why
+unopened_text (Ok made) read kept requested opening is is_request why = tt
+unopened_text (Err f) read kept requested opening is is_request why = λ text heard. unopened_line f text requested opening is (is_request text heard) why

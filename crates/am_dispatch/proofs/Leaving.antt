@@ -36,7 +36,7 @@ use Rattle.am_lines.specs.declared.request.Request.{Request}
 use Rattle.am_lines.specs.declared.request.Request.TheVariants as request
 use Rattle.am_lines.specs.Fault.{IsOfBoard, IsOfLoad, IsOfNote, IsOfReport, IsRefusedAs, IsUnmade}
 use Rattle.am_lines.specs.Reply.{reply_tokens}
-use Rattle.am_dispatch.specs.Refusal.{IsNoteRefused, IsReportRefused, IsWhy, IsWhyUnopened, LacksMemory, LacksRow, LacksTicket}
+use Rattle.am_dispatch.specs.Refusal.{IsNoteRefused, IsReportRefused, IsCauseOf, IsCauseOfUnopened, LacksMemory, LacksRow, LacksTicket}
 use Rattle.am_dispatch.specs.Row.{row_named}
 use Rattle.am_dispatch.specs.Session.{Does, HasDone, IsSame, Leaves, Makes}
 use Rattle.am_dispatch.specs.Ticket.{HasFaultAt, IsFirst}
@@ -48,61 +48,61 @@ pub if_err_weaker : {T E : Type 0} (P Q : E → Type 0) (r : Result T E) → ((e
 if_err_weaker P Q (Ok x) weaker holds = tt
 if_err_weaker P Q (Err e) weaker holds = weaker e holds
 
-refused_unmade : (f : LineFault) (place kind : List ℕ) → IsRefusedAs f place kind → IsUnmade f
-refused_unmade (fault.NotJson column) place kind refused = absurd refused
-refused_unmade fault.TooLong place kind refused = absurd refused
-refused_unmade fault.NoMemory place kind refused = tt
-refused_unmade fault.Untold place kind refused = absurd refused
-refused_unmade fault.Spent place kind refused = absurd refused
-refused_unmade (fault.Refused at what) place kind refused = absurd refused
-refused_unmade (fault.NotMade at what message) place kind refused = tt
+refused_unmade : (f : LineFault) (pointer kind : List ℕ) → IsRefusedAs f pointer kind → IsUnmade f
+refused_unmade (fault.NotJson column) pointer kind refused = absurd refused
+refused_unmade fault.TooLong pointer kind refused = absurd refused
+refused_unmade fault.NoMemory pointer kind refused = tt
+refused_unmade fault.Untold pointer kind refused = absurd refused
+refused_unmade fault.Spent pointer kind refused = absurd refused
+refused_unmade (fault.Refused at what) pointer kind refused = absurd refused
+refused_unmade (fault.NotMade at what message) pointer kind refused = tt
 
 memory_unmade : (f : LineFault) → f ≡ fault.NoMemory → IsUnmade f
 memory_unmade f is = subst IsUnmade (sym is) tt
 
--- a call that isn't made leaves all as it was, and its fault tells why
-pub unmade_leaves : (f : LineFault) (old new : Session) (asked : Request) → IsUnmade f → IsWhy old asked f → IsSame old new → Leaves old asked new f
-unmade_leaves (fault.NotJson column) old new asked unmade why same = absurd unmade
-unmade_leaves fault.TooLong old new asked unmade why same = absurd unmade
-unmade_leaves fault.NoMemory old new asked unmade why same = (same, why)
-unmade_leaves fault.Untold old new asked unmade why same = absurd unmade
-unmade_leaves fault.Spent old new asked unmade why same = absurd unmade
-unmade_leaves (fault.Refused place kind) old new asked unmade why same = absurd unmade
-unmade_leaves (fault.NotMade place kind message) old new asked unmade why same = (same, why)
+-- a call that isn't made leaves all as it was, and its fault says why
+pub unmade_leaves : (f : LineFault) (old new : Session) (requested : Request) → IsUnmade f → IsCauseOf old requested f → IsSame old new → Leaves old requested new f
+unmade_leaves (fault.NotJson column) old new requested unmade why same = absurd unmade
+unmade_leaves fault.TooLong old new requested unmade why same = absurd unmade
+unmade_leaves fault.NoMemory old new requested unmade why same = (same, why)
+unmade_leaves fault.Untold old new requested unmade why same = absurd unmade
+unmade_leaves fault.Spent old new requested unmade why same = absurd unmade
+unmade_leaves (fault.Refused pointer kind) old new requested unmade why same = absurd unmade
+unmade_leaves (fault.NotMade pointer kind message) old new requested unmade why same = (same, why)
 
 -- where memory is refused
-pub memory_leaves : (f : LineFault) (old new : Session) (asked : Request) → f ≡ fault.NoMemory → IsWhy old asked f → IsSame old new → Leaves old asked new f
-memory_leaves f old new asked is why same = unmade_leaves f old new asked (memory_unmade f is) why same
+pub memory_leaves : (f : LineFault) (old new : Session) (requested : Request) → f ≡ fault.NoMemory → IsCauseOf old requested f → IsSame old new → Leaves old requested new f
+memory_leaves f old new requested is why same = unmade_leaves f old new requested (memory_unmade f is) why same
 
 -- where a view lacks memory
-pub memory_all : {T : Type 0} (r : Result T LineFault) (old new : Session) (asked : Request)
-    → IfErr r (λ f. f ≡ fault.NoMemory) → ((f : LineFault) → LacksMemory f → IsWhy old asked f) → IsSame old new → IfErr r (Leaves old asked new)
-memory_all (Ok x) old new asked is why same = tt
-memory_all (Err f) old new asked is why same = memory_leaves f old new asked is (why f is) same
+pub memory_all : {T : Type 0} (r : Result T LineFault) (old new : Session) (requested : Request)
+    → IfErr r (λ f. f ≡ fault.NoMemory) → ((f : LineFault) → LacksMemory f → IsCauseOf old requested f) → IsSame old new → IfErr r (Leaves old requested new)
+memory_all (Ok x) old new requested is why same = tt
+memory_all (Err f) old new requested is why same = memory_leaves f old new requested is (why f is) same
 
--- where the call was made, and its answer isn't told
-pub untold_all : {T : Type 0} (r : Result T LineFault) (old new : Session) (asked : Request)
-    → IfErr r (λ f. f ≡ fault.Untold) → asked ≢ request.TakeHistory → HasDone old asked new → IfErr r (Leaves old asked new)
-untold_all (Ok x) old new asked is other done = tt
-untold_all (Err f) old new asked is other done = subst (λ (g : LineFault). Leaves old asked new g) (sym is) (done, other)
+-- where the call was made, and its answer isn't answered
+pub untold_all : {T : Type 0} (r : Result T LineFault) (old new : Session) (requested : Request)
+    → IfErr r (λ f. f ≡ fault.Untold) → requested ≢ request.TakeHistory → HasDone old requested new → IfErr r (Leaves old requested new)
+untold_all (Ok x) old new requested is other done = tt
+untold_all (Err f) old new requested is other done = subst (λ (g : LineFault). Leaves old requested new g) (sym is) (done, other)
 
 -- a call that the board has made
-pub made_all : {T : Type 0} (r : Result T LineFault) (old new : Session) (asked : Request) (call : Call) (reply : Reply)
-    → ((tokens : List Token) → Makes old new call [] tokens → Does old asked new [] tokens) → asked ≢ request.TakeHistory
+pub made_all : {T : Type 0} (r : Result T LineFault) (old new : Session) (requested : Request) (call : Call) (reply : Reply)
+    → ((tokens : List Token) → Makes old new call [] tokens → Does old requested new [] tokens) → requested ≢ request.TakeHistory
     → IsReplyAt old.board call reply → new.board ≡ with_record old.board (entry 0 call reply)
-    → IfErr r (λ f. f ≡ fault.Untold) → IfErr r (Leaves old asked new)
-made_all r old new asked call reply does other due recorded is =
+    → IfErr r (λ f. f ≡ fault.Untold) → IfErr r (Leaves old requested new)
+made_all r old new requested call reply does other due recorded is =
     let tokens = reply_tokens old.board.config reply in
-    untold_all r old new asked is other (tokens, does tokens (reply, record { due = due; recorded = recorded; told = refl }))
+    untold_all r old new requested is other (tokens, does tokens (reply, record { due = due; recorded = recorded; answered = refl }))
 
 -- a call that the board refuses isn't made
-pub board_unmade : (place : List ℕ) (cause : Fault) (f : LineFault) → IsOfBoard place cause f → IsUnmade f
-board_unmade place board.NoMemory f is = memory_unmade f is
-board_unmade place board.TooManyNames f is = refused_unmade f place (codes "TooManyNames") is
-board_unmade place board.TooManyGroups f is = refused_unmade f place (codes "TooManyGroups") is
-board_unmade place board.TooManySilences f is = refused_unmade f place (codes "TooManySilences") is
-board_unmade place board.TooManyOpen f is = refused_unmade f place (codes "TooManyOpen") is
-board_unmade place board.HistoryFull f is = refused_unmade f place (codes "HistoryFull") is
+pub board_unmade : (pointer : List ℕ) (cause : Fault) (f : LineFault) → IsOfBoard pointer cause f → IsUnmade f
+board_unmade pointer board.NoMemory f is = memory_unmade f is
+board_unmade pointer board.TooManyAlerts f is = refused_unmade f pointer (codes "TooManyNames") is
+board_unmade pointer board.TooManyGroups f is = refused_unmade f pointer (codes "TooManyGroups") is
+board_unmade pointer board.TooManySilences f is = refused_unmade f pointer (codes "TooManySilences") is
+board_unmade pointer board.TooManyOpen f is = refused_unmade f pointer (codes "TooManyOpen") is
+board_unmade pointer board.HistoryFull f is = refused_unmade f pointer (codes "HistoryFull") is
 
 pub note_unmade : (cause : NoteFault) (f : LineFault) → IsOfNote cause f → IsUnmade f
 note_unmade note.NoMemory f is = memory_unmade f is
@@ -124,45 +124,45 @@ report_unmade report.Stranger f is = refused_unmade f (codes "/report/integratio
 report_unmade report.Twice f is = refused_unmade f (codes "/report/integration") (codes "Twice") is
 
 -- the session has no such ticket
-pub not_open_leaves : (f : LineFault) (old new : Session) (asked : Request) (place : List ℕ)
-    → IsRefusedAs f place (codes "NotOpen") → IsWhy old asked f → IsSame old new → Leaves old asked new f
-not_open_leaves f old new asked place is why same = unmade_leaves f old new asked (refused_unmade f place (codes "NotOpen") is) why same
+pub not_open_leaves : (f : LineFault) (old new : Session) (requested : Request) (pointer : List ℕ)
+    → IsRefusedAs f pointer (codes "NotOpen") → IsCauseOf old requested f → IsSame old new → Leaves old requested new f
+not_open_leaves f old new requested pointer is why same = unmade_leaves f old new requested (refused_unmade f pointer (codes "NotOpen") is) why same
 
-pub lacks_ticket : (s : Session) (seen : List TicketData) (number : ℕ) (place : List ℕ) (f : LineFault)
-    → seen ≡ s.tickets.items → None ≡ position (λ t. t.number == number) seen → IsRefusedAs f place (codes "NotOpen") → LacksTicket s number place f
-lacks_ticket s seen number place f same none is =
+pub lacks_ticket : (s : Session) (seen : List TicketData) (number : ℕ) (pointer : List ℕ) (f : LineFault)
+    → seen ≡ s.tickets.items → None ≡ position (λ t. t.number == number) seen → IsRefusedAs f pointer (codes "NotOpen") → LacksTicket s number pointer f
+lacks_ticket s seen number pointer f same none is =
     (sym (none ∙ ap (λ (ts : List TicketData). position (λ t. t.number == number) ts) same), is)
 
 -- a report that the ticket has a fault for
-pub report_refused : (s : Session) (x : Reporting) (place : ℕ) (cause : ReportFault) (f : LineFault) (seen : List TicketData)
-    → seen ≡ s.tickets.items → Some place ≡ position (λ t. t.number == x.ticket) seen
-    → HasFaultAt s.tickets.items place x.integration x.outcome cause → IsOfReport cause f → IsReportRefused s x f
-report_refused s x place cause f seen same first at is =
+pub report_refused : (s : Session) (x : Reporting) (pointer : ℕ) (cause : ReportFault) (f : LineFault) (seen : List TicketData)
+    → seen ≡ s.tickets.items → Some pointer ≡ position (λ t. t.number == x.ticket) seen
+    → HasFaultAt s.tickets.items pointer x.integration x.outcome cause → IsOfReport cause f → IsReportRefused s x f
+report_refused s x pointer cause f seen same first at is =
     record {
-      place = place;
+      pointer = pointer;
       ticket = at.0;
-      at = first_ticket x.ticket s.tickets.items seen place at.0 same first at.1;
+      at = first_ticket x.ticket s.tickets.items seen pointer at.0 same first at.1;
       cause = cause;
       is = at.2;
-      told = is;
+      answered = is;
     }
 
 -- a note that the board refuses, which was handed the ticket that was found
-pub note_refused : (s : Session) (x : Noting) (place : ℕ) (ticket noted : TicketData) (notice : ℕ) (answer : NoteFault) (f : LineFault)
-    → IsFirst x.ticket s.tickets.items place ticket → Some notice ≡ position (λ n. n.integration == x.integration) ticket.notices
+pub note_refused : (s : Session) (x : Noting) (pointer : ℕ) (ticket noted : TicketData) (notice : ℕ) (answer : NoteFault) (f : LineFault)
+    → IsFirst x.ticket s.tickets.items pointer ticket → Some notice ≡ position (λ n. n.integration == x.integration) ticket.notices
     → noted ≡ ticket
     → IsNoteAnswer (note_cause s.board.config s.board.id (records_at s.board) (state_at s.board) noted notice) answer
     → IsOfNote answer f → IsNoteRefused s x f
-note_refused s x place ticket noted notice answer f at noticed same is told =
+note_refused s x pointer ticket noted notice answer f at noticed same is answered =
     record {
-      place = place;
+      pointer = pointer;
       ticket = ticket;
       at = at;
       notice = notice;
       noticed = sym noticed;
       answer = answer;
       is = subst (λ (t : TicketData). IsNoteAnswer (note_cause s.board.config s.board.id (records_at s.board) (state_at s.board) t notice) answer) same is;
-      told = told;
+      answered = answered;
     }
 
 -- a row that isn't there
@@ -176,16 +176,16 @@ pub row_found : (s : Session) (x : Loading) (config : Config) (found : Option Ro
 row_found s x config found row same named is = ap (λ (c : Config). row_named c x.row) (sym same) ∙ sym named ∙ is
 
 -- a board that isn't opened
-unopened_unmade : (f : LineFault) (config : Config) → IsWhyUnopened config f → IsUnmade f
+unopened_unmade : (f : LineFault) (config : Config) → IsCauseOfUnopened config f → IsUnmade f
 unopened_unmade f config (inl memory) = memory_unmade f memory
 unopened_unmade f config (inr faulty) = refused_unmade f [] (codes "value") faulty.1
 
 -- its fault is passed on
 pub unopened_passed : {T : Type 0} (r : Result T LineFault) (f : LineFault) (old : Session) (x : Opening)
-    → IsErrAnd r (λ g. g ≡ f) → IsWhyUnopened x.config f → IfErr r (Leaves old (request.Open x) old)
+    → IsErrAnd r (λ g. g ≡ f) → IsCauseOfUnopened x.config f → IfErr r (Leaves old (request.Open x) old)
 unopened_passed (Ok made) f old x is why = tt
 unopened_passed (Err g) f old x is why =
-    let here = subst (IsWhyUnopened x.config) (sym is) why in
+    let here = subst (IsCauseOfUnopened x.config) (sym is) why in
     unmade_leaves g old old (request.Open x) (unopened_unmade g x.config here) here (refl, refl)
 
 -- the records aren't handed out, and not for memory

@@ -1,4 +1,4 @@
--- What calls of the board leave, and what their answers tell.
+-- What calls of the board leave, and what their answers say.
 use Rattle.std.proofs.Common.{◌≡◌, ◌∙◌, ◌<◌, ◌==◌, ◌++◌, ◌∷◌, ℕ, List, [], Some, Result, Ok, Err, ap, arith, codes, drop, length, refl, remove, slice_get, slice_index_or, subst, sym, true≢false}
 use Rattle.std.proofs.Math.Seq.{drop-append_seam}
 use Rattle.std.specs.List.{position}
@@ -30,44 +30,44 @@ use Rattle.am_dispatch.specs.Row.{row_named}
 use Rattle.am_dispatch.specs.Session.{Begins, Finishes, KeepsTicket, Loads, Makes, Notes, Reports, taken_tokens}
 use Rattle.am_dispatch.specs.Ticket.{IsFirst, IsRecordedAt}
 use Rattle.am_dispatch.specs.declared.session.Session.{Session}
-use Rattle.am_dispatch.specs.declared.ticket.TheConstants.{HOME}
+use Rattle.am_dispatch.specs.declared.ticket.TheConstants.{BOARD_ID}
 
--- a call that was made, and told by the reply under the configuration that the board has afterwards
+-- a call that was made, and answered by the reply under the configuration that the board has afterwards
 pub made : {T E : Type 0} (r : Result T E) (old new : Session) (call : Call) (reply : Reply) (before after : List Token)
     → IsReplyAt old.board call reply → new.board ≡ with_record old.board (entry 0 call reply)
     → OnOk r (after ≡ before ++ reply_tokens new.board.config reply) → OnOk r (Makes old new call before after)
 made r old new call reply before after due recorded =
-    on_ok_weaker {Q = Makes old new call before after} r (λ (told : after ≡ before ++ reply_tokens new.board.config reply). (
+    on_ok_weaker {Q = Makes old new call before after} r (λ (answered : after ≡ before ++ reply_tokens new.board.config reply). (
       reply,
       record {
         due = due;
         recorded = recorded;
-        told = told ∙ ap (λ (b : BoardData). before ++ reply_tokens b.config reply) recorded;
+        answered = answered ∙ ap (λ (b : BoardData). before ++ reply_tokens b.config reply) recorded;
       },
     ))
 
 -- what holds anyhow, beside what is so of an Ok
 pub both : {T E : Type 0} (A B : Type 0) (r : Result T E) → OnOk r A → B → OnOk r (A × B)
-both A B r told b = on_ok_weaker {Q = A × B} r (λ (a : A). (a, b)) told
+both A B r answered b = on_ok_weaker {Q = A × B} r (λ (a : A). (a, b)) answered
 
 -- a view, which changes nothing
 pub shown : {T E : Type 0} (board : BoardData) (tickets : List TicketData) (A : Type 0) (r : Result T E)
     → OnOk r A → OnOk r (((board ≡ board) × (tickets ≡ tickets)) × A)
 shown board tickets A r = on_ok_weaker {Q = ((board ≡ board) × (tickets ≡ tickets)) × A} r (λ (a : A). ((refl, refl), a))
 
--- a begin that was made, and told by the reply under the configuration that the board has afterwards
+-- a begin that was made, and answered by the reply under the configuration that the board has afterwards
 pub begins : {T E : Type 0} (r : Result T E) (old new : Session) (now : ℕ) (b : Begun) (before after : List Token) (mid : BoardData) (mids : List TicketData)
     → IsReplyAt old.board (call.Begin now) (reply_of b) → mid ≡ with_record old.board (entry 0 (call.Begin now) (reply_of b))
-    → IsFresh HOME b → mids ≡ old.tickets.items → new.board ≡ mid → KeepsTicket b mids new.tickets.items
+    → IsFresh BOARD_ID b → mids ≡ old.tickets.items → new.board ≡ mid → KeepsTicket b mids new.tickets.items
     → OnOk r (after ≡ before ++ reply_tokens mid.config (reply_of b)) → OnOk r (Begins old new now before after)
 begins r old new now b before after mid mids due recorded fresh same board tickets =
-    on_ok_weaker {Q = Begins old new now before after} r (λ (told : after ≡ before ++ reply_tokens mid.config (reply_of b)). (
+    on_ok_weaker {Q = Begins old new now before after} r (λ (answered : after ≡ before ++ reply_tokens mid.config (reply_of b)). (
       b,
       record {
         makes = record {
           due = due;
           recorded = board ∙ recorded;
-          told = told ∙ ap (λ (d : BoardData). before ++ reply_tokens d.config (reply_of b)) recorded;
+          answered = answered ∙ ap (λ (d : BoardData). before ++ reply_tokens d.config (reply_of b)) recorded;
         };
         fresh = fresh;
         tickets = subst (λ (ts : List TicketData). KeepsTicket b ts new.tickets.items) same tickets;
@@ -75,69 +75,69 @@ begins r old new now b before after mid mids due recorded fresh same board ticke
     ))
 
 -- a ticket of the program's board is fresh there
-pub fresh_here : (id : ℕ) (b : Begun) → id ≡ HOME → IsFresh id b → IsFresh HOME b
+pub fresh_here : (id : ℕ) (b : Begun) → id ≡ BOARD_ID → IsFresh id b → IsFresh BOARD_ID b
 fresh_here id b is fresh = subst (λ (n : ℕ). IsFresh n b) is fresh
 
--- the ticket at the place that was found
-pub first_ticket : (number : ℕ) (tickets seen : List TicketData) (place : ℕ) (ticket : TicketData)
-    → seen ≡ tickets → Some place ≡ position (λ t. t.number == number) seen → slice_get tickets place ≡ Some ticket
-    → IsFirst number tickets place ticket
-first_ticket number tickets seen place ticket same first held =
+-- the ticket at the index that was found
+pub first_ticket : (number : ℕ) (tickets seen : List TicketData) (index : ℕ) (ticket : TicketData)
+    → seen ≡ tickets → Some index ≡ position (λ t. t.number == number) seen → slice_get tickets index ≡ Some ticket
+    → IsFirst number tickets index ticket
+first_ticket number tickets seen index ticket same first held =
     record {
       first = ap (λ (ts : List TicketData). position (λ t. t.number == number) ts) (sym same) ∙ sym first;
       held = held;
     }
 
--- the ticket that stands there
-pub held_there : (tickets seen : List TicketData) (place : ℕ) (ticket : TicketData)
-    → seen ≡ tickets → place < length seen → ticket ≡ slice_index_or tickets place ticket → slice_get tickets place ≡ Some ticket
-held_there tickets seen place ticket same within = slice_get_read tickets (length seen) place ticket (ap length same) within
+-- the ticket that is there
+pub held_there : (tickets seen : List TicketData) (index : ℕ) (ticket : TicketData)
+    → seen ≡ tickets → index < length seen → ticket ≡ slice_index_or tickets index ticket → slice_get tickets index ≡ Some ticket
+held_there tickets seen index ticket same within = slice_get_read tickets (length seen) index ticket (ap length same) within
 
 -- a report that was recorded in the ticket that was found
-pub reports : {T E : Type 0} (r : Result T E) (old new : Session) (x : Reporting) (before after : List Token) (seen : List TicketData) (place : ℕ)
-    → seen ≡ old.tickets.items → Some place ≡ position (λ t. t.number == x.ticket) seen
-    → IsRecordedAt old.tickets.items place x.integration x.outcome new.tickets.items
+pub reports : {T E : Type 0} (r : Result T E) (old new : Session) (x : Reporting) (before after : List Token) (seen : List TicketData) (index : ℕ)
+    → seen ≡ old.tickets.items → Some index ≡ position (λ t. t.number == x.ticket) seen
+    → IsRecordedAt old.tickets.items index x.integration x.outcome new.tickets.items
     → OnOk r (after ≡ before ++ named (codes "reported") []) → OnOk r (Reports old new x before after)
-reports r old new x before after seen place same first at =
-    on_ok_weaker {Q = Reports old new x before after} r (λ (told : after ≡ before ++ named (codes "reported") []). record {
-      place = place;
+reports r old new x before after seen index same first at =
+    on_ok_weaker {Q = Reports old new x before after} r (λ (answered : after ≡ before ++ named (codes "reported") []). record {
+      index = index;
       first = ap (λ (ts : List TicketData). position (λ t. t.number == x.ticket) ts) (sym same) ∙ sym first;
       recorded = at;
-      told = told;
+      answered = answered;
     })
 
 -- what a text says that was written, where it was
-pub told_ok : {T E S F : Type 0} (r : Result T E) (written : Result S F) (A : Type 0) → OnOk r (IsOk written) → OnOk written A → OnOk r A
-told_ok (Ok x) (Ok y) A ok a = a
-told_ok (Ok x) (Err f) A ok a = absurd (true≢false (sym ok))
-told_ok (Err e) written A ok a = tt
+pub answered_ok : {T E S F : Type 0} (r : Result T E) (written : Result S F) (A : Type 0) → OnOk r (IsOk written) → OnOk written A → OnOk r A
+answered_ok (Ok x) (Ok y) A ok a = a
+answered_ok (Ok x) (Err f) A ok a = absurd (true≢false (sym ok))
+answered_ok (Err e) written A ok a = tt
 
--- a flush that was told, by the configuration that the board has
-pub flush_told : {T E S F : Type 0} (r : Result T E) (written : Result S F) (config to : Config) (before after : List Token) (t : TicketData)
+-- a flush that was answered, by the configuration that the board has
+pub flush_answered : {T E S F : Type 0} (r : Result T E) (written : Result S F) (config to : Config) (before after : List Token) (t : TicketData)
     → OnOk r (IsOk written) → config ≡ to → OnOk written (after ≡ before ++ flush_tokens config t.number t.group t.deadline t.notices)
     → OnOk r (after ≡ before ++ flush_tokens to t.number t.group t.deadline t.notices)
-flush_told r written config to before after t ok is told =
-    told_ok r written (after ≡ before ++ flush_tokens to t.number t.group t.deadline t.notices) ok
-    (subst (λ (c : Config). OnOk written (after ≡ before ++ flush_tokens c t.number t.group t.deadline t.notices)) is told)
+flush_answered r written config to before after t ok is answered =
+    answered_ok r written (after ≡ before ++ flush_tokens to t.number t.group t.deadline t.notices) ok
+    (subst (λ (c : Config). OnOk written (after ≡ before ++ flush_tokens c t.number t.group t.deadline t.notices)) is answered)
 
--- a new board, whose opening was told
+-- a new board, whose opening was answered
 pub opens : {T E S F : Type 0} (r : Result T E) (written : Result S F) (board : BoardData) (tickets : List TicketData) (x : Opening) (before after : List Token)
-    → OnOk r (IsOk written) → board ≡ opening x.config HOME → tickets ≡ [] → OnOk written (after ≡ before ++ opened_tokens x.ignored)
-    → OnOk r ((board ≡ opening x.config HOME) × (tickets ≡ []) × (after ≡ before ++ opened_tokens x.ignored))
-opens r written board tickets x before after ok is none told =
-    on_ok_weaker {Q = (board ≡ opening x.config HOME) × (tickets ≡ []) × (after ≡ before ++ opened_tokens x.ignored)} r
+    → OnOk r (IsOk written) → board ≡ opening x.config BOARD_ID → tickets ≡ [] → OnOk written (after ≡ before ++ opened_tokens x.ignored)
+    → OnOk r ((board ≡ opening x.config BOARD_ID) × (tickets ≡ []) × (after ≡ before ++ opened_tokens x.ignored))
+opens r written board tickets x before after ok is none answered =
+    on_ok_weaker {Q = (board ≡ opening x.config BOARD_ID) × (tickets ≡ []) × (after ≡ before ++ opened_tokens x.ignored)} r
     (λ (says : after ≡ before ++ opened_tokens x.ignored). (is, none, says))
-    (told_ok r written (after ≡ before ++ opened_tokens x.ignored) ok told)
+    (answered_ok r written (after ≡ before ++ opened_tokens x.ignored) ok answered)
 
 -- a note of the notice that was found
-pub notes : {T E : Type 0} (r : Result T E) (old new : Session) (n : Noting) (before after : List Token) (place : ℕ) (ticket noted : TicketData) (notice : ℕ)
-    → IsFirst n.ticket old.tickets.items place ticket → Some notice ≡ position (λ x. x.integration == n.integration) ticket.notices
+pub notes : {T E : Type 0} (r : Result T E) (old new : Session) (n : Noting) (before after : List Token) (index : ℕ) (ticket noted : TicketData) (notice : ℕ)
+    → IsFirst n.ticket old.tickets.items index ticket → Some notice ≡ position (λ x. x.integration == n.integration) ticket.notices
     → noted ≡ ticket
     → ((x : Record) × IsNoteOf 0 n.now noted notice x × (new.board ≡ with_record old.board x) × IsReplyAt old.board x.call x.reply)
     → OnOk r (after ≡ before ++ reply_tokens new.board.config reply.Noted) → OnOk r (Notes old new n before after)
-notes r old new n before after place ticket noted notice at noticed same made =
-    on_ok_weaker {Q = Notes old new n before after} r (λ (told : after ≡ before ++ reply_tokens new.board.config reply.Noted). record {
-      place = place;
+notes r old new n before after index ticket noted notice at noticed same made =
+    on_ok_weaker {Q = Notes old new n before after} r (λ (answered : after ≡ before ++ reply_tokens new.board.config reply.Noted). record {
+      index = index;
       ticket = ticket;
       at = at;
       notice = notice;
@@ -146,17 +146,17 @@ notes r old new n before after place ticket noted notice at noticed same made =
       note = subst (λ (t : TicketData). IsNoteOf 0 n.now t notice made.0) same made.1;
       due = made.3;
       recorded = made.2;
-      told = told ∙ ap (λ (b : BoardData). before ++ reply_tokens b.config reply.Noted) made.2;
+      answered = answered ∙ ap (λ (b : BoardData). before ++ reply_tokens b.config reply.Noted) made.2;
     })
 
 -- a finish of the ticket that was found
-pub finishes : {T E : Type 0} (r : Result T E) (old new : Session) (f : Finishing) (before after : List Token) (place : ℕ) (ticket : TicketData)
-    → IsFirst f.ticket old.tickets.items place ticket → new.tickets.items ≡ remove old.tickets.items place
+pub finishes : {T E : Type 0} (r : Result T E) (old new : Session) (f : Finishing) (before after : List Token) (index : ℕ) (ticket : TicketData)
+    → IsFirst f.ticket old.tickets.items index ticket → new.tickets.items ≡ remove old.tickets.items index
     → OnOk r (Makes old new (call.Finish f.now ticket.number ticket.outcomes) before after) → OnOk r (Finishes old new f before after)
-finishes r old new f before after place ticket at tickets =
+finishes r old new f before after index ticket at tickets =
     on_ok_weaker {Q = Finishes old new f before after} r
     (λ (makes : Makes old new (call.Finish f.now ticket.number ticket.outcomes) before after). record {
-      place = place;
+      index = index;
       ticket = ticket;
       at = at;
       makes = makes;
@@ -190,12 +190,12 @@ handed_follow old new after follow = ap (λ (b : BoardData). b.handed) after ∙
 pub handed_legal : (old new : BoardData) → new ≡ handed_out old → IsLegal old.config old.id old.history → IsLegal new.config new.id new.handed
 handed_legal old new after legal = subst (λ (b : BoardData). IsLegal b.config b.id b.handed) (sym after) legal
 
--- what is told of the records that are kept
-pub told_taken : (board : BoardData) (config : Config) (records : List Record) (fresh after : List Token)
+-- what is answered about the records that are kept
+pub answered_taken : (board : BoardData) (config : Config) (records : List Record) (fresh after : List Token)
     → config ≡ board.config → records ≡ kept_of board → fresh ≡ []
     → after ≡ fresh ++ listed (codes "taken") (record_tokens config) records → after ≡ taken_tokens board
-told_taken board config records fresh after is_config are is_fresh told =
-    told ∙ ap (λ (t : List Token). t ++ listed (codes "taken") (record_tokens config) records) is_fresh
+answered_taken board config records fresh after is_config are is_fresh answered =
+    answered ∙ ap (λ (t : List Token). t ++ listed (codes "taken") (record_tokens config) records) is_fresh
     ∙ ap (λ (c : Config). listed (codes "taken") (record_tokens c) records) is_config
     ∙ ap (λ (rs : List Record). listed (codes "taken") (record_tokens board.config) rs) are
 

@@ -16,7 +16,7 @@ pub object_pieces : {T E : Type 0} (r : Result T E) (new1 new2 new3 new before m
 object_pieces r new1 new2 new3 new before members further is1 is2 is3 =
     last_piece r new new3 (end_object ∷ []) (before ++ object (members ++ further)) (rw (is3, is2, is1) (simp append_assoc))
 
--- what is told of a flush, by what its ticket tells
+-- what is answered about a flush, by what its ticket says
 pub same_flush : (config : Config) (number ticket : ℕ) (group of : GroupName) (deadline until : ℕ) (notices all : List NoticeData)
     → number ≡ ticket → group ≡ of → deadline ≡ until → notices ≡ all
     → flush_members config number group deadline notices ≡ flush_members config ticket of until all

@@ -9,9 +9,9 @@ use Rattle.am_alerts.specs.declared.labels.Label.{Label}
 use Rattle.am_alerts.specs.declared.route.Child.{Child}
 use Rattle.am_dispatch.specs.Row.{no_labels}
 
--- a route behind the root stands at a position of the tree
-pub within_routes : (tree : RoutingTree) (seen : List Child) (place : ℕ) → seen ≡ children_of tree → place < length seen → place + 1 ≤ last_of tree
-within_routes tree seen place is within =
+-- a route behind the root is at a position of the tree
+pub within_routes : (tree : RoutingTree) (seen : List Child) (index : ℕ) → seen ≡ children_of tree → index < length seen → index + 1 ≤ last_of tree
+within_routes tree seen index is within =
     omega (
       arith,
       within,

@@ -6,8 +6,8 @@ use Rattle.am_cli.specs.declared.transfer.TheConstants.{MAX_INPUT}
 use Rattle.am_lines.specs.declared.fault.LineFault.{LineFault}
 use Rattle.am_lines.specs.declared.fault.LineFault.TheVariants as fault
 use Rattle.am_lines.specs.declared.lines.LineRead.{LineRead}
-use Rattle.am_lines.specs.declared.lines.LineRead.TheVariants.{Whole, TooLong, NoMemory, End}
-use Rattle.am_lines.specs.Fault.{TellsFault}
+use Rattle.am_lines.specs.declared.lines.LineRead.TheVariants.{Complete, TooLong, NoMemory, End}
+use Rattle.am_lines.specs.Fault.{AnswersFault}
 use Rattle.am_lines.specs.Lines.{IsRead}
 use Rattle.am_dispatch.specs.Serve.{AnswersLine, IsRefused, Sends, is_remark}
 use Rattle.am_dispatch.specs.Serve.AnswersLine.{Faulted}
@@ -61,9 +61,9 @@ echo_half line taken mid to sends breaks =
 
 -- a remark that isn't answered by itself was refused memory
 pub remark_only : (read : LineRead) (text kept : List ℕ) (f : LineFault) → IsRead read text kept
-    → (read ≡ Whole → is_remark kept ≡ false) → (read ≡ NoMemory → f ≡ fault.NoMemory)
+    → (read ≡ Complete → is_remark kept ≡ false) → (read ≡ NoMemory → f ≡ fault.NoMemory)
     → is_remark text ≡ true → length text ≤ MAX_INPUT → f ≡ fault.NoMemory
-remark_only Whole text kept f is other unread remark short =
+remark_only Complete text kept f is other unread remark short =
     absurd (let no : is_remark text ≡ false = subst (λ (t : List ℕ). is_remark t ≡ false) is.0 (other refl) in cc)
 remark_only TooLong text kept f is other unread remark short = absurd (omega (arith, is, short))
 remark_only NoMemory text kept f is other unread remark short = unread refl
@@ -71,9 +71,9 @@ remark_only End text kept f is other unread remark short = absurd is
 
 -- the answer to a line that is refused
 pub faulted : (old new : Option Session) (read : LineRead) (text kept : List ℕ) (f : LineFault) → IsRead read text kept
-    → (read ≡ Whole → is_remark kept ≡ false) → (read ≡ NoMemory → f ≡ fault.NoMemory) → IsRefused old text f new
-    → (t : List ℕ) → TellsFault f t → AnswersLine old text t new
-faulted old new read text kept f is other unread refused t tells = Faulted f (remark_only read text kept f is other unread) refused tells
+    → (read ≡ Complete → is_remark kept ≡ false) → (read ≡ NoMemory → f ≡ fault.NoMemory) → IsRefused old text f new
+    → (t : List ℕ) → AnswersFault f t → AnswersLine old text t new
+faulted old new read text kept f is other unread refused t answers = Faulted f (remark_only read text kept f is other unread) refused answers
 
 -- the session that a line has made, by another name
 pub sends_made : (old made new : Option Session) (text taken to : List ℕ) → made ≡ new

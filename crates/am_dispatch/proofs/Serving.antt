@@ -5,7 +5,7 @@ use Rattle.std.specs.Result.{IfErr, IsErrAnd, OnOk}
 use Rattle.std.proofs.lemmas.List.{append-nil, length-append}
 use Rattle.std.proofs.lemmas.List.Folds.{concat-append}
 use Rattle.am_lines.specs.declared.lines.LineRead.{LineRead}
-use Rattle.am_lines.specs.declared.lines.LineRead.TheVariants.{Whole, TooLong, NoMemory, End}
+use Rattle.am_lines.specs.declared.lines.LineRead.TheVariants.{Complete, TooLong, NoMemory, End}
 use Rattle.am_lines.specs.Lines.{FailsToRead, IsRead, LinesData, Moves, Reads, ReadsEnd, ReadsLine, lines_of}
 use Rattle.am_lines.proofs.Reading.{later_joins, moves_join, moves_none}
 use Rattle.am_cli.specs.Bytes.{Breaks}
@@ -73,7 +73,7 @@ served_join old mid new from at to given given_at given_to taken taken_at taken_
 -- a line was read
 pub line_read : (from to : LinesData) (given given_to : List ℕ) (read : LineRead) (kept : List ℕ)
     → ((read ≡ End) → ⊥) → Reads from to given given_to read kept → ReadsLine from to given given_to read kept
-line_read from to given given_to Whole kept some reads = reads
+line_read from to given given_to Complete kept some reads = reads
 line_read from to given given_to TooLong kept some reads = reads
 line_read from to given given_to NoMemory kept some reads = reads
 line_read from to given given_to End kept some reads = absurd (some refl)

@@ -38,7 +38,7 @@ row_with route labels named =
     record {
       group = record { route = route; labels = labels };
       integration = named.integration;
-      moment = named.moment;
+      time = named.time;
       expiry = named.expiry;
       firing = named.firing.items;
       resolved = named.resolved.items;

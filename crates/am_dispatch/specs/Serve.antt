@@ -10,14 +10,14 @@ use Rattle.am_lines.specs.declared.fault.LineFault.TheVariants as fault
 use Rattle.am_lines.specs.declared.request.Opening.{Opening}
 use Rattle.am_lines.specs.declared.request.Request.{Request}
 use Rattle.am_lines.specs.declared.request.Request.TheVariants as request
-use Rattle.am_lines.specs.Fault.{IsRefusedAs, TellsFault}
+use Rattle.am_lines.specs.Fault.{IsRefusedAs, AnswersFault}
 use Rattle.am_lines.specs.Lines.{IsLater, LinesData, Moves, is_plain, lines_of}
 use Rattle.am_lines.specs.Reply.{opened_tokens}
-use Rattle.am_dispatch.specs.Session.{IsAnswered, IsAsked, IsUnread, Refuses}
+use Rattle.am_dispatch.specs.Session.{IsAnswered, IsRequest, IsUnread, Refuses}
 use Rattle.am_dispatch.specs.declared.fault.ServeFault.{ServeFault}
 use Rattle.am_dispatch.specs.declared.fault.ServeFault.TheVariants as serve
 use Rattle.am_dispatch.specs.declared.session.Session.{Session}
-use Rattle.am_dispatch.specs.declared.ticket.TheConstants.{HOME}
+use Rattle.am_dispatch.specs.declared.ticket.TheConstants.{BOARD_ID}
 
 -- whether a line is empty, or a comment
 abbrev pub is_remark : List ℕ → Bool
@@ -26,24 +26,24 @@ is_remark (b ∷ line) = b == 35
 
 -- the session has the board that is asked for, which is new, and the text says so
 pub record IsOpenedBy (opening : Opening) (text : List ℕ) (new : Session) : Type 0 where
-  pub board : new.board ≡ opening_board opening.config HOME
+  pub board : new.board ≡ opening_board opening.config BOARD_ID
   pub tickets : new.tickets.items ≡ []
-  pub told : text ≡ print (opened_tokens opening.ignored) ++ 10 ∷ []
+  pub answered : text ≡ print (opened_tokens opening.ignored) ++ 10 ∷ []
 
 -- the line asks for a board, and the session has it
 abbrev pub Opened : List ℕ → List ℕ → Session → Type 0
-Opened line text new = (opening : Opening) × IsAsked line (request.Open opening) × IsOpenedBy opening text new
+Opened line text new = (opening : Opening) × IsRequest line (request.Open opening) × IsOpenedBy opening text new
 
--- the line does what it asks, and the text tells it. Where there is no board yet, it asks for one
-abbrev pub DoesAsked : Option Session → List ℕ → List ℕ → Option Session → Type 0
-DoesAsked None line text None = ⊥
-DoesAsked None line text (Some new) = Opened line text new
-DoesAsked (Some old) line text None = ⊥
-DoesAsked (Some old) line text (Some new) = IsAnswered old line text new
+-- the line does what it asks, and the text says it. Where there is no board yet, it asks for one
+abbrev pub DoesRequest : Option Session → List ℕ → List ℕ → Option Session → Type 0
+DoesRequest None line text None = ⊥
+DoesRequest None line text (Some new) = Opened line text new
+DoesRequest (Some old) line text None = ⊥
+DoesRequest (Some old) line text (Some new) = IsAnswered old line text new
 
--- something else than a board is asked, and the fault tells that there is none
+-- something else than a board is asked, and the fault says that there is none
 abbrev pub LacksBoard : Request → LineFault → Type 0
-LacksBoard asked f = ((opening : Opening) → asked ≢ request.Open opening) × IsRefusedAs f [] (codes "NoBoard")
+LacksBoard requested f = ((opening : Opening) → requested ≢ request.Open opening) × IsRefusedAs f [] (codes "NoBoard")
 
 -- what a line that opens no board is refused for: it can't be read, there was no memory, or what it asks needs a board
 abbrev pub OpensNone : List ℕ → LineFault → Type 0
@@ -52,9 +52,9 @@ OpensNone line fault.TooLong = IsUnread line fault.TooLong
 OpensNone line fault.NoMemory = Unit {0}
 OpensNone line fault.Untold = ⊥
 OpensNone line fault.Spent = ⊥
-OpensNone line (fault.Refused place kind) = IsUnread line (fault.Refused place kind)
-OpensNone line (fault.NotMade place kind message) =
-    (asked : Request) × IsAsked line asked × LacksBoard asked (fault.NotMade place kind message)
+OpensNone line (fault.Refused pointer kind) = IsUnread line (fault.Refused pointer kind)
+OpensNone line (fault.NotMade pointer kind message) =
+    (requested : Request) × IsRequest line requested × LacksBoard requested (fault.NotMade pointer kind message)
 
 -- the line is refused for this fault
 abbrev pub IsRefused : Option Session → List ℕ → LineFault → Option Session → Type 0
@@ -66,9 +66,9 @@ IsRefused (Some old) line f (Some new) = Refuses old line new f
 -- a line is answered by a text: a remark by itself, and each other line by what it asks for or by its fault
 pub data AnswersLine (old : Option Session) (line text : List ℕ) (new : Option Session) : Type 0 where
   Echoed : is_remark line ≡ true → length line ≤ MAX_INPUT → text ≡ line ++ 10 ∷ [] → new ≡ old → AnswersLine old line text new
-  Done : DoesAsked old line text new → AnswersLine old line text new
+  Done : DoesRequest old line text new → AnswersLine old line text new
   Faulted : (f : LineFault) → (is_remark line ≡ true → length line ≤ MAX_INPUT → f ≡ fault.NoMemory)
-      → IsRefused old line f new → TellsFault f text → AnswersLine old line text new
+      → IsRefused old line f new → AnswersFault f text → AnswersLine old line text new
 
 -- each of these lines is answered by one of these texts, in their order
 abbrev pub Serves : Option Session → List (List ℕ) → List (List ℕ) → Option Session → Type 0

@@ -1,4 +1,4 @@
--- Session: what a session does with what a line asks, and what the answer tells.
+-- Session: what a session does with what a line asks, and what the answer says.
 use Rattle.std.specs.Prelude.{◌≡◌, ◌≢◌, ◌⊎◌, ◌<◌, ◌==◌, ℕ, List, [], ◌∷◌, ◌++◌, Some, None, codes, length, remove}
 use Rattle.std.specs.List.{position}
 use Rattle.json.specs.Print.{print}
@@ -6,7 +6,7 @@ use Rattle.json.specs.Token.{Token}
 use Rattle.serde_json.specs.Data.{Data}
 use Rattle.serde_json.specs.Read.{read}
 use Rattle.am_cli.specs.Read.{IsNoJson}
-use Rattle.am_cli.specs.declared.reader.Dialect.TheVariants.{Strict}
+use Rattle.am_cli.specs.declared.reader.Mode.TheVariants.{Strict}
 use Rattle.am_cli.specs.declared.transfer.TheConstants.{MAX_INPUT}
 use Rattle.am_model.specs.declared.views.Summary.{Summary}
 use Rattle.am_model.specs.declared.record.Call.{Call}
@@ -39,21 +39,21 @@ use Rattle.am_lines.specs.Record.{record_tokens}
 use Rattle.am_lines.specs.Reply.{named, opened_tokens, reply_tokens}
 use Rattle.am_lines.specs.Request.{IsRequestIn}
 use Rattle.am_lines.specs.View.{due_tokens, group_view_tokens, listed, outlook_tokens, row_tokens, summary_tokens}
-use Rattle.am_dispatch.specs.Refusal.{IsWhy}
+use Rattle.am_dispatch.specs.Refusal.{IsCauseOf}
 use Rattle.am_dispatch.specs.Row.{row_named}
 use Rattle.am_dispatch.specs.Ticket.{IsFirst, IsNoticeAt, IsRecordedAt, ticket_tokens}
 use Rattle.am_dispatch.specs.declared.session.Session.{Session}
-use Rattle.am_dispatch.specs.declared.ticket.TheConstants.{HOME}
+use Rattle.am_dispatch.specs.declared.ticket.TheConstants.{BOARD_ID}
 
 -- the board and the tickets are as they were
 abbrev pub IsSame : Session → Session → Type 0
 IsSame old new = (new.board ≡ old.board) × (new.tickets.items ≡ old.tickets.items)
 
--- the board makes this call: it records it with the reply that the definitions give, and the answer tells that reply
+-- the board makes this call: it records it with the reply that the definitions give, and the answer says that reply
 pub record MakesWith (old new : Session) (made : Call) (reply : Reply) (before after : List Token) : Type 0 where
   pub due : IsReplyAt old.board made reply
   pub recorded : new.board ≡ with_record old.board (entry 0 made reply)
-  pub told : after ≡ before ++ reply_tokens old.board.config reply
+  pub answered : after ≡ before ++ reply_tokens old.board.config reply
 
 abbrev pub Makes : Session → Session → Call → List Token → List Token → Type 0
 Makes old new made before after = (reply : Reply) × MakesWith old new made reply before after
@@ -67,7 +67,7 @@ KeepsTicket (begun.Flush ticket) old new = new ≡ old ++ ticket ∷ []
 -- a begin, whose ticket is kept
 pub record BeginsWith (old new : Session) (now : ℕ) (b : Begun) (before after : List Token) : Type 0 where
   pub makes : MakesWith old new (call.Begin now) (reply_of b) before after
-  pub fresh : IsFresh HOME b
+  pub fresh : IsFresh BOARD_ID b
   pub tickets : KeepsTicket b old.tickets.items new.tickets.items
 
 abbrev pub Begins : Session → Session → ℕ → List Token → List Token → Type 0
@@ -75,31 +75,31 @@ Begins old new now before after = (b : Begun) × BeginsWith old new now b before
 
 -- a report is recorded in its ticket
 pub record Reports (old new : Session) (r : Reporting) (before after : List Token) : Type 0 where
-  pub place : ℕ
-  pub first : position (λ t. t.number == r.ticket) old.tickets.items ≡ Some place
-  pub recorded : IsRecordedAt old.tickets.items place r.integration r.outcome new.tickets.items
-  pub told : after ≡ before ++ named (codes "reported") []
+  pub index : ℕ
+  pub first : position (λ t. t.number == r.ticket) old.tickets.items ≡ Some index
+  pub recorded : IsRecordedAt old.tickets.items index r.integration r.outcome new.tickets.items
+  pub answered : after ≡ before ++ named (codes "reported") []
 
 -- a note of the notice of an integration of a ticket
 pub record Notes (old new : Session) (n : Noting) (before after : List Token) : Type 0 where
-  pub place : ℕ
+  pub index : ℕ
   pub ticket : TicketData
-  pub at : IsFirst n.ticket old.tickets.items place ticket
+  pub at : IsFirst n.ticket old.tickets.items index ticket
   pub notice : ℕ
   pub noticed : IsNoticeAt n.integration ticket.notices notice
   pub r : Record
   pub note : IsNoteOf 0 n.now ticket notice r
   pub due : IsReplyAt old.board r.call r.reply
   pub recorded : new.board ≡ with_record old.board r
-  pub told : after ≡ before ++ reply_tokens old.board.config reply.Noted
+  pub answered : after ≡ before ++ reply_tokens old.board.config reply.Noted
 
 -- a finish, which takes the ticket
 pub record Finishes (old new : Session) (f : Finishing) (before after : List Token) : Type 0 where
-  pub place : ℕ
+  pub index : ℕ
   pub ticket : TicketData
-  pub at : IsFirst f.ticket old.tickets.items place ticket
+  pub at : IsFirst f.ticket old.tickets.items index ticket
   pub makes : Makes old new (call.Finish f.now ticket.number ticket.outcomes) before after
-  pub tickets : new.tickets.items ≡ remove old.tickets.items place
+  pub tickets : new.tickets.items ≡ remove old.tickets.items index
 
 -- a load of the row that is named
 pub record Loads (old new : Session) (l : Loading) (before after : List Token) : Type 0 where
@@ -107,13 +107,13 @@ pub record Loads (old new : Session) (l : Loading) (before after : List Token) :
   pub is : row_named old.board.config l.row ≡ Some row
   pub makes : Makes old new (call.Load l.now row) before after
 
--- a view changes nothing, and the answer tells these
+-- a view changes nothing, and the answer says these
 abbrev pub Shows : Session → Session → List Token → List Token → List Token → Type 0
 Shows old new tokens before after = IsSame old new × (after ≡ before ++ tokens)
 
--- the answer tells what a board has in all
-abbrev pub TellsSummary : BoardData → List Token → List Token → Type 0
-TellsSummary board before after =
+-- the answer says what a board has in all
+abbrev pub AnswersSummary : BoardData → List Token → List Token → Type 0
+AnswersSummary board before after =
     (s : Summary) × (summary_data s ≡ summary board.config board.history) × (after ≡ before ++ summary_tokens s)
 
 -- the records that a board keeps
@@ -134,9 +134,9 @@ Takes old new text = HandsOut old new × (text ≡ print (taken_tokens old.board
 -- a new board in the place of the old one
 abbrev pub Opens : Session → Opening → List Token → List Token → Type 0
 Opens new opening before after =
-    (new.board ≡ opening_board opening.config HOME) × (new.tickets.items ≡ []) × (after ≡ before ++ opened_tokens opening.ignored)
+    (new.board ≡ opening_board opening.config BOARD_ID) × (new.tickets.items ≡ []) × (after ≡ before ++ opened_tokens opening.ignored)
 
--- the session does what is asked, and the answer tells it
+-- the session does what is asked, and the answer says it
 abbrev pub Does : Session → Request → Session → List Token → List Token → Type 0
 Does old (request.Open opening) new before after = Opens new opening before after
 Does old (request.Insert x) new before after =
@@ -159,43 +159,43 @@ Does old request.Rows new before after =
     Shows old new (listed (codes "rows") (row_tokens old.board.config) (row_views (state_at old.board))) before after
 Does old request.Groups new before after =
     Shows old new (listed (codes "groups") (group_view_tokens old.board.config) (group_views (state_at old.board))) before after
-Does old request.Summary new before after = IsSame old new × TellsSummary old.board before after
+Does old request.Summary new before after = IsSame old new × AnswersSummary old.board before after
 Does old request.Tickets new before after =
     Shows old new (listed (codes "tickets") (ticket_tokens old.board.config) old.tickets.items) before after
 Does old request.TakeHistory new before after = HandsOut old new × (after ≡ before ++ taken_tokens old.board)
 
--- the session has done what is asked, whatever is told of it
+-- the session has done what is asked, whatever is answered about it
 abbrev pub HasDone : Session → Request → Session → Type 0
-HasDone old asked new = (tokens : List Token) × Does old asked new [] tokens
+HasDone old requested new = (tokens : List Token) × Does old requested new [] tokens
 
 -- a finish took its ticket, and the board has no open flush of that number
 pub record Spends (old new : Session) (f : Finishing) : Type 0 where
-  pub place : ℕ
+  pub index : ℕ
   pub ticket : TicketData
-  pub at : IsFirst f.ticket old.tickets.items place ticket
+  pub at : IsFirst f.ticket old.tickets.items index ticket
   pub not_open : flush_numbered (state_at old.board).flushes ticket.number ≡ None
   pub board : new.board ≡ old.board
-  pub tickets : new.tickets.items ≡ remove old.tickets.items place
+  pub tickets : new.tickets.items ≡ remove old.tickets.items index
 
 abbrev pub SpendsTicket : Session → Request → Session → Type 0
 SpendsTicket old (request.Finish f) new = Spends old new f
-SpendsTicket old asked new = ⊥
+SpendsTicket old requested new = ⊥
 
--- what is asked and isn't answered by what it asks for leaves all as it was, and the fault tells why. Except that the call was
--- made, if only memory for its answer was refused (what takes the records is told, or isn't made), and that a finish has spent its
+-- what is asked and isn't answered by what it asks for leaves all as it was, and the fault says why. Except that the call was
+-- made, if only memory for its answer was refused (what takes the records is answered, or isn't made), and that a finish has spent its
 -- ticket, if the board has no such flush
 abbrev pub Leaves : Session → Request → Session → LineFault → Type 0
-Leaves old asked new (fault.NotJson column) = ⊥
-Leaves old asked new fault.TooLong = ⊥
-Leaves old asked new fault.NoMemory = IsSame old new × IsWhy old asked fault.NoMemory
-Leaves old asked new fault.Untold = HasDone old asked new × (asked ≢ request.TakeHistory)
-Leaves old asked new fault.Spent = SpendsTicket old asked new
-Leaves old asked new (fault.Refused place kind) = ⊥
-Leaves old asked new (fault.NotMade place kind message) = IsSame old new × IsWhy old asked (fault.NotMade place kind message)
+Leaves old requested new (fault.NotJson column) = ⊥
+Leaves old requested new fault.TooLong = ⊥
+Leaves old requested new fault.NoMemory = IsSame old new × IsCauseOf old requested fault.NoMemory
+Leaves old requested new fault.Untold = HasDone old requested new × (requested ≢ request.TakeHistory)
+Leaves old requested new fault.Spent = SpendsTicket old requested new
+Leaves old requested new (fault.Refused index kind) = ⊥
+Leaves old requested new (fault.NotMade index kind message) = IsSame old new × IsCauseOf old requested (fault.NotMade index kind message)
 
 -- the line is the JSON text of what asks this
-abbrev pub IsAsked : List ℕ → Request → Type 0
-IsAsked line request = (value : Data) × (read line ≡ Some value) × IsRequestIn Strict value request
+abbrev pub IsRequest : List ℕ → Request → Type 0
+IsRequest line request = (value : Data) × (read line ≡ Some value) × IsRequestIn Strict value request
 
 -- what keeps a line from asking something: it is no JSON, or too long, or its value is refused; of memory nothing is said
 abbrev pub IsUnread : List ℕ → LineFault → Type 0
@@ -204,19 +204,19 @@ IsUnread line fault.TooLong = MAX_INPUT < length line
 IsUnread line fault.NoMemory = Unit {0}
 IsUnread line fault.Untold = ⊥
 IsUnread line fault.Spent = ⊥
-IsUnread line (fault.Refused place kind) = (value : Data) × (read line ≡ Some value)
-IsUnread line (fault.NotMade place kind message) = ⊥
+IsUnread line (fault.Refused index kind) = (value : Data) × (read line ≡ Some value)
+IsUnread line (fault.NotMade index kind message) = ⊥
 
--- the session does what is asked, and the text tells it: its tokens, and a line feed
-pub record IsTold (old : Session) (request : Request) (text : List ℕ) (new : Session) : Type 0 where
+-- the session does what is asked, and the text says it: its tokens, and a line feed
+pub record IsAnswerTo (old : Session) (request : Request) (text : List ℕ) (new : Session) : Type 0 where
   pub tokens : List Token
   pub does : Does old request new [] tokens
   pub text_is : text ≡ print tokens ++ 10 ∷ []
 
--- the line asks something of the session, and the text tells what it did
+-- the line asks something of the session, and the text says what it did
 abbrev pub IsAnswered : Session → List ℕ → List ℕ → Session → Type 0
-IsAnswered old line text new = (request : Request) × IsAsked line request × IsTold old request text new
+IsAnswered old line text new = (request : Request) × IsRequest line request × IsAnswerTo old request text new
 
--- a line that isn't answered by what it asks can't be read, and leaves all as it was, or its call isn't made or isn't told
+-- a line that isn't answered by what it asks can't be read, and leaves all as it was, or its call isn't made or isn't answered
 abbrev pub Refuses : Session → List ℕ → Session → LineFault → Type 0
-Refuses old line new f = (IsUnread line f × IsSame old new) ⊎ ((asked : Request) × IsAsked line asked × Leaves old asked new f)
+Refuses old line new f = (IsUnread line f × IsSame old new) ⊎ ((requested : Request) × IsRequest line requested × Leaves old requested new f)

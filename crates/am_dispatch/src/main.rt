@@ -1,6 +1,6 @@
 //! `am-dispatch`: a board as a child process of a program in any language.
 //!
-//! It reads one JSON object a line from standard input, makes the call of a board that the line tells, and writes the reply as
+//! It reads one JSON object a line from standard input, makes the call of a board that the line says, and writes the reply as
 //! one JSON object a line to standard output, before it reads the next. docs/dispatch.md has all lines and answers. It has no
 //! thread and no clock: times are in the lines. It draws a seed for the hashes of its boards at its start.
 //!

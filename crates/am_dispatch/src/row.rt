@@ -50,7 +50,7 @@ fn row_under(
         receiver,
         integration,
         kind,
-        moment,
+        time,
         expiry,
         firing,
         resolved,
@@ -62,7 +62,7 @@ fn row_under(
     let row = RowView {
         group: GroupName { route, labels },
         integration,
-        moment,
+        time,
         expiry,
         firing: Sequence::from(firing),
         resolved: Sequence::from(resolved),
@@ -132,13 +132,13 @@ fn find_route(routes: &Routes, name: &str) -> Option<u32>
         return Some(0);
     }
     match find_child(routes.children(), name) {
-        Some(place) => Some(place as u32 + 1),
+        Some(index) => Some(index as u32 + 1),
         None => None,
     }
 }
 
 fn find_child(children: &[Child], name: &str) -> Option<usize>
-    ensures within { IfSome result (λ place. place < length children.now) }
+    ensures within { IfSome result (λ index. index < length children.now) }
     ensures named { result ≡ position (λ c. bytes_eq c.route.name name.now) children.now }
 {
     children

@@ -5,11 +5,11 @@
 ghost use Rattle.std.specs.Prelude.{◌≡◌, ◌≢◌, ◌+◌, ◌++◌, [], ◌∷◌, List, ℕ, None, Option, Some, false, if◌then◌else◌, is_ok};
 ghost use Rattle.std.specs.Prelude.{IfErr, IfOk, IsErrAnd, IsFalse, IsTrue, OnErr, OnOk};
 ghost use Rattle.am_cli.specs.Bytes.{Breaks};
-ghost use Rattle.am_lines.specs.Fault.{TellsFault, fault_line};
+ghost use Rattle.am_lines.specs.Fault.{AnswersFault, fault_line};
 ghost use Rattle.am_lines.specs.Lines.{IsRead, end_count};
-ghost use Rattle.am_dispatch.specs.Refusal.{IsWhyUnopened};
+ghost use Rattle.am_dispatch.specs.Refusal.{IsCauseOfUnopened};
 ghost use Rattle.am_dispatch.specs.Serve.{AnswersLine, IsOpenedBy, OpensNone, Opened, Sends, Served, ServesAll, Stops, is_remark};
-ghost use Rattle.am_dispatch.specs.Session.{IsAnswered, IsAsked, IsTold, IsUnread, Leaves, Refuses};
+ghost use Rattle.am_dispatch.specs.Session.{IsAnswered, IsRequest, IsAnswerTo, IsUnread, Leaves, Refuses};
 ghost use Rattle.am_dispatch.specs.declared.session.Session.{Session};
 
 use crate::fault::ServeFault;
@@ -172,11 +172,11 @@ fn answer_line<K: Sink>(
 
 /// Whether a line is answered by itself: a comment, or an empty one.
 fn is_echoed(read: LineRead, line: &[u8]) -> bool
-    ensures echoed { IsTrue result → (read ≡ LineRead.Whole) × IsTrue (is_remark line.now) }
-    ensures other { IsFalse result → read ≡ LineRead.Whole → IsFalse (is_remark line.now) }
+    ensures echoed { IsTrue result → (read ≡ LineRead.Complete) × IsTrue (is_remark line.now) }
+    ensures other { IsFalse result → read ≡ LineRead.Complete → IsFalse (is_remark line.now) }
 {
     match read {
-        LineRead::Whole => is_remark(line),
+        LineRead::Complete => is_remark(line),
         LineRead::TooLong | LineRead::NoMemory | LineRead::End => false,
     }
 }
@@ -200,10 +200,10 @@ fn echo<K: Sink>(line: &[u8], sink: &mut K) -> Result<(), Unwritable>
     write_all(sink, b"\n")
 }
 
-/// Writes the line that tells a fault.
+/// Writes the line that says a fault.
 fn write_fault<K: Sink>(alloc: Global, fault: &LineFault, sink: &mut K) -> Result<(), Unwritable>
-    ensures whole { OnOk result (Sends (TellsFault fault.now) (K.taken sink.old) (K.taken sink.new)) }
-    ensures part { OnErr result (Breaks (TellsFault fault.now) (K.taken sink.old) (K.taken sink.new)) }
+    ensures whole { OnOk result (Sends (AnswersFault fault.now) (K.taken sink.old) (K.taken sink.new)) }
+    ensures part { OnErr result (Breaks (AnswersFault fault.now) (K.taken sink.old) (K.taken sink.new)) }
     ensures failed { K.failed sink.new ≡ K.failed sink.old + (if is_ok result then 0 else 1) }
 {
     if let Some(line) = fault.ready_line() {
@@ -215,7 +215,7 @@ fn write_fault<K: Sink>(alloc: Global, fault: &LineFault, sink: &mut K) -> Resul
     }
 }
 
-/// Makes the line that tells a fault.
+/// Makes the line that says a fault.
 fn fault_text(alloc: Global, fault: &LineFault) -> Result<Vec<u8>, AllocError>
     ensures { IfOk result (λ line. line.items ≡ fault_line fault.now) }
 {
@@ -231,14 +231,14 @@ fn open(
     read: LineRead,
     line: &[u8],
 ) -> Result<(Session, Vec<u8>), LineFault>
-    ensures told { IfOk result (λ made. (text : List ℕ) → IsRead read text line.now → Opened text made.1.items made.0) }
+    ensures answered { IfOk result (λ made. (text : List ℕ) → IsRead read text line.now → Opened text made.1.items made.0) }
     ensures refused { IfErr result (λ fault. (text : List ℕ) → IsRead read text line.now → OpensNone text fault) }
     ensures unread { read ≡ LineRead.NoMemory → IsErrAnd result (λ fault. fault ≡ LineFault.NoMemory) }
 {
     match request_of(alloc, read, line)? {
         Request::Open(opening) => open_session(alloc, seed, opening),
         _ => Err(LineFault::NotMade {
-            place: "",
+            pointer: "",
             kind: "NoBoard",
             message: "the first line has to be a configuration: config or alertmanager",
         }),
@@ -251,8 +251,8 @@ fn open_session(
     seed: Seed,
     opening: Opening,
 ) -> Result<(Session, Vec<u8>), LineFault>
-    ensures told { IfOk result (λ made. IsOpenedBy opening made.1.items made.0) }
-    ensures refused { IfErr result (IsWhyUnopened opening.config) }
+    ensures answered { IfOk result (λ made. IsOpenedBy opening made.1.items made.0) }
+    ensures refused { IfErr result (IsCauseOfUnopened opening.config) }
 {
     let Opening { config, ignored } = opening;
     let mut answer = Answer::new(alloc);
@@ -268,7 +268,7 @@ pub fn respond(
     read: LineRead,
     line: &[u8],
 ) -> Result<Vec<u8>, LineFault>
-    ensures told { IfOk result (λ answer. (text : List ℕ) → IsRead read text line.now
+    ensures answered { IfOk result (λ answer. (text : List ℕ) → IsRead read text line.now
         → IsAnswered session.old text answer.items session.new) }
     ensures refused { IfErr result (λ fault. (text : List ℕ) → IsRead read text line.now
         → Refuses session.old text session.new fault) }
@@ -285,7 +285,7 @@ pub fn respond(
 /// Does what is asked of a session, but for its history, and makes the line that answers it.
 fn make_line(alloc: Global, session: &mut Session, request: Request) -> Result<Vec<u8>, LineFault>
     requires { request ≢ Request.TakeHistory }
-    ensures told { IfOk result (λ text. IsTold session.old request text.items session.new) }
+    ensures answered { IfOk result (λ text. IsAnswerTo session.old request text.items session.new) }
     ensures refused { IfErr result (Leaves session.old request session.new) }
 {
     let mut answer = Answer::new(alloc);
@@ -298,20 +298,20 @@ fn make_line(alloc: Global, session: &mut Session, request: Request) -> Result<V
 
 /// What a line asks.
 fn request_of(alloc: Global, read: LineRead, line: &[u8]) -> Result<Request, LineFault>
-    ensures asked { IfOk result (λ request. (text : List ℕ) → IsRead read text line.now → IsAsked text request) }
+    ensures requested { IfOk result (λ request. (text : List ℕ) → IsRead read text line.now → IsRequest text request) }
     ensures refused { IfErr result (λ fault. (text : List ℕ) → IsRead read text line.now → IsUnread text fault) }
     ensures unread { read ≡ LineRead.NoMemory → IsErrAnd result (λ fault. fault ≡ LineFault.NoMemory) }
 {
     match read {
         LineRead::TooLong => Err(LineFault::TooLong),
         LineRead::NoMemory => Err(LineFault::NoMemory),
-        LineRead::Whole | LineRead::End => request_in(alloc, line),
+        LineRead::Complete | LineRead::End => request_in(alloc, line),
     }
 }
 
 /// What the text of a line asks.
 fn request_in(alloc: Global, line: &[u8]) -> Result<Request, LineFault>
-    ensures asked { IfOk result (IsAsked line.now) }
+    ensures requested { IfOk result (IsRequest line.now) }
     ensures refused { IfErr result (IsUnread line.now) }
 {
     let value = parse(alloc, line)?;

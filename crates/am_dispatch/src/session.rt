@@ -2,11 +2,11 @@
 //!
 //! `calls` has what it does.
 ghost use Rattle.std.specs.Prelude.{◌≡◌};
-ghost use Rattle.am_dispatch.specs.declared.ticket.TheConstants.{HOME};
+ghost use Rattle.am_dispatch.specs.declared.ticket.TheConstants.{BOARD_ID};
 
 mod calls;
 
-use crate::ticket::HOME;
+use crate::ticket::BOARD_ID;
 use am_board::board::Board;
 use am_board::own_ticket::OwnTicket;
 use am_seed::Seed;
@@ -16,8 +16,8 @@ use am_seed::Seed;
 /// A ticket can't be let go: `close` takes a session apart.
 pub struct Session {
     board: Board,
-    tickets: Vec<OwnTicket<HOME>>,
+    tickets: Vec<OwnTicket<BOARD_ID>>,
     /// What the hashes of its boards start from.
     seed: Seed,
-    ghost ours: { board.id ≡ HOME },
+    ghost ours: { board.id ≡ BOARD_ID },
 }

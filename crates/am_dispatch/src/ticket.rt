@@ -1,4 +1,4 @@
-//! The tickets of the flushes that are open, and what is told of them. `session` has them.
+//! The tickets of the flushes that are open, and what is answered about them. `session` has them.
 ghost use Rattle.std.specs.Prelude.{◌≡◌, ◌<◌, ◌++◌, ◌∷◌, ◌==◌, IfErr, IfSome, None, OnErr, OnOk, Some, codes, length, slice_get, vec_len};
 ghost use Rattle.std.specs.List.{flat_map, position};
 ghost use Rattle.json.specs.Token.{key};
@@ -20,25 +20,29 @@ use std::alloc::AllocError;
 
 /// The id of each board of the program, which its tickets carry. There is one board at a time, and its tickets are spent
 /// before the next.
-pub const HOME: u64 = 1;
+pub const BOARD_ID: u64 = 1;
 
-/// Records how the sending to an integration ended, in the ticket at a place.
+/// Records how the sending to an integration ended, in the ticket at an index.
 pub fn record_at(
-    tickets: &mut Vec<OwnTicket<HOME>>,
-    place: usize,
+    tickets: &mut Vec<OwnTicket<BOARD_ID>>,
+    index: usize,
     integration: u32,
     outcome: Outcome,
 ) -> Result<(), ReportFault>
-    requires { place < vec_len tickets.old }
-    ensures ok { OnOk result (IsRecordedAt tickets.old.items place integration outcome tickets.new.items) }
-    ensures fault { IfErr result (HasFaultAt tickets.old.items place integration outcome) }
+    requires { index < vec_len tickets.old }
+    ensures ok { OnOk result (IsRecordedAt tickets.old.items index integration outcome tickets.new.items) }
+    ensures fault { IfErr result (HasFaultAt tickets.old.items index integration outcome) }
     ensures err { OnErr result (tickets.new.items ≡ tickets.old.items) }
 {
-    record(&mut tickets[place], integration, outcome)
+    record(&mut tickets[index], integration, outcome)
 }
 
 /// Records how the sending to an integration ended.
-fn record(own: &mut OwnTicket<HOME>, integration: u32, outcome: Outcome) -> Result<(), ReportFault>
+fn record(
+    own: &mut OwnTicket<BOARD_ID>,
+    integration: u32,
+    outcome: Outcome,
+) -> Result<(), ReportFault>
     ensures ok { OnOk result ((report_fault own.old (report_on own.old integration outcome) ≡ None)
         × (own.new ≡ recorded own.old (report_on own.old integration outcome))) }
     ensures fault { IfErr result (λ fault. report_fault own.old (report_on own.old integration outcome) ≡ Some fault) }
@@ -46,7 +50,7 @@ fn record(own: &mut OwnTicket<HOME>, integration: u32, outcome: Outcome) -> Resu
 {
     let ticket = own.ticket().number();
     own.record(Report {
-        desk: HOME,
+        board_id: BOARD_ID,
         ticket,
         integration,
         outcome,
@@ -55,28 +59,28 @@ fn record(own: &mut OwnTicket<HOME>, integration: u32, outcome: Outcome) -> Resu
     })
 }
 
-/// Returns the place of the first ticket of a number.
-pub fn find_ticket(tickets: &[OwnTicket<HOME>], number: u64) -> Option<usize>
-    ensures within { IfSome result (λ place. place < length tickets.now) }
+/// Returns the index of the first ticket of a number.
+pub fn find_ticket(tickets: &[OwnTicket<BOARD_ID>], number: u64) -> Option<usize>
+    ensures within { IfSome result (λ index. index < length tickets.now) }
     ensures first { result ≡ position (λ t. t.number == number) tickets.now }
 {
     tickets.iter().position(|own| number_of(own) == number)
 }
 
-fn number_of(own: &OwnTicket<HOME>) -> u64
+fn number_of(own: &OwnTicket<BOARD_ID>) -> u64
     ensures { result ≡ own.now.number }
 {
     own.ticket().number()
 }
 
-/// Returns the place of the notice of an integration in a ticket.
-pub fn find_notice(own: &OwnTicket<HOME>, integration: u32) -> Option<usize>
+/// Returns the index of the notice of an integration in a ticket.
+pub fn find_notice(own: &OwnTicket<BOARD_ID>, integration: u32) -> Option<usize>
     ensures { result ≡ position (λ n. n.integration == integration) own.now.notices }
 {
-    place_of_notice(own.ticket().notices(), integration)
+    index_of_notice(own.ticket().notices(), integration)
 }
 
-fn place_of_notice(notices: &[Notice], integration: u32) -> Option<usize>
+fn index_of_notice(notices: &[Notice], integration: u32) -> Option<usize>
     ensures { result ≡ position (λ n. n.integration == integration) notices.now }
 {
     notices
@@ -87,7 +91,7 @@ fn place_of_notice(notices: &[Notice], integration: u32) -> Option<usize>
 /// Writes the flushes that are open: `{"tickets":[..]}`.
 pub fn write_tickets(
     config: &Config,
-    tickets: &[OwnTicket<HOME>],
+    tickets: &[OwnTicket<BOARD_ID>],
     answer: &mut Answer,
 ) -> Result<(), AllocError>
     ensures { OnOk result (answer.new ≡ answer.old ++ listed (codes "tickets") (ticket_tokens config.now) tickets.now) }
@@ -102,7 +106,7 @@ pub fn write_tickets(
 
 fn add_tickets(
     config: &Config,
-    tickets: &[OwnTicket<HOME>],
+    tickets: &[OwnTicket<BOARD_ID>],
     answer: &mut Answer,
 ) -> Result<(), AllocError>
     ensures { OnOk result (answer.new ≡ answer.old ++ flat_map (ticket_tokens config.now) tickets.now) }
@@ -113,7 +117,7 @@ fn add_tickets(
     Ok(())
 }
 
-/// Writes an open flush: its ticket as the begin told it, and what was reported since.
+/// Writes an open flush: its ticket as the begin answered it, and what was reported since.
 fn write_ticket(config: &Config, ticket: &Ticket, answer: &mut Answer) -> Result<(), AllocError>
     ensures { OnOk result (answer.new ≡ answer.old ++ ticket_tokens config.now ticket.now) }
 {
@@ -144,22 +148,22 @@ fn add_reports(ticket: &Ticket, answer: &mut Answer) -> Result<(), AllocError>
     ensures { OnOk result (answer.new ≡ answer.old
         ++ flat_map (λ n. report_tokens n.integration (outcome_of ticket.now.outcomes n.integration)) ticket.now.notices) }
 {
-    for (place, notice) in ticket.notices().iter().enumerate() {
-        write_reported(ticket, place, notice, answer)?;
+    for (index, notice) in ticket.notices().iter().enumerate() {
+        write_reported(ticket, index, notice, answer)?;
     }
     Ok(())
 }
 
-/// Writes what was reported on the notice at a place of a ticket.
+/// Writes what was reported on the notice at an index of a ticket.
 fn write_reported(
     ticket: &Ticket,
-    place: usize,
+    index: usize,
     notice: &Notice,
     answer: &mut Answer,
 ) -> Result<(), AllocError>
-    requires { slice_get ticket.now.notices place ≡ Some notice.now }
+    requires { slice_get ticket.now.notices index ≡ Some notice.now }
     ensures { OnOk result (answer.new ≡ answer.old
         ++ report_tokens notice.now.integration (outcome_of ticket.now.outcomes notice.now.integration)) }
 {
-    write_report(notice.integration, ticket.outcome(place), answer)
+    write_report(notice.integration, ticket.outcome(index), answer)
 }

@@ -1,11 +1,11 @@
 //! A board, and what is done with it when time has passed. `main` drives it.
 ghost use Rattle.std.specs.Prelude.{◌≡◌, ◌≤◌, All, IfOk, OnOk};
-ghost use Rattle.am_alerts.specs.declared.limits.TheConstants.{MAX_MOMENT};
-ghost use Rattle.am_embedded.specs.declared.dispatcher.TheConstants.{HOME};
+ghost use Rattle.am_alerts.specs.declared.limits.TheConstants.{MAX_TIME};
+ghost use Rattle.am_embedded.specs.declared.dispatcher.TheConstants.{BOARD_ID};
 ghost use Rattle.am_pool.specs.Work.{IsReady};
 
 use am_alerts::alert::Alert;
-use am_alerts::limits::MAX_MOMENT;
+use am_alerts::limits::MAX_TIME;
 use am_board::begin::Begun;
 use am_board::board::Board;
 use am_board::config::{Config, MAX_FLUSHES};
@@ -21,7 +21,7 @@ use std::sync::Wait;
 use std::thread::Threads;
 
 /// The id of the board, which its tickets carry. Each board of a program needs an id of its own.
-const HOME: u64 = 1;
+const BOARD_ID: u64 = 1;
 
 /// The pass of each call: one thread makes them all.
 const PASS: u32 = 0;
@@ -30,7 +30,7 @@ const PASS: u32 = 0;
 #[derive(Drop)]
 pub struct Dispatcher {
     board: Board,
-    ghost ours: { board.id ≡ HOME },
+    ghost ours: { board.id ≡ BOARD_ID },
 }
 
 /// What a round of flushes did.
@@ -59,11 +59,11 @@ impl Dispatcher {
     /// Returns a board of this configuration, with nothing in it. Its hashes start from a seed that
     /// the program drew.
     pub fn open(alloc: Global, config: Config, seed: Seed) -> Result<Dispatcher, BoardFault> {
-        let board = Board::seeded(alloc, config, HOME, seed)?;
+        let board = Board::seeded(alloc, config, BOARD_ID, seed)?;
         Ok(Dispatcher { board })
     }
 
-    /// Tells the board of an alert.
+    /// Says the board of an alert.
     pub fn insert(&mut self, alloc: Global, now: u64, alert: Alert) -> Result<Inserted, Fault> {
         self.board.insert(alloc, PASS, now, alert)
     }
@@ -86,7 +86,7 @@ impl Dispatcher {
             flushed: 0,
             quiet: 0,
             logged: 0,
-            ended: now.min(MAX_MOMENT),
+            ended: now.min(MAX_TIME),
         };
         // From here on each ticket has to get to `finish`: no `?`, and no `return`.
         let mut open = Vec::new(alloc);
@@ -105,7 +105,7 @@ impl Dispatcher {
         &mut self,
         alloc: Global,
         now: u64,
-        open: &mut Vec<OwnTicket<HOME>>,
+        open: &mut Vec<OwnTicket<BOARD_ID>>,
         round: &mut Round,
     ) -> Result<(), Fault> {
         for _ in 0..MAX_FLUSHES {
@@ -131,7 +131,7 @@ impl Dispatcher {
     }
 
     /// Finishes the flushes, at the time when the last sending was over.
-    fn finish_all(&mut self, open: Vec<OwnTicket<HOME>>, round: &mut Round) {
+    fn finish_all(&mut self, open: Vec<OwnTicket<BOARD_ID>>, round: &mut Round) {
         let mut left = open;
         while !left.is_empty() {
             match self.board.finish_own(PASS, left.remove(0), round.ended) {
@@ -153,10 +153,10 @@ fn send_all<R: Threads + Wait + Sync, C: Courier + Send>(
     rt: &R,
     alloc: Global,
     couriers: &mut [C],
-    open: &mut Vec<OwnTicket<HOME>>,
+    open: &mut Vec<OwnTicket<BOARD_ID>>,
     round: &mut Round,
 ) -> Result<(), PoolFault> {
-    let start = round.ended.min(MAX_MOMENT);
+    let start = round.ended.min(MAX_TIME);
     for report in send(rt, alloc, couriers, open.as_slice(), start)? {
         round.ended = round.ended.max(report.ended);
         record(open, report);
@@ -169,10 +169,10 @@ fn send<R: Threads + Wait + Sync, C: Courier + Send>(
     rt: &R,
     alloc: Global,
     couriers: &mut [C],
-    open: &[OwnTicket<HOME>],
+    open: &[OwnTicket<BOARD_ID>],
     start: u64,
 ) -> Result<Vec<Report>, PoolFault>
-    requires { start ≤ MAX_MOMENT }
+    requires { start ≤ MAX_TIME }
 {
     let jobs = jobs_of(alloc, open, start)?;
     run_jobs(rt, alloc, couriers, jobs.as_slice())
@@ -181,10 +181,10 @@ fn send<R: Threads + Wait + Sync, C: Courier + Send>(
 /// Returns the notices that have something to send, each to be sent from this time on.
 fn jobs_of<'t>(
     alloc: Global,
-    open: &'t [OwnTicket<HOME>],
+    open: &'t [OwnTicket<BOARD_ID>],
     start: u64,
 ) -> Result<Vec<Job<'t>>, AllocError>
-    requires { start ≤ MAX_MOMENT }
+    requires { start ≤ MAX_TIME }
     ensures { IfOk result (λ jobs. All IsReady jobs.items) }
 {
     let mut jobs = Vec::new(alloc);
@@ -199,7 +199,7 @@ fn add_jobs<'t>(
     start: u64,
     jobs: &mut Vec<Job<'t>>,
 ) -> Result<(), AllocError>
-    requires start { start ≤ MAX_MOMENT }
+    requires start { start ≤ MAX_TIME }
     requires ready { All IsReady jobs.old.items }
     ensures { OnOk result (All IsReady jobs.new.items) }
 {
@@ -212,7 +212,7 @@ fn add_jobs<'t>(
 }
 
 /// Records a report in its ticket. A report that is refused counts as not delivered.
-fn record(open: &mut Vec<OwnTicket<HOME>>, report: Report) {
+fn record(open: &mut Vec<OwnTicket<BOARD_ID>>, report: Report) {
     for own in open.iter_mut() {
         if own.ticket().number() == report.ticket {
             let _ = own.record(report);

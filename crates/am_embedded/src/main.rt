@@ -24,7 +24,7 @@ use std::thread::Threads;
 const ROUNDS: usize = 4;
 
 /// Why the program ends early.
-enum Trouble {
+enum DispatcherError {
     NoMemory,
     /// The configuration or an alert is rejected, or a limit is reached.
     Rejected,
@@ -34,36 +34,36 @@ enum Trouble {
     NoSeed,
 }
 
-impl From<AllocError> for Trouble {
-    fn from(_: AllocError) -> Trouble {
-        Trouble::NoMemory
+impl From<AllocError> for DispatcherError {
+    fn from(_: AllocError) -> DispatcherError {
+        DispatcherError::NoMemory
     }
 }
 
-impl From<BoardFault> for Trouble {
-    fn from(fault: BoardFault) -> Trouble {
+impl From<BoardFault> for DispatcherError {
+    fn from(fault: BoardFault) -> DispatcherError {
         match fault {
-            BoardFault::NoMemory => Trouble::NoMemory,
-            BoardFault::BadConfig(_) => Trouble::Rejected,
+            BoardFault::NoMemory => DispatcherError::NoMemory,
+            BoardFault::BadConfig(_) => DispatcherError::Rejected,
         }
     }
 }
 
-impl From<Fault> for Trouble {
-    fn from(fault: Fault) -> Trouble {
+impl From<Fault> for DispatcherError {
+    fn from(fault: Fault) -> DispatcherError {
         match fault {
-            Fault::NoMemory => Trouble::NoMemory,
-            _ => Trouble::Rejected,
+            Fault::NoMemory => DispatcherError::NoMemory,
+            _ => DispatcherError::Rejected,
         }
     }
 }
 
-impl From<RoundFault> for Trouble {
-    fn from(fault: RoundFault) -> Trouble {
+impl From<RoundFault> for DispatcherError {
+    fn from(fault: RoundFault) -> DispatcherError {
         match fault {
-            RoundFault::Begin(fault) => Trouble::from(fault),
-            RoundFault::Send(PoolFault::NoMemory) => Trouble::NoMemory,
-            RoundFault::Send(_) => Trouble::Rejected,
+            RoundFault::Begin(fault) => DispatcherError::from(fault),
+            RoundFault::Send(PoolFault::NoMemory) => DispatcherError::NoMemory,
+            RoundFault::Send(_) => DispatcherError::Rejected,
         }
     }
 }
@@ -71,19 +71,19 @@ impl From<RoundFault> for Trouble {
 fn main(rt: HostRuntime) -> ExitCode {
     match run(&rt) {
         Ok(()) => ExitCode::SUCCESS,
-        Err(Trouble::Rejected) => ExitCode::from(2),
-        Err(Trouble::NoMemory) => ExitCode::from(3),
-        Err(Trouble::Unwritable) => ExitCode::from(4),
-        Err(Trouble::NoSeed) => ExitCode::from(5),
+        Err(DispatcherError::Rejected) => ExitCode::from(2),
+        Err(DispatcherError::NoMemory) => ExitCode::from(3),
+        Err(DispatcherError::Unwritable) => ExitCode::from(4),
+        Err(DispatcherError::NoSeed) => ExitCode::from(5),
     }
 }
 
 fn run<R: Threads + Wait + Sync + Print + AllocGlobal + RandomSource>(
     rt: &R,
-) -> Result<(), Trouble> {
+) -> Result<(), DispatcherError> {
     let config = base(rt.alloc())?;
     let Ok(seed) = Seed::draw(rt) else {
-        return Err(Trouble::NoSeed);
+        return Err(DispatcherError::NoSeed);
     };
     let mut dispatcher = Dispatcher::open(rt.alloc(), config, seed)?;
     let ran = run_on(rt, &mut dispatcher);
@@ -94,7 +94,7 @@ fn run<R: Threads + Wait + Sync + Print + AllocGlobal + RandomSource>(
 fn run_on<R: Threads + Wait + Sync + Print + AllocGlobal>(
     rt: &R,
     dispatcher: &mut Dispatcher,
-) -> Result<(), Trouble> {
+) -> Result<(), DispatcherError> {
     insert(dispatcher, rt.alloc(), "A", 0)?;
     insert(dispatcher, rt.alloc(), "B", 20_000)?;
     make_rounds(rt, dispatcher, &mut [Pager::new(), Pager::new()], 20_000)?;
@@ -103,7 +103,12 @@ fn run_on<R: Threads + Wait + Sync + Print + AllocGlobal>(
 }
 
 /// Inserts an alert of this name, which fires from now on.
-fn insert(dispatcher: &mut Dispatcher, alloc: Global, name: &str, now: u64) -> Result<(), Trouble> {
+fn insert(
+    dispatcher: &mut Dispatcher,
+    alloc: Global,
+    name: &str,
+    now: u64,
+) -> Result<(), DispatcherError> {
     let alert = alert(alloc, name, now)?;
     let _ = dispatcher.insert(alloc, now, alert)?;
     Ok(())
@@ -116,7 +121,7 @@ fn make_rounds<R: Threads + Wait + Sync + Print + AllocGlobal>(
     dispatcher: &mut Dispatcher,
     couriers: &mut [Pager],
     start: u64,
-) -> Result<(), Trouble> {
+) -> Result<(), DispatcherError> {
     let mut now = start;
     for _ in 0..ROUNDS {
         if let Some(due) = dispatcher.next_due() {
@@ -133,23 +138,23 @@ fn make_round<R: Threads + Wait + Sync + Print + AllocGlobal>(
     dispatcher: &mut Dispatcher,
     couriers: &mut [Pager],
     now: u64,
-) -> Result<(), Trouble> {
+) -> Result<(), DispatcherError> {
     let round = dispatcher.send_due(rt, rt.alloc(), couriers, now)?;
     let (flushed, quiet, logged) = (round.flushed, round.quiet, round.logged);
     print(println!(rt; "{now}: flushed {flushed}, quiet {quiet}, logged {logged}"))
 }
 
-fn print(printed: io::Result<()>) -> Result<(), Trouble> {
-    printed.map_err(|_| Trouble::Unwritable)
+fn print(printed: io::Result<()>) -> Result<(), DispatcherError> {
+    printed.map_err(|_| DispatcherError::Unwritable)
 }
 
 /// Returns an alert of this name, which fires from a time on.
-fn alert(alloc: Global, name: &str, starts: u64) -> Result<Alert, Trouble> {
+fn alert(alloc: Global, name: &str, starts: u64) -> Result<Alert, DispatcherError> {
     let Ok(labels) = Labels::read(alloc, &[("alertname", name)]) else {
-        return Err(Trouble::NoMemory);
+        return Err(DispatcherError::NoMemory);
     };
     match Alert::new(labels, starts, None) {
         Ok(alert) => Ok(alert),
-        Err(_) => Err(Trouble::Rejected),
+        Err(_) => Err(DispatcherError::Rejected),
     }
 }

@@ -1,10 +1,10 @@
--- Lists of spans that are apart: what is at their ends, and what a span more does. What they hold is in am_alerts' `Shut`.
+-- Lists of spans that are apart: what is at their ends, and what a span more does. What they hold is in am_alerts' `Muted`.
 use Rattle.std.proofs.Common.{◌≡◌, ℕ, zero, suc, get_or, length, ◌+◌, ◌<◌, ◌≤◌, Bool, true, false, List, [], ◌∷◌, ◌++◌, refl, ap, sym, ◌∙◌, arith}
 use Rattle.std.specs.Prelude.{◌&&◌, ◌||◌, nat_le, nat_lt}
 use Rattle.std.proofs.lemmas.Bool.{and_parts, and_from, ltb-true, leb-true, lt-ltb, le-leb}
 use Rattle.am_alerts.specs.declared.spans.Span.{Span}
 use Rattle.am_alerts.specs.Spans.{are_apart, begins_behind}
-use Rattle.am_alerts.proofs.Shut.{apart-parts}
+use Rattle.am_alerts.proofs.Muted.{apart-parts}
 use Rattle.am_hours.specs.Merging.{begin_by}
 
 -- two tests with one meaning are equal
@@ -99,7 +99,7 @@ and_true : (a : Bool) → a ≡ (a && true)
 and_true true = refl
 and_true false = refl
 
--- all begin by a moment where the last does
+-- all begin by a time where the last does
 pub last-begins : (xs : List Span) (k : ℕ) (d : Span) (t : ℕ) → k + 1 ≡ length xs → are_apart xs ≡ true
     → nat_le (get_or xs k d).from t ≡ begin_by t xs
 last-begins [] k d t e h = absurd (omega (arith, e))
@@ -115,7 +115,7 @@ last-begins (x ∷ y ∷ xs) (suc k) d t e h =
     and_from (nat_le x.from t) (begin_by t (y ∷ xs)) (le-leb x.from t (omega (arith, b, lt, p.0))) a)
     (λ a. (and_parts (nat_le x.from t) (begin_by t (y ∷ xs)) a).1)
 
--- what begins by a moment begins by each later one
+-- what begins by a time begins by each later one
 pub begin_by-later : (xs : List Span) (m n : ℕ) → m ≤ n → begin_by m xs ≡ true → begin_by n xs ≡ true
 begin_by-later [] m n le h = refl
 begin_by-later (x ∷ xs) m n le h =

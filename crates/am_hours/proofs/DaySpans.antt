@@ -5,9 +5,9 @@ use Rattle.std.proofs.lemmas.Bool.{and_parts, and_from, or_cases, or_left, or_ri
 use Rattle.am_alerts.specs.declared.spans.Span.{Span}
 use Rattle.am_hours.specs.declared.piece.Piece.{Piece}
 use Rattle.am_hours.specs.Intervals.{IntervalData, any_of, contains, is_during, is_on_date}
-use Rattle.am_alerts.specs.Spans.{holds, is_shut}
+use Rattle.am_alerts.specs.Spans.{holds, is_muted}
 use Rattle.am_hours.specs.Pieces.{day_at, is_in, local_at, minute_at, shown, shown_on}
-use Rattle.am_alerts.proofs.Shut.{holds-says, holds-made}
+use Rattle.am_alerts.proofs.Muted.{holds-says, holds-made}
 use Rattle.am_hours.proofs.Apart.{same_tests}
 
 -- between two minutes of a day, on a local clock
@@ -23,7 +23,7 @@ pub minutes-out : (L day f g q r k z : ℕ) → 86400000 * q + r ≡ L → r < 8
     → (day * 86400000 + min f 1440 * 60000 ≤ L) × (L < day * 86400000 + min g 1440 * 60000)
 minutes-out L day f g q r k z l below m less e from to = (omega arith, omega arith)
 
--- the span of a day's minutes on a piece holds the moments of the piece on that day, in these minutes
+-- the span of a day's minutes on a piece holds the times of the piece on that day, in these minutes
 pub holds-day : (p : Piece) (s m : Span) (day t : ℕ)
     → s.from ≡ p.from + (day * 86400000 + min m.from 1440 * 60000 - p.time)
     → s.to ≡ min (p.from + (day * 86400000 + min m.to 1440 * 60000 - p.time)) p.to
@@ -132,29 +132,29 @@ piece-more false true x y = refl
 
 -- what a day on which an interval holds at some time adds to a piece
 pub piece-step-on : (i : IntervalData) (p : Piece) (minutes old before after : List Span) (k t : ℕ)
-    → ((m : ℕ) → m < 1440 → is_shut minutes m ≡ any_of (is_during m) i.times)
+    → ((m : ℕ) → m < 1440 → is_muted minutes m ≡ any_of (is_during m) i.times)
     → is_on_date i (shown_on p k 0) ≡ true
-    → is_shut before t ≡ (is_shut old t || (is_in p t && (nat_lt (day_at p t) k && contains i (shown p t))))
-    → is_shut after t ≡ (is_shut before t || (is_in p t && ((day_at p t == k) && is_shut minutes (minute_at p t))))
-    → is_shut after t ≡ (is_shut old t || (is_in p t && (nat_lt (day_at p t) (k + 1) && contains i (shown p t))))
+    → is_muted before t ≡ (is_muted old t || (is_in p t && (nat_lt (day_at p t) k && contains i (shown p t))))
+    → is_muted after t ≡ (is_muted before t || (is_in p t && ((day_at p t == k) && is_muted minutes (minute_at p t))))
+    → is_muted after t ≡ (is_muted old t || (is_in p t && (nat_lt (day_at p t) (k + 1) && contains i (shown p t))))
 piece-step-on i p minutes old before after k t same on before_is after_is =
     let d = day_at p t in
     let m = minute_at p t in
     let during = any_of (is_during m) i.times in
     let here : m < 1440 = omega arith in
     after_is
-    ∙ ap (λ b. b || (is_in p t && ((d == k) && is_shut minutes m))) before_is
-    ∙ piece-more (is_shut old t) (is_in p t) (nat_lt d k && contains i (shown p t)) ((d == k) && is_shut minutes m)
-    ∙ ap (λ b. is_shut old t || (is_in p t && ((nat_lt d k && contains i (shown p t)) || ((d == k) && b)))) (same m here)
-    ∙ ap (λ b. is_shut old t || (is_in p t && b)) (step-on during (λ x. is_on_date i (shown_on p x 0)) d k on)
+    ∙ ap (λ b. b || (is_in p t && ((d == k) && is_muted minutes m))) before_is
+    ∙ piece-more (is_muted old t) (is_in p t) (nat_lt d k && contains i (shown p t)) ((d == k) && is_muted minutes m)
+    ∙ ap (λ b. is_muted old t || (is_in p t && ((nat_lt d k && contains i (shown p t)) || ((d == k) && b)))) (same m here)
+    ∙ ap (λ b. is_muted old t || (is_in p t && b)) (step-on during (λ x. is_on_date i (shown_on p x 0)) d k on)
 
 -- and one on which it holds at none
 pub piece-step-off : (i : IntervalData) (p : Piece) (old before : List Span) (k t : ℕ)
     → is_on_date i (shown_on p k 0) ≡ false
-    → is_shut before t ≡ (is_shut old t || (is_in p t && (nat_lt (day_at p t) k && contains i (shown p t))))
-    → is_shut before t ≡ (is_shut old t || (is_in p t && (nat_lt (day_at p t) (k + 1) && contains i (shown p t))))
+    → is_muted before t ≡ (is_muted old t || (is_in p t && (nat_lt (day_at p t) k && contains i (shown p t))))
+    → is_muted before t ≡ (is_muted old t || (is_in p t && (nat_lt (day_at p t) (k + 1) && contains i (shown p t))))
 piece-step-off i p old before k t off before_is =
     let d = day_at p t in
     before_is
-    ∙ ap (λ b. is_shut old t || (is_in p t && b))
+    ∙ ap (λ b. is_muted old t || (is_in p t && b))
     (step-off (any_of (is_during (minute_at p t)) i.times) (λ x. is_on_date i (shown_on p x 0)) d k off)

@@ -4,12 +4,12 @@ use Rattle.std.specs.Prelude.{◌&&◌, ◌||◌, not, nat_le, nat_lt, min}
 use Rattle.std.proofs.Math.Seq.{take-length}
 use Rattle.std.proofs.lemmas.Bool.{and_parts, and_from, or_cases, or_parts, or_from, or_left, or_right, ltb-true, leb-true, lt-ltb, le-leb, cases_lt, not-true, not_from_false, both_ways}
 use Rattle.am_alerts.specs.declared.spans.Span.{Span}
-use Rattle.am_alerts.specs.Spans.{holds, is_shut, are_apart, begins_behind}
+use Rattle.am_alerts.specs.Spans.{holds, is_muted, are_apart, begins_behind}
 use Rattle.am_hours.specs.Merging.{begin_by}
-use Rattle.am_alerts.proofs.Shut.{holds-says, holds-made, not_held, apart-parts, quiet-before}
+use Rattle.am_alerts.proofs.Muted.{holds-says, holds-made, not_held, apart-parts, quiet-before}
 use Rattle.am_hours.proofs.Apart.{same_tests, or_regroup, begin_by-later}
 
--- the first span, if there is one, begins at a moment or behind it
+-- the first span, if there is one, begins at a time or behind it
 abbrev pub begins_from : ℕ → List Span → Bool
 begins_from at [] = true
 begins_from at (s ∷ spans) = nat_le at s.from
@@ -26,13 +26,13 @@ and_true : (a : Bool) → (a && true) ≡ a
 and_true true = refl
 and_true false = refl
 
--- the gaps up to a moment, and the spans from there on
+-- the gaps up to a time, and the spans from there on
 pub record IsOutside (all : List Span) (end : ℕ) (gaps : List Span) (at : ℕ) (rest : List Span) : Type 0 where
   pub apart : are_apart gaps ≡ true
   pub spans : are_apart rest ≡ true
   pub begun : begin_by at gaps ≡ true
   pub ahead : begins_from at rest ≡ true
-  pub held : (t : ℕ) → (is_shut gaps t || ((nat_le at t && nat_lt t end) && not (is_shut rest t))) ≡ (nat_lt t end && not (is_shut all t))
+  pub held : (t : ℕ) → (is_muted gaps t || ((nat_le at t && nat_lt t end) && not (is_muted rest t))) ≡ (nat_lt t end && not (is_muted all t))
 
 zero_le : (t end : ℕ) → (nat_le 0 t && nat_lt t end) ≡ nat_lt t end
 zero_le t end = ap (λ b. b && nat_lt t end) (le-leb 0 t (omega arith))
@@ -43,15 +43,15 @@ outside-begins all end h = record {
   spans = h;
   begun = refl;
   ahead = begins_from-zero all;
-  held = λ t. ap (λ b. b && not (is_shut all t)) (zero_le t end);
+  held = λ t. ap (λ b. b && not (is_muted all t)) (zero_le t end);
 }
 
 gap-in : (s g : Span) (at end t : ℕ) (rest : List Span) → are_apart (s ∷ rest) ≡ true → at ≤ s.from → g.from ≡ at → g.to ≡ min s.from end
-    → (holds g t || ((nat_le s.to t && nat_lt t end) && not (is_shut rest t))) ≡ true
-    → ((nat_le at t && nat_lt t end) && not (holds s t || is_shut rest t)) ≡ true
+    → (holds g t || ((nat_le s.to t && nat_lt t end) && not (is_muted rest t))) ≡ true
+    → ((nat_le at t && nat_lt t end) && not (holds s t || is_muted rest t)) ≡ true
 gap-in s g at end t rest h ahead from to held =
     let p = apart-parts s rest h in
-    let R = is_shut rest t in
+    let R = is_muted rest t in
     elim (or_cases (holds g t) ((nat_le s.to t && nat_lt t end) && not R) held) [
       | inl a ↦
           let q = holds-says g t a in
@@ -72,10 +72,10 @@ gap-in s g at end t rest h ahead from to held =
     ]
 
 gap-out : (s g : Span) (at end t : ℕ) (rest : List Span) → g.from ≡ at → g.to ≡ min s.from end
-    → ((nat_le at t && nat_lt t end) && not (holds s t || is_shut rest t)) ≡ true
-    → (holds g t || ((nat_le s.to t && nat_lt t end) && not (is_shut rest t))) ≡ true
+    → ((nat_le at t && nat_lt t end) && not (holds s t || is_muted rest t)) ≡ true
+    → (holds g t || ((nat_le s.to t && nat_lt t end) && not (is_muted rest t))) ≡ true
 gap-out s g at end t rest from to held =
-    let R = is_shut rest t in
+    let R = is_muted rest t in
     let q = and_parts (nat_le at t && nat_lt t end) (not (holds s t || R)) held in
     let r = and_parts (nat_le at t) (nat_lt t end) q.0 in
     let le = leb-true at t r.0 in
@@ -98,7 +98,7 @@ gap-out s g at end t rest from to held =
 -- a span is behind, and the gap before it is added
 pub outside-step : (all : List Span) (end : ℕ) (gaps : List Span) (at : ℕ) (s : Span) (rest gaps' : List Span) (g : Span)
     → IsOutside all end gaps at (s ∷ rest) → g.from ≡ at → g.to ≡ min s.from end → are_apart gaps' ≡ true
-    → begin_by at gaps' ≡ true → ((t : ℕ) → is_shut gaps' t ≡ (is_shut gaps t || holds g t))
+    → begin_by at gaps' ≡ true → ((t : ℕ) → is_muted gaps' t ≡ (is_muted gaps t || holds g t))
     → IsOutside all end gaps' s.to rest
 outside-step all end gaps at s rest gaps' g o from to apart begins held =
     let p = apart-parts s rest o.spans in
@@ -109,10 +109,10 @@ outside-step all end gaps at s rest gaps' g o from to apart begins held =
       begun = begin_by-later gaps' at s.to (omega (arith, ahead, p.0)) begins;
       ahead = begins_from-behind s.to rest p.1;
       held = λ t.
-          let R = is_shut rest t in
+          let R = is_muted rest t in
           ap (λ b. b || ((nat_le s.to t && nat_lt t end) && not R)) (held t)
-          ∙ sym (or_regroup (is_shut gaps t) (holds g t) ((nat_le s.to t && nat_lt t end) && not R))
-          ∙ ap (λ b. is_shut gaps t || b)
+          ∙ sym (or_regroup (is_muted gaps t) (holds g t) ((nat_le s.to t && nat_lt t end) && not R))
+          ∙ ap (λ b. is_muted gaps t || b)
           (same_tests (holds g t || ((nat_le s.to t && nat_lt t end) && not R))
           ((nat_le at t && nat_lt t end) && not (holds s t || R))
           (gap-in s g at end t rest o.spans ahead from to) (gap-out s g at end t rest from to))
@@ -121,13 +121,13 @@ outside-step all end gaps at s rest gaps' g o from to apart begins held =
 
 -- where no span is left, the last gap is added
 pub outside-ends : (all : List Span) (end : ℕ) (gaps : List Span) (at : ℕ) (gaps' : List Span) (g : Span)
-    → IsOutside all end gaps at [] → g.from ≡ at → g.to ≡ end → (t : ℕ) → is_shut gaps' t ≡ (is_shut gaps t || holds g t)
-    → is_shut gaps' t ≡ (nat_lt t end && not (is_shut all t))
+    → IsOutside all end gaps at [] → g.from ≡ at → g.to ≡ end → (t : ℕ) → is_muted gaps' t ≡ (is_muted gaps t || holds g t)
+    → is_muted gaps' t ≡ (nat_lt t end && not (is_muted all t))
 outside-ends all end gaps at gaps' g o from to t held =
     held
-    ∙ ap (λ n. is_shut gaps t || (nat_le n t && nat_lt t g.to)) from
-    ∙ ap (λ n. is_shut gaps t || (nat_le at t && nat_lt t n)) to
-    ∙ ap (λ b. is_shut gaps t || b) (sym (and_true (nat_le at t && nat_lt t end)))
+    ∙ ap (λ n. is_muted gaps t || (nat_le n t && nat_lt t g.to)) from
+    ∙ ap (λ n. is_muted gaps t || (nat_le at t && nat_lt t n)) to
+    ∙ ap (λ b. is_muted gaps t || b) (sym (and_true (nat_le at t && nat_lt t end)))
     ∙ o.held t
 
 rest-whole : (x : Span) (rest : List Span) → take (length (x ∷ rest) - 1) rest ≡ rest
@@ -138,7 +138,7 @@ rest-whole x rest =
 -- the same step, of a list that isn't empty
 pub outside-next : (all : List Span) (end : ℕ) (gaps : List Span) (at : ℕ) (xs : List Span) (d : Span) (gaps' : List Span) (g : Span)
     → 1 ≤ length xs → IsOutside all end gaps at xs → g.from ≡ at → g.to ≡ min (get_or xs 0 d).from end → are_apart gaps' ≡ true
-    → begin_by at gaps' ≡ true → ((t : ℕ) → is_shut gaps' t ≡ (is_shut gaps t || holds g t))
+    → begin_by at gaps' ≡ true → ((t : ℕ) → is_muted gaps' t ≡ (is_muted gaps t || holds g t))
     → IsOutside all end gaps' (get_or xs 0 d).to (take (length xs - 1) (drop 1 xs))
 outside-next all end gaps at [] d gaps' g some o from to apart begins held = absurd (omega (arith, some))
 outside-next all end gaps at (x ∷ rest) d gaps' g some o from to apart begins held =

@@ -10,13 +10,13 @@ pub mod DaySpans
 pub mod Ends
 -- the gaps of a list of spans
 pub mod Gaps
--- why moments make no list of spans
+-- why times make no list of spans
 pub mod Late
 -- seconds and instants of clocks
 pub mod Seconds
 -- pushing a span onto a list, the merge of two lists, and the gaps of a list
 pub mod Merges
--- the place of a text among names
+-- the index of a text among names
 pub mod Named
 -- the numbers that texts write
 pub mod Numbers

@@ -4,9 +4,9 @@ use Rattle.std.specs.Prelude.{◌||◌, ◌⊎◌}
 use Rattle.std.proofs.lemmas.Bool.{or_cases, or_left, or_right, ltb-true, leb-true, cases_lt}
 use Rattle.std.proofs.lemmas.List.Folds.{list_any-append}
 use Rattle.am_alerts.specs.declared.spans.Span.{Span}
-use Rattle.am_alerts.specs.Spans.{holds, is_shut, are_apart}
+use Rattle.am_alerts.specs.Spans.{holds, is_muted, are_apart}
 use Rattle.am_hours.specs.Merging.{begin_by, begins_after, IsNext}
-use Rattle.am_alerts.proofs.Shut.{holds-says, holds-made, not_held, apart-parts}
+use Rattle.am_alerts.proofs.Muted.{holds-says, holds-made, not_held, apart-parts}
 use Rattle.am_hours.proofs.Apart.{same_tests, or_regroup, begin_by-later}
 
 pub or_false : (a : Bool) → (a || false) ≡ a
@@ -17,13 +17,13 @@ or_false false = refl
 pub holds-empty : (s : Span) (t : ℕ) → s.to ≤ s.from → holds s t ≡ false
 holds-empty s t empty = not_held s t (λ held. let p = holds-says s t held in omega (arith, p.0, p.1))
 
-pub shut-empty : (xs : List Span) (s : Span) (t : ℕ) → s.to ≤ s.from → is_shut xs t ≡ (is_shut xs t || holds s t)
-shut-empty xs s t empty = sym (ap (λ b. is_shut xs t || b) (holds-empty s t empty) ∙ or_false (is_shut xs t))
+pub muted-empty : (xs : List Span) (s : Span) (t : ℕ) → s.to ≤ s.from → is_muted xs t ≡ (is_muted xs t || holds s t)
+muted-empty xs s t empty = sym (ap (λ b. is_muted xs t || b) (holds-empty s t empty) ∙ or_false (is_muted xs t))
 
 -- a span at the end
-pub shut-more : (xs : List Span) (s : Span) (t : ℕ) → is_shut (xs ++ s ∷ []) t ≡ (is_shut xs t || holds s t)
-shut-more xs s t =
-    list_any-append (λ x. holds x t) xs (s ∷ []) ∙ ap (λ b. is_shut xs t || b) (or_false (holds s t))
+pub muted-more : (xs : List Span) (s : Span) (t : ℕ) → is_muted (xs ++ s ∷ []) t ≡ (is_muted xs t || holds s t)
+muted-more xs s t =
+    list_any-append (λ x. holds x t) xs (s ∷ []) ∙ ap (λ b. is_muted xs t || b) (or_false (holds s t))
 
 -- a span that goes on where the last one ends, or before
 pub holds-joined : (l s j : Span) (t : ℕ) → l.from ≤ s.from → s.from ≤ l.to → l.from < l.to → s.from < s.to
@@ -45,14 +45,14 @@ holds-joined l s j t first touch some more from long longer exact =
       | inr a ↦ let p = holds-says s t a in holds-made j t (omega (arith, p.0, from)) (omega (arith, p.1))
     ])
 
-pub shut-joined : (xs : List Span) (l s j : Span) (t : ℕ) → l.from ≤ s.from → s.from ≤ l.to → l.from < l.to → s.from < s.to
+pub muted-joined : (xs : List Span) (l s j : Span) (t : ℕ) → l.from ≤ s.from → s.from ≤ l.to → l.from < l.to → s.from < s.to
     → j.from ≡ l.from → l.to ≤ j.to → s.to ≤ j.to → (l.to ≡ j.to) ⊎ (s.to ≡ j.to)
-    → is_shut (xs ++ j ∷ []) t ≡ (is_shut (xs ++ l ∷ []) t || holds s t)
-shut-joined xs l s j t first touch some more from long longer exact =
-    shut-more xs j t
-    ∙ ap (λ b. is_shut xs t || b) (holds-joined l s j t first touch some more from long longer exact)
-    ∙ or_regroup (is_shut xs t) (holds l t) (holds s t)
-    ∙ ap (λ b. b || holds s t) (sym (shut-more xs l t))
+    → is_muted (xs ++ j ∷ []) t ≡ (is_muted (xs ++ l ∷ []) t || holds s t)
+muted-joined xs l s j t first touch some more from long longer exact =
+    muted-more xs j t
+    ∙ ap (λ b. is_muted xs t || b) (holds-joined l s j t first touch some more from long longer exact)
+    ∙ or_regroup (is_muted xs t) (holds l t) (holds s t)
+    ∙ ap (λ b. b || holds s t) (sym (muted-more xs l t))
 
 -- all that was joined begins no later than what is left
 abbrev pub goes_before : List Span → List Span → Bool
@@ -70,7 +70,7 @@ pub record IsMerged (first second joined a b : List Span) : Type 0 where
   pub other : are_apart b ≡ true
   pub before_one : goes_before joined a ≡ true
   pub before_other : goes_before joined b ≡ true
-  pub held : (t : ℕ) → (is_shut joined t || (is_shut a t || is_shut b t)) ≡ (is_shut first t || is_shut second t)
+  pub held : (t : ℕ) → (is_muted joined t || (is_muted a t || is_muted b t)) ≡ (is_muted first t || is_muted second t)
 
 pub merge-begins : (first second : List Span) → are_apart first ≡ true → are_apart second ≡ true
     → IsMerged first second [] first second
@@ -119,7 +119,7 @@ next-begins first second joined a b s a' b' m (inr (e, f, h)) =
 -- one step of a merge
 pub merge-step : (first second joined a b : List Span) (s : Span) (a' b' joined' : List Span) → IsMerged first second joined a b
     → IsNext a b s a' b' → are_apart joined' ≡ true → begin_by s.from joined' ≡ true
-    → ((t : ℕ) → is_shut joined' t ≡ (is_shut joined t || holds s t))
+    → ((t : ℕ) → is_muted joined' t ≡ (is_muted joined t || holds s t))
     → IsMerged first second joined' a' b'
 merge-step first second joined a b s a' b' joined' m (inl (e, f, h)) apart begins held =
     let one : are_apart (s ∷ a') ≡ true = subst (λ (xs : List Span). are_apart xs ≡ true) e m.one in
@@ -130,10 +130,10 @@ merge-step first second joined a b s a' b' joined' m (inl (e, f, h)) apart begin
       before_one = goes_before-rest joined' s a' one begins;
       before_other = subst (λ (xs : List Span). goes_before joined' xs ≡ true) (sym f) (goes_before-other joined' s b h begins);
       held = λ t.
-          ap (λ c. c || (is_shut a' t || is_shut b' t)) (held t)
-          ∙ ap (λ (xs : List Span). (is_shut joined t || holds s t) || (is_shut a' t || is_shut xs t)) f
-          ∙ move_one (is_shut joined t) (holds s t) (is_shut a' t) (is_shut b t)
-          ∙ ap (λ (xs : List Span). is_shut joined t || (is_shut xs t || is_shut b t)) (sym e)
+          ap (λ c. c || (is_muted a' t || is_muted b' t)) (held t)
+          ∙ ap (λ (xs : List Span). (is_muted joined t || holds s t) || (is_muted a' t || is_muted xs t)) f
+          ∙ move_one (is_muted joined t) (holds s t) (is_muted a' t) (is_muted b t)
+          ∙ ap (λ (xs : List Span). is_muted joined t || (is_muted xs t || is_muted b t)) (sym e)
           ∙ m.held t;
     }
 merge-step first second joined a b s a' b' joined' m (inr (e, f, h)) apart begins held =
@@ -145,17 +145,17 @@ merge-step first second joined a b s a' b' joined' m (inr (e, f, h)) apart begin
       before_one = subst (λ (xs : List Span). goes_before joined' xs ≡ true) (sym f) (goes_before-other joined' s a h begins);
       before_other = goes_before-rest joined' s b' other begins;
       held = λ t.
-          ap (λ c. c || (is_shut a' t || is_shut b' t)) (held t)
-          ∙ ap (λ (xs : List Span). (is_shut joined t || holds s t) || (is_shut xs t || is_shut b' t)) f
-          ∙ move_other (is_shut joined t) (holds s t) (is_shut a t) (is_shut b' t)
-          ∙ ap (λ (xs : List Span). is_shut joined t || (is_shut a t || is_shut xs t)) (sym e)
+          ap (λ c. c || (is_muted a' t || is_muted b' t)) (held t)
+          ∙ ap (λ (xs : List Span). (is_muted joined t || holds s t) || (is_muted xs t || is_muted b' t)) f
+          ∙ move_other (is_muted joined t) (holds s t) (is_muted a t) (is_muted b' t)
+          ∙ ap (λ (xs : List Span). is_muted joined t || (is_muted a t || is_muted xs t)) (sym e)
           ∙ m.held t;
     }
 
 -- where nothing is left, all is joined
 pub merge-ends : (first second joined a b : List Span) → IsMerged first second joined a b → length a ≡ 0 → length b ≡ 0
-    → (t : ℕ) → is_shut joined t ≡ (is_shut first t || is_shut second t)
-merge-ends first second joined [] [] m p q t = sym (or_false (is_shut joined t)) ∙ m.held t
+    → (t : ℕ) → is_muted joined t ≡ (is_muted first t || is_muted second t)
+merge-ends first second joined [] [] m p q t = sym (or_false (is_muted joined t)) ∙ m.held t
 merge-ends first second joined (x ∷ a) b m p q t = absurd (omega (arith, p))
 merge-ends first second joined [] (x ∷ b) m p q t = absurd (omega (arith, q))
 

@@ -1,4 +1,4 @@
--- The place of a text among names.
+-- The index of a text among names.
 use Rattle.std.proofs.Common.{◌≡◌, ℕ, ◌<◌, Bool, true, false, ltb, List, [], length, get_or, map, Some, None, sym, ap, ◌∙◌, arith}
 use Rattle.std.specs.Char.{to_ascii_lowercase}
 use Rattle.std.specs.List.{position_or_len}
@@ -6,7 +6,7 @@ use Rattle.std.specs.Str.{str_eq_ignore_ascii_case}
 use Rattle.std.proofs.lemmas.Bool.{both_ways, cond-false, cond-true, false_from_ne_true, le-ltb, lt-ltb}
 use Rattle.std.proofs.lemmas.List.Sums.{position_or_len_is}
 use Rattle.std.proofs.lemmas.Slice.Eq.{bytes_eq-Decides}
-use Rattle.am_hours.specs.Reading.{place_among}
+use Rattle.am_hours.specs.Reading.{index_among}
 
 -- the same letters in either case
 pub same_letters : (a b : List ℕ) → map to_ascii_lowercase a ≡ map to_ascii_lowercase b → str_eq_ignore_ascii_case a b ≡ true
@@ -23,7 +23,7 @@ other_letters a b test f h =
 abbrev pub IsNoneBelow : List (List ℕ) → List ℕ → ℕ → Type 0
 IsNoneBelow names text n = (k : ℕ) → k < n → str_eq_ignore_ascii_case text (get_or names k []) ≡ false
 
-pub named_none : (names : List (List ℕ)) (text : List ℕ) (n : ℕ) → n ≡ length names → IsNoneBelow names text n → None ≡ place_among names text
+pub named_none : (names : List (List ℕ)) (text : List ℕ) (n : ℕ) → n ≡ length names → IsNoneBelow names text n → None ≡ index_among names text
 named_none names text n e h =
     let test = str_eq_ignore_ascii_case text in
     let at : position_or_len test names ≡ n =
@@ -32,7 +32,7 @@ named_none names text n e h =
     (le-ltb (position_or_len test names) (length names) (omega arith)))
 
 pub named_some : (names : List (List ℕ)) (text : List ℕ) (n : ℕ) → n < length names → IsNoneBelow names text n
-    → str_eq_ignore_ascii_case text (get_or names n []) ≡ true → Some n ≡ place_among names text
+    → str_eq_ignore_ascii_case text (get_or names n []) ≡ true → Some n ≡ index_among names text
 named_some names text n l h e =
     let test = str_eq_ignore_ascii_case text in
     let at : position_or_len test names ≡ n = position_or_len_is test names n [] (omega arith) h (λ _. e) in

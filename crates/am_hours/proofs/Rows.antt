@@ -35,7 +35,7 @@ row-sound from (p ∷ pieces) to h =
     let q = row-parts from p pieces to h in
     and_from (is_sound p) (list_all is_sound pieces) q.1 (row-sound p.to pieces to q.2)
 
--- a row holds each moment between
+-- a row holds each time between
 pub row-holds : (pieces : List Piece) (from to t : ℕ) → are_in_row from pieces to ≡ true → from ≤ t → t < to
     → list_any (λ p. is_in p t) pieces ≡ true
 row-holds [] from to t h low high = absurd (let e = eqb-true from to h in omega (arith, e))

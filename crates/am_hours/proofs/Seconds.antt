@@ -11,7 +11,7 @@ use Rattle.jiff.specs.Words.{IsTimestampNanos, nanos_of_seconds}
 use Rattle.jiff_core.specs.Calendar.{days_from_civil}
 use Rattle.jiff_core.specs.DateTime.{civil_nanos}
 use Rattle.jiff_core.specs.Time.{time_nanos}
-use Rattle.am_hours.specs.Clocks.{AreTold, IsNoClock, IsNoPiece, IsPieceOf, instant_at, days_between, days_from, first_of, is_instant, month_begin, month_later, month_start, offset_in, second_of}
+use Rattle.am_hours.specs.Clocks.{AreDaysOfMonth, IsNoClock, IsNoPiece, IsPieceOf, instant_at, days_between, days_from, first_of, is_instant, month_begin, month_later, month_start, offset_in, second_of}
 use Rattle.am_hours.specs.Pieces.{are_in_row}
 use Rattle.am_hours.specs.Reading.{and_then}
 use Rattle.am_hours.specs.Showing.{IsLocal, Shows, milliseconds_in}
@@ -91,16 +91,16 @@ second_of-made zone local guess offset e f =
     ∙ ap (and_then (λ (g : ℤ). and_then (λ (o : ℤ). Ok (local -ℤ o)) (offset_in zone (local -ℤ g)))) e
 
 -- the days of a month, where its first midnight is known
-pub told_from : (zone : TimeZone) (year : ℤ) (month : ℕ) (start first n : ℤ) (dt : DateTime) (told : Result ℕ ClockFault)
+pub days_counted_from : (zone : TimeZone) (year : ℤ) (month : ℕ) (start first n : ℤ) (dt : DateTime) (counted : Result ℕ ClockFault)
     → Ok start ≡ month_start year month → Ok first ≡ second_of zone start → IsTimestampNanos (nanos_of_seconds first)
-    → n ≡ nanos_of_seconds first → Shows zone n dt → told ≡ days_from zone first dt → AreTold zone year month told
-told_from zone year month start first n dt told s f i e shows t =
+    → n ≡ nanos_of_seconds first → Shows zone n dt → counted ≡ days_from zone first dt → AreDaysOfMonth zone year month counted
+days_counted_from zone year month start first n dt counted s f i e shows t =
     let check : ℤ → Result ℤ ClockFault = λ x. cond (is_instant (nanos_of_seconds x)) (Ok x) (Err OutOfRange) in
     let at : Ok first ≡ first_of zone year month =
     sym (cond-true (is_instant (nanos_of_seconds first)) (Ok first) (Err OutOfRange) ((is_instant-decides (nanos_of_seconds first)).1 i))
     ∙ ap (and_then check) (f ∙ ap (and_then (second_of zone)) s) in
     subst (λ (r : Result ℤ ClockFault). MatchResult r
-    (λ x. (d : DateTime) × Shows zone (nanos_of_seconds x) d × (told ≡ days_from zone x d)) (λ fault. told ≡ Err fault)) at
+    (λ x. (d : DateTime) × Shows zone (nanos_of_seconds x) d × (counted ≡ days_from zone x d)) (λ fault. counted ≡ Err fault)) at
     (dt, subst (λ (x : ℤ). Shows zone x dt) e shows, t)
 
 -- a clock that shows no year from 1 on
@@ -124,11 +124,11 @@ days_from-local zone first dt local h is =
     (Err OutOfRange) late)
 
 -- the same days of the same month
-pub told_at : (zone : TimeZone) (year year' : ℤ) (month month' : ℕ) (told told' : Result ℕ ClockFault) → year ≡ year' → month ≡ month'
-    → told ≡ told' → AreTold zone year month told → AreTold zone year' month' told'
-told_at zone year year' month month' told told' y m t h =
-    subst (λ (x : Result ℕ ClockFault). AreTold zone year' month' x) t
-    (subst (λ (x : ℕ). AreTold zone year' x told) m (subst (λ (x : ℤ). AreTold zone x month told) y h))
+pub days_counted_at : (zone : TimeZone) (year year' : ℤ) (month month' : ℕ) (counted counted' : Result ℕ ClockFault) → year ≡ year' → month ≡ month'
+    → counted ≡ counted' → AreDaysOfMonth zone year month counted → AreDaysOfMonth zone year' month' counted'
+days_counted_at zone year year' month month' counted counted' y m t h =
+    subst (λ (x : Result ℕ ClockFault). AreDaysOfMonth zone year' month' x) t
+    (subst (λ (x : ℕ). AreDaysOfMonth zone year' x counted) m (subst (λ (x : ℤ). AreDaysOfMonth zone x month counted) y h))
 
 -- what a refusal says
 pub refused_by : {X : Type 0} (r : Result X ClockFault) (fault : ClockFault) (P : ClockFault → Type 0) → r ≡ Err fault → P fault → IfErr r P

@@ -91,9 +91,9 @@ days_from zone first dt =
 
 -- the days of a month as Alertmanager counts them (timeinterval.daysInMonth): the whole days from its first midnight to a
 -- month later on the clock
-abbrev pub AreTold : TimeZone → ℤ → ℕ → Result ℕ ClockFault → Type 0
-AreTold zone year month told = MatchResult (first_of zone year month)
-    (λ first. (dt : DateTime) × Shows zone (nanos_of_seconds first) dt × (told ≡ days_from zone first dt)) (λ fault. told ≡ Err fault)
+abbrev pub AreDaysOfMonth : TimeZone → ℤ → ℕ → Result ℕ ClockFault → Type 0
+AreDaysOfMonth zone year month counted = MatchResult (first_of zone year month)
+    (λ first. (dt : DateTime) × Shows zone (nanos_of_seconds first) dt × (counted ≡ days_from zone first dt)) (λ fault. counted ≡ Err fault)
 
 -- a piece of a zone's clock: it begins with what the clock shows then, and ends with the month, where the clock changes or at
 -- the horizon
@@ -104,18 +104,18 @@ pub record IsPieceOf (zone : TimeZone) (start : ℤ) (horizon : ℕ) (p : Piece)
   pub change : Option ℕ
   pub changes : until_next (next_at zone (instant_at start p.from)) (instant_at start p.from) ≡ Ok change
   pub ends : p.to ≡ min horizon (p.from + stays (left_in_month dt) change)
-  pub told : AreTold zone dt.date.year dt.date.month (Ok p.days_told)
+  pub counted : AreDaysOfMonth zone dt.date.year dt.date.month (Ok p.days_of_month_at)
 
 -- why a zone's clock has no piece at an instant: jiff hasn't the instant, the clock doesn't show a year from 1 on, the days
--- of its month can't be told; or a change isn't behind the instant
+-- of its month can't be counted; or a change isn't behind the instant
 abbrev pub IsNoPiece : TimeZone → ℤ → ClockFault → Type 0
 IsNoPiece zone n OutOfRange = (IsTimestampNanos n → ⊥)
-    ⊎ ((dt : DateTime) × Shows zone n dt × ((dt.date.year ≤ℤ pos 0) ⊎ AreTold zone dt.date.year dt.date.month (Err OutOfRange)))
+    ⊎ ((dt : DateTime) × Shows zone n dt × ((dt.date.year ≤ℤ pos 0) ⊎ AreDaysOfMonth zone dt.date.year dt.date.month (Err OutOfRange)))
 IsNoPiece zone n BadZone = until_next (next_at zone n) n ≡ Err BadZone
 IsNoPiece zone n TooLong = ⊥
 IsNoPiece zone n NoMemory = ⊥
 
--- pieces of a zone's clock lead to a moment before the horizon at which it has none
+-- pieces of a zone's clock lead to a time before the horizon at which it has none
 pub record LeadsToNoPiece (zone : TimeZone) (start : ℤ) (horizon : ℕ) (fault : ClockFault) : Type 0 where
   pub pieces : List Piece
   pub at : ℕ

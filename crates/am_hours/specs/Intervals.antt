@@ -4,8 +4,8 @@ use Rattle.std.specs.List.{list_any}
 use Rattle.std.specs.Option.{option_map}
 use Rattle.std.specs.Prelude.{Vec}
 use Rattle.std.specs.Global.{Global}
-use Rattle.am_hours.specs.declared.interval.DayPlace.{DayPlace}
-use Rattle.am_hours.specs.declared.interval.DayPlace.TheVariants.{FromStart, BeforeLast}
+use Rattle.am_hours.specs.declared.interval.MonthDay.{MonthDay}
+use Rattle.am_hours.specs.declared.interval.MonthDay.TheVariants.{FromStart, BeforeLast}
 use Rattle.am_hours.specs.declared.interval.DayRange.{DayRange}
 use Rattle.am_hours.specs.declared.interval.InclusiveRange.{InclusiveRange}
 use Rattle.am_hours.specs.declared.interval.TimeRange.{TimeRange}
@@ -23,15 +23,15 @@ pub record IntervalData : Type 0 where
 abbrev pub items_of : {X : Type 0} → Option (Vec X Global) → Option (List X)
 items_of xs = option_map (λ v. v.items) xs
 
--- the day of a month of so many days that a place names, from its start or back from its last day
-abbrev pub place_in : ℕ → DayPlace → ℕ
-place_in days (FromStart n) = n
-place_in days (BeforeLast n) = days - n
+-- the day of a month of so many days that an index names, from its start or back from its last day
+abbrev pub index_in : ℕ → MonthDay → ℕ
+index_in days (FromStart n) = n
+index_in days (BeforeLast n) = days - n
 
 -- a day is in a range of days of its month, which ends with the month at the latest
 abbrev pub is_on : ℕ → ℕ → DayRange → Bool
 is_on days day r =
-    nat_le (place_in days r.first) days && nat_le (place_in days r.first) day && nat_le day (min (place_in days r.last) days)
+    nat_le (index_in days r.first) days && nat_le (index_in days r.first) day && nat_le day (min (index_in days r.last) days)
 
 -- a number is in a range, which counts both its ends
 abbrev pub is_between : ℕ → InclusiveRange → Bool
@@ -49,18 +49,18 @@ any_of test (Some xs) = list_any test xs
 -- an interval holds on a date, at some times of it
 abbrev pub is_on_date : IntervalData → Shown → Bool
 is_on_date i m =
-    any_of (is_on m.days_told m.day) i.days_of_month && any_of (is_between m.month) i.months
+    any_of (is_on m.days_of_month_at m.day) i.days_of_month && any_of (is_between m.month) i.months
     && any_of (is_between m.weekday) i.weekdays && any_of (is_between m.year) i.years
 
 -- an interval holds while a clock shows this
 abbrev pub contains : IntervalData → Shown → Bool
 contains i m = any_of (is_during m.minute) i.times && is_on_date i m
 
--- a place of a day: the 1st to the 31st, or none to 30 days before the last
-abbrev pub IsGoodDayPlace : DayPlace → Type 0
-IsGoodDayPlace (FromStart n) = (1 ≤ n) × (n ≤ 31)
-IsGoodDayPlace (BeforeLast n) = n ≤ 30
+-- an index of a day: the 1st to the 31st, or none to 30 days before the last
+abbrev pub IsGoodMonthDay : MonthDay → Type 0
+IsGoodMonthDay (FromStart n) = (1 ≤ n) × (n ≤ 31)
+IsGoodMonthDay (BeforeLast n) = n ≤ 30
 
--- both ends of a range of days are such places
+-- both ends of a range of days are such days
 abbrev pub IsGoodDayRange : DayRange → Type 0
-IsGoodDayRange r = IsGoodDayPlace r.first × IsGoodDayPlace r.last
+IsGoodDayRange r = IsGoodMonthDay r.first × IsGoodMonthDay r.last

@@ -6,7 +6,7 @@ use Rattle.am_hours.specs.declared.fault.HoursFault.TheVariants.{NoMemory, TooMa
 use Rattle.am_alerts.specs.declared.spans.Span.{Span}
 use Rattle.std.specs.List.{list_all}
 
--- each span begins at a moment at the latest
+-- each span begins at a time at the latest
 abbrev pub begin_by : ℕ → List Span → Bool
 begin_by t spans = list_all (λ s. nat_le s.from t) spans
 

@@ -6,19 +6,19 @@ use Rattle.am_hours.specs.declared.interval.Shown.{Shown}
 use Rattle.am_hours.specs.declared.piece.Piece.{Piece}
 use Rattle.am_hours.specs.Intervals.{IntervalData, contains}
 
--- a piece holds a moment
+-- a piece holds a time
 abbrev pub is_in : Piece → ℕ → Bool
 is_in p t = nat_le p.from t && nat_lt t p.to
 
--- the milliseconds from the midnight before a piece to a moment of the piece, on the local clock
+-- the milliseconds from the midnight before a piece to a time of the piece, on the local clock
 abbrev pub local_at : Piece → ℕ → ℕ
 local_at p t = p.time + (t - p.from)
 
--- the days from the first of a piece to a moment of the piece
+-- the days from the first of a piece to a time of the piece
 abbrev pub day_at : Piece → ℕ → ℕ
 day_at p t = local_at p t / 86400000
 
--- the minute of the day at a moment of a piece
+-- the minute of the day at a time of a piece
 abbrev pub minute_at : Piece → ℕ → ℕ
 minute_at p t = local_at p t % 86400000 / 60000
 
@@ -30,10 +30,10 @@ shown_on p day minute = record {
   month = p.month;
   weekday = (p.weekday + day) % 7;
   year = p.year;
-  days_told = p.days_told;
+  days_of_month_at = p.days_of_month_at;
 }
 
--- what the clock shows at a moment of a piece
+-- what the clock shows at a time of a piece
 abbrev pub shown : Piece → ℕ → Shown
 shown p t = shown_on p (day_at p t) (minute_at p t)
 
@@ -55,16 +55,16 @@ ranges_in (Some times) = length times
 abbrev pub most_spans : IntervalData → List Piece → ℕ
 most_spans i pieces = ranges_in i.times + sum_by (λ p. days_in p * ranges_in i.times) pieces
 
--- pieces follow each other from one moment to another, without a gap
+-- pieces follow each other from one time to another, without a gap
 abbrev pub are_in_row : ℕ → List Piece → ℕ → Bool
 are_in_row from [] to = from == to
 are_in_row from (p ∷ pieces) to = (p.from == from) && is_sound p && are_in_row p.to pieces to
 
--- an interval holds at a moment, by the clock of the piece that holds the moment
+-- an interval holds at a time, by the clock of the piece that holds the time
 abbrev pub contains_at : IntervalData → List Piece → ℕ → Bool
 contains_at i pieces t = list_any (λ p. is_in p t && contains i (shown p t)) pieces
 
--- a clock: its pieces, and the moment at which it ends
+-- a clock: its pieces, and the time at which it ends
 pub record ClockData : Type 0 where
   pub pieces : List Piece
   pub horizon : ℕ

@@ -9,8 +9,8 @@ use Rattle.std.specs.List.{slice_split}
 use Rattle.std.specs.Option.{option_or}
 use Rattle.std.specs.Str.{all_ascii_digits, bytes_eq, str_eq_ignore_ascii_case}
 use Rattle.std.specs.Str.Parse.{digits_value, signed_digits_value, without_leading_sign}
-use Rattle.am_hours.specs.declared.interval.DayPlace.{DayPlace}
-use Rattle.am_hours.specs.declared.interval.DayPlace.TheVariants.{FromStart, BeforeLast}
+use Rattle.am_hours.specs.declared.interval.MonthDay.{MonthDay}
+use Rattle.am_hours.specs.declared.interval.MonthDay.TheVariants.{FromStart, BeforeLast}
 use Rattle.am_hours.specs.declared.interval.DayRange.{DayRange}
 use Rattle.am_hours.specs.declared.interval.InclusiveRange.{InclusiveRange}
 use Rattle.am_hours.specs.declared.interval.TimeRange.{TimeRange}
@@ -18,7 +18,7 @@ use Rattle.am_hours.specs.declared.reading.RangeFault.{RangeFault}
 use Rattle.am_hours.specs.declared.reading.RangeFault.TheVariants.{BadForm, BadWeekday, BadDay, BadMonth, BadYear, BadTime, EndBeforeStart}
 use Rattle.am_hours.specs.declared.reading.RangeFault.TheVariants.{EndFromStart}
 
--- a colon: what stands between the ends of a range, and between hours and minutes
+-- a colon: what is between the ends of a range, and between hours and minutes
 abbrev pub is_colon : ℕ → Bool
 is_colon b = b == 58
 
@@ -43,9 +43,9 @@ abbrev pub range_of : {X Y : Type 0} → (List ℕ → Result X RangeFault) → 
 range_of end_in range_from text =
     and_then (λ ends. and_then (λ first. and_then (λ last. range_from first last) (end_in ends.1)) (end_in ends.0)) (ends_of text)
 
--- the place of a text among names, in either case of its letters
-abbrev pub place_among : List (List ℕ) → List ℕ → Option ℕ
-place_among names text = position (str_eq_ignore_ascii_case text) names
+-- the index of a text among names, in either case of its letters
+abbrev pub index_among : List (List ℕ) → List ℕ → Option ℕ
+index_among names text = position (str_eq_ignore_ascii_case text) names
 
 -- a number of 64 bits, from -2^63 to 2^63 - 1: `negsuc n` is -(n + 1)
 abbrev pub has_64_bits : ℤ → Bool
@@ -71,11 +71,11 @@ or_zero (negsuc n) = 0
 abbrev pub numbers_from : ℤ → ℤ → Result InclusiveRange RangeFault
 numbers_from first last = if int_lt last first then Err EndBeforeStart else Ok (record { first = or_zero first; last = or_zero last })
 
--- the range from one place to another
-abbrev pub places_from : ℕ → ℕ → Result InclusiveRange RangeFault
-places_from first last = if nat_lt last first then Err EndBeforeStart else Ok (record { first = first; last = last })
+-- the range from one index to another
+abbrev pub indexes_from : ℕ → ℕ → Result InclusiveRange RangeFault
+indexes_from first last = if nat_lt last first then Err EndBeforeStart else Ok (record { first = first; last = last })
 
--- the days of the week, from the place 0
+-- the days of the week, from the index 0
 abbrev pub weekday_names : List (List ℕ)
 weekday_names =
     codes "sunday" ∷ codes "monday" ∷ codes "tuesday" ∷ codes "wednesday" ∷ codes "thursday" ∷ codes "friday" ∷ codes "saturday" ∷ []
@@ -88,11 +88,11 @@ month_names =
 
 -- a day of the week, by its name
 abbrev pub weekday_in : List ℕ → Result ℕ RangeFault
-weekday_in text = ok_or (place_among weekday_names text) BadWeekday
+weekday_in text = ok_or (index_among weekday_names text) BadWeekday
 
 -- a month, by its name or as a number
 abbrev pub month_in : List ℕ → Result ℤ RangeFault
-month_in text = ok_or (option_or (option_map (λ place. pos (place + 1)) (place_among month_names text)) (number_in text)) BadMonth
+month_in text = ok_or (option_or (option_map (λ index. pos (index + 1)) (index_among month_names text)) (number_in text)) BadMonth
 
 -- a year
 abbrev pub year_in : List ℕ → Result ℤ RangeFault
@@ -100,7 +100,7 @@ year_in text = ok_or (number_in text) BadYear
 
 -- the days of the week that a text means
 abbrev pub weekdays_of : List ℕ → Result InclusiveRange RangeFault
-weekdays_of text = range_of weekday_in places_from text
+weekdays_of text = range_of weekday_in indexes_from text
 
 -- the months that a text means
 abbrev pub months_of : List ℕ → Result InclusiveRange RangeFault
@@ -115,9 +115,9 @@ abbrev pub day_in : List ℕ → Result ℤ RangeFault
 day_in text = ok_or (option_and_then (λ day. if is_in_range 1 31 (unsigned_abs day) then Some day else None) (number_in text)) BadDay
 
 -- where such a day is: -1 is the last, and `negsuc n` is -(n + 1)
-abbrev pub day_place : ℤ → DayPlace
-day_place (pos n) = FromStart n
-day_place (negsuc n) = BeforeLast n
+abbrev pub month_day : ℤ → MonthDay
+month_day (pos n) = FromStart n
+month_day (negsuc n) = BeforeLast n
 
 -- where it is in a month of 28 days, as Alertmanager compares it: a day from the end is one earlier than it would be
 abbrev pub in_short_month : ℤ → ℤ
@@ -128,7 +128,7 @@ abbrev pub days_from : ℤ → ℤ → Result DayRange RangeFault
 days_from first last =
     if is_negative first && is_positive last then Err EndFromStart
     else if int_lt (in_short_month last) (in_short_month first) then Err EndBeforeStart
-    else Ok (record { first = day_place first; last = day_place last })
+    else Ok (record { first = month_day first; last = month_day last })
 
 -- the days of the month that a text means
 abbrev pub days_of : List ℕ → Result DayRange RangeFault

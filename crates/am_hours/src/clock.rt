@@ -10,7 +10,7 @@ ghost use Rattle.am_hours.specs.Showing.{BeginsAsShown};
 ghost use Rattle.am_hours.specs.declared.clock.ClockFault.TheVariants.{TooLong};
 ghost use Rattle.am_hours.specs.declared.clock.TheConstants.{MAX_HORIZON};
 
-use crate::local::{LocalTime, days_told, instant_at, left_in_month, milliseconds_at};
+use crate::local::{LocalTime, days_of_month_at, instant_at, left_in_month, milliseconds_at};
 use crate::piece::Piece;
 use jiff::Timestamp;
 use jiff::tz::TimeZone;
@@ -18,7 +18,7 @@ use std::alloc::{AllocError, AllocFailed, Global};
 use std::marker::Model;
 use thiserror::Error;
 
-/// The last moment of a clock, in milliseconds from its start.
+/// The last time of a clock, in milliseconds from its start.
 pub const MAX_HORIZON: u64 = 1_000_000_000_000_000;
 
 /// Why there is no clock.
@@ -56,7 +56,7 @@ impl From<AllocFailed<Piece>> for ClockFault {
     }
 }
 
-/// A local clock: what it shows at each moment from 0 to a horizon, in milliseconds from a start.
+/// A local clock: what it shows at each time from 0 to a horizon, in milliseconds from a start.
 #[derive(Drop)]
 pub struct Clock {
     pieces: Vec<Piece>,
@@ -79,7 +79,7 @@ impl Clock {
     ///
     /// # Errors
     /// - `TooLong`: the horizon is above 10^15.
-    /// - `OutOfRange`: a moment, or the month behind it, isn't in the years 1 to 9999 of the clock.
+    /// - `OutOfRange`: a time, or the month behind it, isn't in the years 1 to 9999 of the clock.
     /// - `BadZone`: the changes of the zone's offset don't run forward.
     /// - `NoMemory`.
     pub fn new(
@@ -119,7 +119,7 @@ impl Clock {
         &self.pieces
     }
 
-    /// The moment at which the clock ends.
+    /// The time at which the clock ends.
     pub fn horizon(&self) -> u64
         ensures { result ≡ self.now.horizon }
     {
@@ -127,7 +127,7 @@ impl Clock {
     }
 }
 
-/// The piece that begins at a moment.
+/// The piece that begins at a time.
 fn piece_from(zone: TimeZone<'_>, origin: i64, at: u64, horizon: u64) -> Result<Piece, ClockFault>
     requires at { at < horizon }
     requires horizon { horizon ≤ 1000000000000000 }
@@ -142,7 +142,7 @@ fn piece_from(zone: TimeZone<'_>, origin: i64, at: u64, horizon: u64) -> Result<
     let civil = zone.to_datetime(now);
     let shown = LocalTime::of(civil)?;
     let stays = shorter(left_in_month(civil), until_change(zone, now)?);
-    let days_told = days_told(zone, &shown)?;
+    let days_of_month_at = days_of_month_at(zone, &shown)?;
     Ok(Piece {
         from: at,
         to: horizon.min(at + stays),
@@ -151,7 +151,7 @@ fn piece_from(zone: TimeZone<'_>, origin: i64, at: u64, horizon: u64) -> Result<
         month: shown.month,
         weekday: shown.weekday,
         year: shown.year,
-        days_told,
+        days_of_month_at,
     })
 }
 

@@ -47,7 +47,7 @@ impl From<SpansFault> for HoursFault {
     fn from(fault: SpansFault) -> HoursFault {
         match fault {
             SpansFault::NoMemory => HoursFault::NoMemory,
-            SpansFault::BadMoment => HoursFault::TooLong,
+            SpansFault::BadTime => HoursFault::TooLong,
             // (the lists of this crate are in their order)
             SpansFault::TooMany | SpansFault::BadOrder => HoursFault::TooMany,
         }

@@ -1,7 +1,7 @@
 //! Intervals of time, as Alertmanager has them (`timeinterval.TimeInterval`).
 ghost use Rattle.std.specs.Prelude.{◌≡◌, option_map};
 ghost use Rattle.std.specs.List.{list_any};
-ghost use Rattle.am_hours.specs.Intervals.{any_of, contains, is_between, is_during, is_on, is_on_date, items_of, place_in};
+ghost use Rattle.am_hours.specs.Intervals.{any_of, contains, is_between, is_during, is_on, is_on_date, items_of, index_in};
 
 use std::marker::Model;
 
@@ -21,7 +21,7 @@ pub struct InclusiveRange {
 
 /// A day of the month.
 #[derive(Clone, Copy)]
-pub enum DayPlace {
+pub enum MonthDay {
     /// This day, from 1.
     FromStart(u64),
     /// So many days before the last: `-1` is 0.
@@ -31,8 +31,8 @@ pub enum DayPlace {
 /// A range of days of the month, which counts both its ends.
 #[derive(Clone, Copy)]
 pub struct DayRange {
-    pub first: DayPlace,
-    pub last: DayPlace,
+    pub first: MonthDay,
+    pub last: MonthDay,
 }
 
 /// What a local clock shows.
@@ -49,7 +49,7 @@ pub struct Shown {
     pub year: u64,
     /// The days of the month as Alertmanager counts them: the whole 24 hours from its first
     /// midnight to the next month's. One less where clocks go forward in the month.
-    pub days_told: u64,
+    pub days_of_month_at: u64,
 }
 
 /// An interval: where a list is there, one of its elements has to hold. So an empty list never
@@ -113,7 +113,7 @@ impl Interval {
     pub fn is_on(&self, shown: &Shown) -> bool
         ensures { result ≡ is_on_date self.now shown.now }
     {
-        is_on_any(&self.days_of_month, shown.days_told, shown.day)
+        is_on_any(&self.days_of_month, shown.days_of_month_at, shown.day)
             && is_between_any(&self.months, shown.month)
             && is_between_any(&self.weekdays, shown.weekday)
             && is_between_any(&self.years, shown.year)
@@ -130,14 +130,14 @@ impl Interval {
     }
 }
 
-impl DayPlace {
+impl MonthDay {
     /// Returns the day of a month of so many days.
     fn day_in(self, days: u64) -> u64
-        ensures { result ≡ place_in days self }
+        ensures { result ≡ index_in days self }
     {
         match self {
-            DayPlace::FromStart(day) => day,
-            DayPlace::BeforeLast(before) => days.saturating_sub(before),
+            MonthDay::FromStart(day) => day,
+            MonthDay::BeforeLast(before) => days.saturating_sub(before),
         }
     }
 }

@@ -1,7 +1,7 @@
 //! Lists of spans that are apart: adding a span, the union of two lists, and the time outside one.
 ghost use Rattle.std.specs.Prelude.{◌≡◌, ◌≤◌, ℕ, ◌+◌, [], ◌∷◌, ◌++◌, ◌&&◌, ◌||◌, not};
 ghost use Rattle.std.specs.Prelude.{nat_lt, length, IfErr, IfOk, IsTrue, OnOk, IsNone, IfSome, IfNone, vec_len};
-ghost use Rattle.am_alerts.specs.Spans.{are_apart, holds, is_shut};
+ghost use Rattle.am_alerts.specs.Spans.{are_apart, holds, is_muted};
 ghost use Rattle.am_hours.specs.Merging.{IsNext, IsRefusal, begin_by};
 
 use crate::fault::HoursFault;
@@ -9,7 +9,7 @@ use am_alerts::limits::MAX_SPANS;
 use am_alerts::spans::Span;
 use std::alloc::Global;
 
-/// Returns the spans that hold the moments that `first` or `second` holds.
+/// Returns the spans that hold the times that `first` or `second` holds.
 ///
 /// # Errors
 /// `TooMany`: there would be more than 8,192 spans.
@@ -17,7 +17,7 @@ pub fn union(alloc: Global, first: &[Span], second: &[Span]) -> Result<Vec<Span>
     requires first { IsTrue (are_apart first.now) }
     requires second { IsTrue (are_apart second.now) }
     ensures held { IfOk result (λ spans. (t : ℕ) →
-        is_shut spans.items t ≡ (is_shut first.now t || is_shut second.now t)) }
+        is_muted spans.items t ≡ (is_muted first.now t || is_muted second.now t)) }
     ensures apart { IfOk result (λ spans. IsTrue (are_apart spans.items)) }
     ensures few { IfOk result (λ spans. vec_len spans ≤ MAX_SPANS) }
     ensures count { IfOk result (λ spans. vec_len spans ≤ length first.now + length second.now) }
@@ -34,14 +34,14 @@ pub fn union(alloc: Global, first: &[Span], second: &[Span]) -> Result<Vec<Span>
     Ok(joined)
 }
 
-/// Returns the spans before `end` that hold the moments that no span of the list holds.
+/// Returns the spans before `end` that hold the times that no span of the list holds.
 ///
 /// # Errors
 /// `TooMany`: there would be more than 8,192 spans.
 pub fn outside(alloc: Global, spans: &[Span], end: u64) -> Result<Vec<Span>, HoursFault>
     requires { IsTrue (are_apart spans.now) }
     ensures held { IfOk result (λ gaps. (t : ℕ) →
-        is_shut gaps.items t ≡ (nat_lt t end && not (is_shut spans.now t))) }
+        is_muted gaps.items t ≡ (nat_lt t end && not (is_muted spans.now t))) }
     ensures apart { IfOk result (λ gaps. IsTrue (are_apart gaps.items)) }
     ensures few { IfOk result (λ gaps. vec_len gaps ≤ MAX_SPANS) }
     ensures count { IfOk result (λ gaps. vec_len gaps ≤ length spans.now + 1) }
@@ -68,7 +68,7 @@ pub(crate) fn add_span(alloc: Global, spans: &mut Vec<Span>, span: Span) -> Resu
     requires apart { IsTrue (are_apart spans.old.items) }
     requires few { vec_len spans.old ≤ MAX_SPANS }
     ensures held { OnOk result ((t : ℕ) →
-        is_shut spans.new.items t ≡ (is_shut spans.old.items t || holds span t)) }
+        is_muted spans.new.items t ≡ (is_muted spans.old.items t || holds span t)) }
     ensures apart { OnOk result (IsTrue (are_apart spans.new.items)) }
     ensures few { OnOk result (vec_len spans.new ≤ MAX_SPANS) }
     ensures count { OnOk result (vec_len spans.new ≤ vec_len spans.old + 1) }
@@ -127,7 +127,7 @@ fn next_of<'a>(first: &'a [Span], second: &'a [Span]) -> Option<Next<'a>>
     }
 }
 
-/// Returns whether each span begins at a moment at the latest, where they are apart.
+/// Returns whether each span begins at a time at the latest, where they are apart.
 fn all_begin_by(spans: &[Span], t: u64) -> bool
     requires { IsTrue (are_apart spans.now) }
     ensures { result ≡ begin_by t spans.now }
@@ -144,7 +144,7 @@ fn push_span(spans: &mut Vec<Span>, span: Span) -> Result<(), HoursFault>
     requires begins { IsTrue (begin_by span.from spans.old.items) }
     requires few { vec_len spans.old ≤ MAX_SPANS }
     ensures held { OnOk result ((t : ℕ) →
-        is_shut spans.new.items t ≡ (is_shut spans.old.items t || holds span t)) }
+        is_muted spans.new.items t ≡ (is_muted spans.old.items t || holds span t)) }
     ensures apart { OnOk result (IsTrue (are_apart spans.new.items)) }
     ensures begins { OnOk result (IsTrue (begin_by span.from spans.new.items)) }
     ensures few { OnOk result (vec_len spans.new ≤ MAX_SPANS) }

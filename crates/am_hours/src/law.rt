@@ -1,7 +1,7 @@
 //! The law of clocks, which verifiers read.
-ghost use Rattle.am_hours.specs.Laws.{RowsHoldEachMoment};
+ghost use Rattle.am_hours.specs.Laws.{RowsHoldEachTime};
 
-/// The pieces of a clock hold each moment between the first and the last.
-pub fn rows_hold_each_moment()
-    ensures { RowsHoldEachMoment }
+/// The pieces of a clock hold each time between the first and the last.
+pub fn rows_hold_each_time()
+    ensures { RowsHoldEachTime }
 {}

@@ -2,7 +2,7 @@
 ghost use Rattle.std.specs.Prelude.{◌≡◌, ◌≤◌, ◌<◌, ◌+ℤ◌, ◌*ℤ◌, ◌≤ℤ◌, ◌<ℤ◌, ◌↔◌, ◌^◌, pos, neg_ℤ, int_div, IfErr, IfOk, IsOk};
 ghost use Rattle.std.specs.Int.{int_div_euclid};
 ghost use Rattle.jiff.specs.Words.{civil_nanos, IsBetween, IsTimestampNanos, nanos_of_seconds, plain_zone};
-ghost use Rattle.am_hours.specs.Clocks.{AreTold, days_between, left_in_month, month_later, month_start, offset_in, second_of};
+ghost use Rattle.am_hours.specs.Clocks.{AreDaysOfMonth, days_between, left_in_month, month_later, month_start, offset_in, second_of};
 ghost use Rattle.am_hours.specs.Showing.{IsLocal, milliseconds_in};
 ghost use Rattle.am_hours.specs.declared.clock.ClockFault.TheVariants.{OutOfRange};
 
@@ -68,7 +68,7 @@ pub(crate) fn milliseconds_at(instant: Timestamp) -> i64
     instant.as_nanosecond().div_euclid(1_000_000) as i64
 }
 
-/// Returns the instant at a moment, in milliseconds from an instant in milliseconds since 1970.
+/// Returns the instant at a time, in milliseconds from an instant in milliseconds since 1970.
 pub(crate) fn instant_at(origin: i64, at: u64) -> Result<Timestamp, ClockFault>
     ensures value { IfOk result (λ instant. instant.nanosecond ≡ (origin +ℤ pos at) *ℤ pos 1000000) }
     ensures refused { IfErr result (λ fault. fault ≡ OutOfRange) }
@@ -82,8 +82,8 @@ pub(crate) fn instant_at(origin: i64, at: u64) -> Result<Timestamp, ClockFault>
 
 /// Returns the days of a month as Alertmanager counts them: the whole 24 hours from its first
 /// midnight to a month later on the clock (`timeinterval.daysInMonth`).
-pub(crate) fn days_told(zone: TimeZone<'_>, local: &LocalTime) -> Result<u64, ClockFault>
-    ensures told { AreTold (plain_zone zone.entry) (pos local.now.year) local.now.month result }
+pub(crate) fn days_of_month_at(zone: TimeZone<'_>, local: &LocalTime) -> Result<u64, ClockFault>
+    ensures counted { AreDaysOfMonth (plain_zone zone.entry) (pos local.now.year) local.now.month result }
     ensures refused { IfErr result (λ fault. fault ≡ OutOfRange) }
 {
     let first = second_of(zone, month_start(local.year, local.month)?)?;

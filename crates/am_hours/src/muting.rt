@@ -4,9 +4,9 @@
 //! names some.
 ghost use Rattle.std.specs.Prelude.{◌≡◌, ◌≤◌, ◌+◌, ℕ, IfErr, IfOk, IsTrue, length, map, vec_len};
 ghost use Rattle.std.specs.List.{list_any, sum_by};
-ghost use Rattle.am_alerts.specs.Spans.{are_apart, is_shut};
+ghost use Rattle.am_alerts.specs.Spans.{are_apart, is_muted};
 ghost use Rattle.am_hours.specs.Merging.{IsRefusal};
-ghost use Rattle.am_hours.specs.Muting.{IsNoSpans, any_shut, is_muted_by_time};
+ghost use Rattle.am_hours.specs.Muting.{IsNoSpans, any_muted, is_muted_by_time};
 ghost use Rattle.am_hours.specs.Pieces.{contains_at, most_spans};
 
 use crate::clock::Clock;
@@ -32,7 +32,7 @@ pub struct Timed<'a> {
 /// - `TooLong`: a span ends behind 10^15, which no clock of `Clock::new` leads to.
 /// - `NoMemory`.
 pub fn expand_all(alloc: Global, intervals: &[Timed<'_>]) -> Result<Spans, HoursFault>
-    ensures held { IfOk result (λ spans. (t : ℕ) → is_shut spans t
+    ensures held { IfOk result (λ spans. (t : ℕ) → is_muted spans t
         ≡ list_any (λ x. contains_at x.interval.now x.clock.now.pieces t) intervals.now) }
     ensures few { IfOk result (λ spans. length spans ≤ MAX_SPANS) }
     ensures refused { IfErr result (IsNoSpans
@@ -51,7 +51,7 @@ pub fn expand_all(alloc: Global, intervals: &[Timed<'_>]) -> Result<Spans, Hours
 /// names in which it is active (`notify.TimeMuteStage`, `notify.TimeActiveStage`).
 ///
 /// A route without active names is always active. Where it has some, it is muted before `horizon`
-/// (in milliseconds from the start, as the spans) at each moment that none of them holds.
+/// (in milliseconds from the start, as the spans) at each time that none of them holds.
 ///
 /// # Errors
 /// - `TooMany`: there are more than 8,192 spans, or would be before all are joined.
@@ -63,27 +63,27 @@ pub fn muted(
     mute: &[&Spans],
     active: &[&Spans],
 ) -> Result<Spans, HoursFault>
-    ensures held { IfOk result (λ spans. (t : ℕ) → is_shut spans t
+    ensures held { IfOk result (λ spans. (t : ℕ) → is_muted spans t
         ≡ is_muted_by_time horizon (map (λ s. s.now) mute.now) (map (λ s. s.now) active.now) t) }
     ensures few { IfOk result (λ spans. length spans ≤ MAX_SPANS) }
     ensures refused { IfErr result (IsNoSpans
         (sum_by (λ s. length s.now) mute.now + sum_by (λ s. length s.now) active.now + 1)
         (λ t. is_muted_by_time horizon (map (λ s. s.now) mute.now) (map (λ s. s.now) active.now) t)) }
 {
-    let shut = union_of(alloc, mute)?;
+    let all_muted = union_of(alloc, mute)?;
     if active.is_empty() {
-        return spans_of(alloc, shut);
+        return spans_of(alloc, all_muted);
     }
     let open = union_of(alloc, active)?;
     let idle = outside(alloc, &open, horizon)?;
-    let joined = union(alloc, &shut, &idle)?;
+    let joined = union(alloc, &all_muted, &idle)?;
     spans_of(alloc, joined)
 }
 
-/// The spans that hold the moments that one of these lists holds.
+/// The spans that hold the times that one of these lists holds.
 fn union_of(alloc: Global, lists: &[&Spans]) -> Result<Vec<Span>, HoursFault>
     ensures held { IfOk result (λ spans. (t : ℕ) →
-        is_shut spans.items t ≡ any_shut (map (λ s. s.now) lists.now) t) }
+        is_muted spans.items t ≡ any_muted (map (λ s. s.now) lists.now) t) }
     ensures apart { IfOk result (λ spans. IsTrue (are_apart spans.items)) }
     ensures few { IfOk result (λ spans. vec_len spans ≤ MAX_SPANS) }
     ensures count { IfOk result (λ spans. vec_len spans ≤ sum_by (λ s. length s.now) lists.now) }
@@ -101,7 +101,7 @@ fn spans_of(alloc: Global, list: Vec<Span>) -> Result<Spans, HoursFault>
     requires apart { IsTrue (are_apart list.items) }
     requires few { vec_len list ≤ MAX_SPANS }
     ensures value { IfOk result (λ spans. spans ≡ list.items) }
-    ensures refused { IfErr result (IsNoSpans (vec_len list) (λ t. is_shut list.items t)) }
+    ensures refused { IfErr result (IsNoSpans (vec_len list) (λ t. is_muted list.items t)) }
 {
     if list.is_empty() {
         return Ok(Spans::none());

@@ -28,7 +28,7 @@ pub struct Piece {
     pub weekday: u64,
     pub year: u64,
     /// The days of the month as Alertmanager counts them: see `Shown`.
-    pub days_told: u64,
+    pub days_of_month_at: u64,
 }
 
 impl Piece {
@@ -44,7 +44,7 @@ impl Piece {
             month: self.month,
             weekday: (self.weekday + day) % 7,
             year: self.year,
-            days_told: self.days_told,
+            days_of_month_at: self.days_of_month_at,
         }
     }
 

@@ -4,12 +4,12 @@
 //! Letters count in either case. Exception: Alertmanager also takes `İ` for `i`, and this doesn't.
 ghost use Rattle.std.specs.Prelude.{◌≡◌, ◌≢◌, ◌≤◌, ◌<◌, [], ◌∷◌, map, pos, neg_ℤ, length, Ok, Err, IfOk, IfSome, MatchResult};
 ghost use Rattle.jiff.specs.Words.{IsBetween};
-ghost use Rattle.am_hours.specs.Intervals.{IsGoodDayPlace, IsGoodDayRange};
-ghost use Rattle.am_hours.specs.Reading.{day_in, day_place, days_of, digits_in, ends_of, in_short_month, minute_in, month_in, months_of};
+ghost use Rattle.am_hours.specs.Intervals.{IsGoodMonthDay, IsGoodDayRange};
+ghost use Rattle.am_hours.specs.Reading.{day_in, month_day, days_of, digits_in, ends_of, in_short_month, minute_in, month_in, months_of};
 ghost use Rattle.am_hours.specs.Reading.{number_in};
-ghost use Rattle.am_hours.specs.Reading.{numbers_from, or_zero, place_among, places_from, times_of, weekdays_of, years_of};
+ghost use Rattle.am_hours.specs.Reading.{numbers_from, or_zero, index_among, indexes_from, times_of, weekdays_of, years_of};
 
-use crate::interval::{DayPlace, DayRange, InclusiveRange, TimeRange};
+use crate::interval::{DayRange, InclusiveRange, MonthDay, TimeRange};
 use thiserror::Error;
 
 /// Why a text is no range.
@@ -70,8 +70,8 @@ pub fn read_weekdays(text: &str) -> Result<InclusiveRange, RangeFault>
     ensures days { IfOk result (λ range. range.last < 7) }
 {
     let (first, last) = parts_of(text)?;
-    let first = place_named(&WEEKDAYS, first).ok_or(RangeFault::BadWeekday)?;
-    let last = place_named(&WEEKDAYS, last).ok_or(RangeFault::BadWeekday)?;
+    let first = index_named(&WEEKDAYS, first).ok_or(RangeFault::BadWeekday)?;
+    let last = index_named(&WEEKDAYS, last).ok_or(RangeFault::BadWeekday)?;
     ordered(first, last)
 }
 
@@ -131,8 +131,8 @@ pub fn read_days(text: &str) -> Result<DayRange, RangeFault>
         return Err(RangeFault::EndBeforeStart);
     }
     Ok(DayRange {
-        first: place_of(first),
-        last: place_of(last),
+        first: month_day_of(first),
+        last: month_day_of(last),
     })
 }
 
@@ -166,7 +166,7 @@ fn parts_of(text: &str) -> Result<(&str, &str), RangeFault>
 }
 
 fn ordered(first: u64, last: u64) -> Result<InclusiveRange, RangeFault>
-    ensures value { result ≡ places_from first last }
+    ensures value { result ≡ indexes_from first last }
     ensures ordered { IfOk result (λ range. range.first ≤ range.last) }
     ensures last { IfOk result (λ range. range.last ≡ last) }
 {
@@ -193,17 +193,17 @@ fn from_zero(number: i64) -> u64
     u64::try_from(number).unwrap_or(0)
 }
 
-/// The place of a text in a list of names, in either case.
-fn place_named(names: &[&str], text: &str) -> Option<u64>
-    ensures value { result ≡ place_among (map (λ name. name.now) names.now) text.now }
-    ensures place { IfSome result (λ place. place < length names.now) }
+/// The index of a text in a list of names, in either case.
+fn index_named(names: &[&str], text: &str) -> Option<u64>
+    ensures value { result ≡ index_among (map (λ name. name.now) names.now) text.now }
+    ensures index { IfSome result (λ index. index < length names.now) }
 {
-    let mut place = 0u64;
+    let mut index = 0u64;
     for name in names {
         if text.eq_ignore_ascii_case(name) {
-            return Some(place);
+            return Some(index);
         }
-        place += 1;
+        index += 1;
     }
     None
 }
@@ -211,8 +211,8 @@ fn place_named(names: &[&str], text: &str) -> Option<u64>
 fn month_of(text: &str) -> Result<i64, RangeFault>
     ensures { result ≡ month_in text.now }
 {
-    match place_named(&MONTHS, text) {
-        Some(place) => Ok(place as i64 + 1),
+    match index_named(&MONTHS, text) {
+        Some(index) => Ok(index as i64 + 1),
         None => whole_number(text).ok_or(RangeFault::BadMonth),
     }
 }
@@ -243,16 +243,16 @@ fn in_short_month(day: i64) -> i64
     if day < 0 { 28 + day } else { day }
 }
 
-fn place_of(day: i64) -> DayPlace
+fn month_day_of(day: i64) -> MonthDay
     requires range { IsBetween (neg_ℤ (pos 31)) (pos 31) day }
     requires some { day ≢ pos 0 }
-    ensures value { result ≡ day_place day }
-    ensures good { IsGoodDayPlace result }
+    ensures value { result ≡ month_day day }
+    ensures good { IsGoodMonthDay result }
 {
     if day < 0 {
-        DayPlace::BeforeLast((-(day + 1)) as u64)
+        MonthDay::BeforeLast((-(day + 1)) as u64)
     } else {
-        DayPlace::FromStart(day as u64)
+        MonthDay::FromStart(day as u64)
     }
 }
 

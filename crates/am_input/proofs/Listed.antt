@@ -19,14 +19,14 @@ pub zone_at : (done : List Entry) (e : Entry) (left : List Entry) → AreZones (
 zone_at [] e left all = all.0
 zone_at (d ∷ done) e left all = zone_at done e left all.1
 
--- what is told of an object that was read
+-- what is given of an object that was read
 pub listed_in : (found : Option Data) (value : Data) (members : Members) → Some value ≡ found → Some members ≡ as_object value → AreZonesIn found
     → AreZones members × (members_len members ≤ MAX_ZONES)
-listed_in found value all there is told =
+listed_in found value all there is decoded =
     subst (λ (o : Option Members). IsSomeAnd o (λ ms. AreZones ms × (members_len ms ≤ MAX_ZONES))) (sym is)
-    (subst AreZonesIn (sym there) told)
+    (subst AreZonesIn (sym there) decoded)
 
 pub as_listed : (found : Option Data) (value : Data) (members : Members) → Some value ≡ found → Some members ≡ as_object value
     → AreZones members × (members_len members ≤ MAX_ZONES) → AreZonesIn found
-as_listed found value all there is told =
-    subst AreZonesIn there (subst (λ (o : Option Members). IsSomeAnd o (λ ms. AreZones ms × (members_len ms ≤ MAX_ZONES))) is told)
+as_listed found value all there is decoded =
+    subst AreZonesIn there (subst (λ (o : Option Members). IsSomeAnd o (λ ms. AreZones ms × (members_len ms ≤ MAX_ZONES))) is decoded)

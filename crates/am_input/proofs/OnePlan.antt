@@ -1,4 +1,4 @@
--- Members tell one list of planned actions at most.
+-- Members say one list of planned actions at most.
 use Rattle.std.proofs.Common.{◌≡◌, ◌∙◌, ◌+◌, ◌++◌, ℕ, true, List, [], ◌∷◌, Option, Some, None, MatchOption, codes, refl, sym, ap, subst}
 use Rattle.std.specs.List.{flat_map}
 use Rattle.serde_json.specs.Data.{Data, Items, no_items, item, Members}
@@ -7,7 +7,7 @@ use Rattle.am_cli.proofs.Once.{one_list, one_matcher, one_or, one_read, one_ther
 use Rattle.am_cli.specs.Configured.{DecodesToLabels, DecodesToMatcher}
 use Rattle.am_cli.specs.Decoding.{DecodeEach, HasOr, IsDuration, IsList}
 use Rattle.am_cli.specs.Read.{duration_in}
-use Rattle.am_cli.specs.declared.reader.Dialect.{Dialect}
+use Rattle.am_cli.specs.declared.reader.Mode.{Mode}
 use Rattle.am_model.specs.Lists.{in_order}
 use Rattle.am_plans.proofs.LabelSets.{one_labels}
 use Rattle.am_plans.proofs.Spans.{one_span, one_span_of}
@@ -19,98 +19,98 @@ use Rattle.am_plans.specs.declared.span.Span.{Span}
 use Rattle.am_terms.specs.declared.rehearsal.Action.TheVariants.{Silence}
 use Rattle.am_terms.specs.declared.rehearsal.TimedAction.{TimedAction}
 
--- what is made of what a list tells, where a value tells what makes one thing
-same_each : {X : Type 0} (tells : Data → X → Type 0) (made : X → List TimedAction) → ((v : Data) (x y : X) → tells v x → tells v y → made x ≡ made y)
-    → (items : Items) (xs ys : List X) → DecodeEach tells items xs → DecodeEach tells items ys → flat_map made xs ≡ flat_map made ys
-same_each tells made one no_items [] [] is also = refl
-same_each tells made one no_items [] (y ∷ ys) is also = absurd also
-same_each tells made one no_items (x ∷ xs) ys is also = absurd is
-same_each tells made one (item v vs) [] ys is also = absurd is
-same_each tells made one (item v vs) (x ∷ xs) [] is also = absurd also
-same_each tells made one (item v vs) (x ∷ xs) (y ∷ ys) is also =
+-- what is made of what a list says, where a value says what makes one thing
+same_each : {X : Type 0} (decodes : Data → X → Type 0) (made : X → List TimedAction) → ((v : Data) (x y : X) → decodes v x → decodes v y → made x ≡ made y)
+    → (items : Items) (xs ys : List X) → DecodeEach decodes items xs → DecodeEach decodes items ys → flat_map made xs ≡ flat_map made ys
+same_each decodes made one no_items [] [] is also = refl
+same_each decodes made one no_items [] (y ∷ ys) is also = absurd also
+same_each decodes made one no_items (x ∷ xs) ys is also = absurd is
+same_each decodes made one (item v vs) [] ys is also = absurd is
+same_each decodes made one (item v vs) (x ∷ xs) [] is also = absurd also
+same_each decodes made one (item v vs) (x ∷ xs) (y ∷ ys) is also =
     let head = one v x y is.0 also.0 in
-    let rest = same_each tells made one vs xs ys is.1 also.1 in
+    let rest = same_each decodes made one vs xs ys is.1 also.1 in
     λ i. head i ++ rest i
 
 -- ---- alerts
 
-same_spans : (dialect : Dialect) (members : Members) (found : Option Data) (ss ts : List Span)
+same_spans : (mode : Mode) (members : Members) (found : Option Data) (ss ts : List Span)
     → MatchOption found ((span : Span) × DecodesToSpan members span × (ss ≡ span ∷ []))
-    (λ v. IsList (IsSpan dialect) v ss × (get_member (codes "from") members ≡ None) × (get_member (codes "to") members ≡ None) × (follow (Some 0) ss ≡ true))
+    (λ v. IsList (IsSpan mode) v ss × (get_member (codes "from") members ≡ None) × (get_member (codes "to") members ≡ None) × (follow (Some 0) ss ≡ true))
     → MatchOption found ((span : Span) × DecodesToSpan members span × (ts ≡ span ∷ []))
-    (λ v. IsList (IsSpan dialect) v ts × (get_member (codes "from") members ≡ None) × (get_member (codes "to") members ≡ None) × (follow (Some 0) ts ≡ true))
+    (λ v. IsList (IsSpan mode) v ts × (get_member (codes "from") members ≡ None) × (get_member (codes "to") members ≡ None) × (follow (Some 0) ts ≡ true))
     → ss ≡ ts
-same_spans dialect ms None ss ts is also = is.2 ∙ ap (λ (s : Span). s ∷ []) (one_span_of ms is.0 also.0 is.1 also.1) ∙ sym also.2
-same_spans dialect ms (Some v) ss ts is also = one_list (IsSpan dialect) (one_span dialect) v ss ts is.0 also.0
+same_spans mode ms None ss ts is also = is.2 ∙ ap (λ (s : Span). s ∷ []) (one_span_of ms is.0 also.0 is.1 also.1) ∙ sym also.2
+same_spans mode ms (Some v) ss ts is also = one_list (IsSpan mode) (one_span mode) v ss ts is.0 also.0
 
-same_inserts_of : (dialect : Dialect) (members : Members) (a b : AlertItem) → HasAlert dialect members a → HasAlert dialect members b → inserts_of a ≡ inserts_of b
-same_inserts_of dialect members a b is also =
-    let labels = one_there (DecodesToLabels dialect) (one_labels dialect) (get_member (codes "labels") members) a.labels b.labels is.labels also.labels in
-    let spans = same_spans dialect members (get_member (codes "spans") members) a.spans.items b.spans.items is.spans also.spans in
+same_inserts_of : (mode : Mode) (members : Members) (a b : AlertItem) → HasAlert mode members a → HasAlert mode members b → inserts_of a ≡ inserts_of b
+same_inserts_of mode members a b is also =
+    let labels = one_there (DecodesToLabels mode) (one_labels mode) (get_member (codes "labels") members) a.labels b.labels is.labels also.labels in
+    let spans = same_spans mode members (get_member (codes "spans") members) a.spans.items b.spans.items is.spans also.spans in
     λ i. flat_map (inserts_in (labels i)) (spans i)
 
-same_inserts : (dialect : Dialect) (value : Data) (a b : AlertItem) → DecodesToAlert dialect value a → DecodesToAlert dialect value b → inserts_of a ≡ inserts_of b
-same_inserts dialect value a b is also = by (as_object value) is also
+same_inserts : (mode : Mode) (value : Data) (a b : AlertItem) → DecodesToAlert mode value a → DecodesToAlert mode value b → inserts_of a ≡ inserts_of b
+same_inserts mode value a b is also = by (as_object value) is also
   where
-    by : (o : Option Members) → MatchOption o ⊥ (λ ms. HasAlert dialect ms a) → MatchOption o ⊥ (λ ms. HasAlert dialect ms b) → inserts_of a ≡ inserts_of b
+    by : (o : Option Members) → MatchOption o ⊥ (λ ms. HasAlert mode ms a) → MatchOption o ⊥ (λ ms. HasAlert mode ms b) → inserts_of a ≡ inserts_of b
     by None is also = absurd is
-    by (Some ms) is also = same_inserts_of dialect ms a b is also
+    by (Some ms) is also = same_inserts_of mode ms a b is also
 
-in_array : (dialect : Dialect) (array : Option Items) (xs ys : List AlertItem) → MatchOption array ⊥ (λ items. DecodeEach (DecodesToAlert dialect) items xs)
-    → MatchOption array ⊥ (λ items. DecodeEach (DecodesToAlert dialect) items ys) → flat_map inserts_of xs ≡ flat_map inserts_of ys
-in_array dialect None xs ys is also = absurd is
-in_array dialect (Some items) xs ys is also = same_each (DecodesToAlert dialect) inserts_of (same_inserts dialect) items xs ys is also
+in_array : (mode : Mode) (array : Option Items) (xs ys : List AlertItem) → MatchOption array ⊥ (λ items. DecodeEach (DecodesToAlert mode) items xs)
+    → MatchOption array ⊥ (λ items. DecodeEach (DecodesToAlert mode) items ys) → flat_map inserts_of xs ≡ flat_map inserts_of ys
+in_array mode None xs ys is also = absurd is
+in_array mode (Some items) xs ys is also = same_each (DecodesToAlert mode) inserts_of (same_inserts mode) items xs ys is also
 
-same_alerts : (dialect : Dialect) (found : Option Data) (xs ys : List AlertItem) → MatchOption found (xs ≡ []) (λ v. IsList (DecodesToAlert dialect) v xs)
-    → MatchOption found (ys ≡ []) (λ v. IsList (DecodesToAlert dialect) v ys) → flat_map inserts_of xs ≡ flat_map inserts_of ys
-same_alerts dialect None xs ys is also = ap (flat_map inserts_of) (is ∙ sym also)
-same_alerts dialect (Some v) xs ys is also = in_array dialect (as_array v) xs ys is also
+same_alerts : (mode : Mode) (found : Option Data) (xs ys : List AlertItem) → MatchOption found (xs ≡ []) (λ v. IsList (DecodesToAlert mode) v xs)
+    → MatchOption found (ys ≡ []) (λ v. IsList (DecodesToAlert mode) v ys) → flat_map inserts_of xs ≡ flat_map inserts_of ys
+same_alerts mode None xs ys is also = ap (flat_map inserts_of) (is ∙ sym also)
+same_alerts mode (Some v) xs ys is also = in_array mode (as_array v) xs ys is also
 
 -- ---- silences
 
-same_set_of : (dialect : Dialect) (members : Members) (id : ℕ) (a b : SilenceItem) → HasSilence dialect members a → HasSilence dialect members b → set_of id a ≡ set_of id b
-same_set_of dialect members id a b is also =
-    let matchers = one_there (IsList (DecodesToMatcher dialect)) (one_list (DecodesToMatcher dialect) (one_matcher dialect)) (get_member (codes "matchers") members)
+same_set_of : (mode : Mode) (members : Members) (id : ℕ) (a b : SilenceItem) → HasSilence mode members a → HasSilence mode members b → set_of id a ≡ set_of id b
+same_set_of mode members id a b is also =
+    let matchers = one_there (IsList (DecodesToMatcher mode)) (one_list (DecodesToMatcher mode) (one_matcher mode)) (get_member (codes "matchers") members)
     a.matchers.items b.matchers.items is.matchers also.matchers in
     let from = one_or IsDuration (one_read duration_in) 0 (get_member (codes "from") members) a.from b.from is.from also.from in
     let to = one_there IsDuration (one_read duration_in) (get_member (codes "to") members) a.to b.to is.to also.to in
-    let told : HasOr IsDuration b.from (codes "set") members a.set = subst (λ (f : ℕ). HasOr IsDuration f (codes "set") members a.set) from is.set in
-    let set = one_or IsDuration (one_read duration_in) b.from (get_member (codes "set") members) a.set b.set told also.set in
+    let decoded : HasOr IsDuration b.from (codes "set") members a.set = subst (λ (f : ℕ). HasOr IsDuration f (codes "set") members a.set) from is.set in
+    let set = one_or IsDuration (one_read duration_in) b.from (get_member (codes "set") members) a.set b.set decoded also.set in
     λ i. record { at = set i; act = Silence (record { id = id; matchers = matchers i; start = from i; end = to i }) }
 
-same_set : (dialect : Dialect) (id : ℕ) (value : Data) (a b : SilenceItem) → DecodesToSilence dialect value a → DecodesToSilence dialect value b → set_of id a ≡ set_of id b
-same_set dialect id value a b is also = by (as_object value) is also
+same_set : (mode : Mode) (id : ℕ) (value : Data) (a b : SilenceItem) → DecodesToSilence mode value a → DecodesToSilence mode value b → set_of id a ≡ set_of id b
+same_set mode id value a b is also = by (as_object value) is also
   where
-    by : (o : Option Members) → MatchOption o ⊥ (λ ms. HasSilence dialect ms a) → MatchOption o ⊥ (λ ms. HasSilence dialect ms b) → set_of id a ≡ set_of id b
+    by : (o : Option Members) → MatchOption o ⊥ (λ ms. HasSilence mode ms a) → MatchOption o ⊥ (λ ms. HasSilence mode ms b) → set_of id a ≡ set_of id b
     by None is also = absurd is
-    by (Some ms) is also = same_set_of dialect ms id a b is also
+    by (Some ms) is also = same_set_of mode ms id a b is also
 
-same_sets_from : (dialect : Dialect) (id : ℕ) (items : Items) (xs ys : List SilenceItem) → DecodeEach (DecodesToSilence dialect) items xs
-    → DecodeEach (DecodesToSilence dialect) items ys → sets_from id xs ≡ sets_from id ys
-same_sets_from dialect id no_items [] [] is also = refl
-same_sets_from dialect id no_items [] (b ∷ ys) is also = absurd also
-same_sets_from dialect id no_items (a ∷ xs) ys is also = absurd is
-same_sets_from dialect id (item v vs) [] ys is also = absurd is
-same_sets_from dialect id (item v vs) (a ∷ xs) [] is also = absurd also
-same_sets_from dialect id (item v vs) (a ∷ xs) (b ∷ ys) is also =
-    let head = same_set dialect id v a b is.0 also.0 in
-    let rest = same_sets_from dialect (id + 1) vs xs ys is.1 also.1 in
+same_sets_from : (mode : Mode) (id : ℕ) (items : Items) (xs ys : List SilenceItem) → DecodeEach (DecodesToSilence mode) items xs
+    → DecodeEach (DecodesToSilence mode) items ys → sets_from id xs ≡ sets_from id ys
+same_sets_from mode id no_items [] [] is also = refl
+same_sets_from mode id no_items [] (b ∷ ys) is also = absurd also
+same_sets_from mode id no_items (a ∷ xs) ys is also = absurd is
+same_sets_from mode id (item v vs) [] ys is also = absurd is
+same_sets_from mode id (item v vs) (a ∷ xs) [] is also = absurd also
+same_sets_from mode id (item v vs) (a ∷ xs) (b ∷ ys) is also =
+    let head = same_set mode id v a b is.0 also.0 in
+    let rest = same_sets_from mode (id + 1) vs xs ys is.1 also.1 in
     λ i. head i ∷ rest i
 
-sets_in : (dialect : Dialect) (array : Option Items) (xs ys : List SilenceItem) → MatchOption array ⊥ (λ items. DecodeEach (DecodesToSilence dialect) items xs)
-    → MatchOption array ⊥ (λ items. DecodeEach (DecodesToSilence dialect) items ys) → sets_from 1 xs ≡ sets_from 1 ys
-sets_in dialect None xs ys is also = absurd is
-sets_in dialect (Some items) xs ys is also = same_sets_from dialect 1 items xs ys is also
+sets_in : (mode : Mode) (array : Option Items) (xs ys : List SilenceItem) → MatchOption array ⊥ (λ items. DecodeEach (DecodesToSilence mode) items xs)
+    → MatchOption array ⊥ (λ items. DecodeEach (DecodesToSilence mode) items ys) → sets_from 1 xs ≡ sets_from 1 ys
+sets_in mode None xs ys is also = absurd is
+sets_in mode (Some items) xs ys is also = same_sets_from mode 1 items xs ys is also
 
-same_silences : (dialect : Dialect) (found : Option Data) (xs ys : List SilenceItem) → MatchOption found (xs ≡ []) (λ v. IsList (DecodesToSilence dialect) v xs)
-    → MatchOption found (ys ≡ []) (λ v. IsList (DecodesToSilence dialect) v ys) → sets_from 1 xs ≡ sets_from 1 ys
-same_silences dialect None xs ys is also = ap (sets_from 1) (is ∙ sym also)
-same_silences dialect (Some v) xs ys is also = sets_in dialect (as_array v) xs ys is also
+same_silences : (mode : Mode) (found : Option Data) (xs ys : List SilenceItem) → MatchOption found (xs ≡ []) (λ v. IsList (DecodesToSilence mode) v xs)
+    → MatchOption found (ys ≡ []) (λ v. IsList (DecodesToSilence mode) v ys) → sets_from 1 xs ≡ sets_from 1 ys
+same_silences mode None xs ys is also = ap (sets_from 1) (is ∙ sym also)
+same_silences mode (Some v) xs ys is also = sets_in mode (as_array v) xs ys is also
 
 -- ---- plans
 
-pub one_plan : (dialect : Dialect) (members : Members) (ps qs : List TimedAction) → ArePlannedIn dialect members ps → ArePlannedIn dialect members qs → ps ≡ qs
-one_plan dialect members ps qs is also =
-    let alerts = same_alerts dialect (get_member (codes "alerts") members) is.alerts also.alerts is.alerts_are also.alerts_are in
-    let silences = same_silences dialect (get_member (codes "silences") members) is.silences also.silences is.silences_are also.silences_are in
+pub one_plan : (mode : Mode) (members : Members) (ps qs : List TimedAction) → ArePlannedIn mode members ps → ArePlannedIn mode members qs → ps ≡ qs
+one_plan mode members ps qs is also =
+    let alerts = same_alerts mode (get_member (codes "alerts") members) is.alerts also.alerts is.alerts_are also.alerts_are in
+    let silences = same_silences mode (get_member (codes "silences") members) is.silences also.silences is.silences_are also.silences_are in
     is.is ∙ (λ i. in_order time_cmp (alerts i ++ silences i)) ∙ sym also.is

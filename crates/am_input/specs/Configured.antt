@@ -7,8 +7,8 @@ use Rattle.serde_json.specs.Find.{as_object, get, get_member, pointer}
 use Rattle.serde_json.specs.View.{view}
 use Rattle.am_cli.specs.Configured.{DecodesToConfig, config_compares_texts}
 use Rattle.am_cli.specs.Decoding.{Has, HasNone}
-use Rattle.am_cli.specs.declared.reader.Dialect.{Dialect}
-use Rattle.am_cli.specs.declared.reader.Dialect.TheVariants.{Strict}
+use Rattle.am_cli.specs.declared.reader.Mode.{Mode}
+use Rattle.am_cli.specs.declared.reader.Mode.TheVariants.{Strict}
 use Rattle.am_input.specs.declared.form.Form.{Form}
 use Rattle.am_input.specs.declared.form.Form.TheVariants.{Story, Own, Alertmanager}
 use Rattle.am_input.specs.declared.input.Changes.{Changes}
@@ -34,14 +34,14 @@ form_in value =
     if has_one_of story_names value then Story
     else (if is_some (pointer (codes "/receivers/0/integrations") value) || has_one_of own_names value then Own else Alertmanager)
 
--- a configuration that was read of Alertmanager's has no fault. Whether it is the one that its JSON tells isn't said
+-- a configuration that was read of Alertmanager's has no fault. Whether it is the one that its JSON says isn't said
 abbrev pub IsReadOfTheirs : Data → Config → Type 0
 IsReadOfTheirs value config = config_fault config ≡ None
 
 -- the configuration in a story: that of `config`, or else Alertmanager's, beside which there is no `config`
-abbrev pub IsConfigIn : Dialect → Members → Config → Type 0
-IsConfigIn dialect members config = MatchOption (get_member (codes "alertmanager") members)
-    (Has (DecodesToConfig dialect) (codes "config") members config)
+abbrev pub IsConfigIn : Mode → Members → Config → Type 0
+IsConfigIn mode members config = MatchOption (get_member (codes "alertmanager") members)
+    (Has (DecodesToConfig mode) (codes "config") members config)
     (λ value. HasNone (codes "config") members × IsReadOfTheirs value config)
 
 -- the configuration in a file of a form
@@ -51,19 +51,19 @@ IsConfigOf Own value config = DecodesToConfig Strict value config
 IsConfigOf Alertmanager value config = IsReadOfTheirs value config
 
 -- the configuration of a story, or of a file that the command line gives in its place
-abbrev pub IsConfigFor : Option Data → Dialect → Members → Config → Type 0
-IsConfigFor None dialect members config = IsConfigIn dialect members config
+abbrev pub IsConfigFor : Option Data → Mode → Members → Config → Type 0
+IsConfigFor None mode members config = IsConfigIn mode members config
 IsConfigFor (Some file) _ _ config = IsConfigOf (form_in file) file config
 
--- the file that stands in place of a story's configuration, if there is one
+-- the file that is in place of a story's configuration, if there is one
 abbrev pub file_in : Changes → Option Data
 file_in changes = option_map (λ value. view value.now) changes.config
 
 -- the configuration of `config`, whose matchers need no regex
-abbrev pub TellsWithoutRegexes : Dialect → Members → Config → Type 0
-TellsWithoutRegexes dialect members config =
-    Has (DecodesToConfig dialect) (codes "config") members config × IsTrue (config_compares_texts config)
+abbrev pub DecodesPlainly : Mode → Members → Config → Type 0
+DecodesPlainly mode members config =
+    Has (DecodesToConfig mode) (codes "config") members config × IsTrue (config_compares_texts config)
 
 -- the configuration of a value, whose matchers need no regex
-abbrev pub DecodesWithoutRegexes : Dialect → Data → Config → Type 0
-DecodesWithoutRegexes dialect value config = DecodesToConfig dialect value config × IsTrue (config_compares_texts config)
+abbrev pub DecodesWithoutRegexes : Mode → Data → Config → Type 0
+DecodesWithoutRegexes mode value config = DecodesToConfig mode value config × IsTrue (config_compares_texts config)

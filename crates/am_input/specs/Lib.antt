@@ -1,8 +1,8 @@
 -- what a rehearsal asks for
 pub mod Request
 -- the reloads and restarts of a story
-pub mod Handovers
+pub mod DispatcherChanges
 -- under which configuration a story is played
 pub mod Configured
--- the time zones that a story tells
+-- the time zones that a story says
 pub mod Zones

@@ -9,18 +9,18 @@ use Rattle.am_cli.specs.Read.{Excludes, has_only, interval_in}
 use Rattle.am_cli.specs.Decoding.{IsList, HasNone, HasOr}
 use Rattle.am_cli.specs.declared.faults.Refusal.{Refusal}
 use Rattle.am_cli.specs.declared.faults.Refusal.TheVariants.{One, All}
-use Rattle.am_cli.specs.declared.reader.Dialect.{Dialect}
-use Rattle.am_cli.specs.declared.reader.Dialect.TheVariants.{Strict}
+use Rattle.am_cli.specs.declared.reader.Mode.{Mode}
+use Rattle.am_cli.specs.declared.reader.Mode.TheVariants.{Strict}
 use Rattle.am_terms.specs.declared.expectation.Expectation.{Expectation}
 use Rattle.am_terms.specs.UtcDates.{IsReadFrom, StartData, dated}
 use Rattle.am_terms.specs.TimeFormatData.{TimeFormatData, counted}
 use Rattle.am_input.specs.Configured.{IsConfigFor, file_in}
-use Rattle.am_input.specs.Handovers.{AreHandoversIn, AreHandoversWithoutRegexes}
+use Rattle.am_input.specs.DispatcherChanges.{AreDispatcherChangesIn, AreDispatcherChangesWithoutRegexes}
 use Rattle.am_plans.specs.Configs.{configs_of}
-use Rattle.am_plans.specs.Decoding.{DecodesToOutage, have_places}
+use Rattle.am_plans.specs.Decoding.{DecodesToOutage, have_targets}
 use Rattle.am_plans.specs.Expected.{AreExpectedIn, HaveNoRegexIn, last_end, until_in}
 use Rattle.am_plans.specs.Planned.{ArePlannedWithoutRegexes, ArePlannedIn}
-use Rattle.am_terms.specs.declared.handover.Handover.{Handover}
+use Rattle.am_terms.specs.declared.dispatcher_change.DispatcherChange.{DispatcherChange}
 use Rattle.am_terms.specs.declared.rehearsal.Rehearsal.{Rehearsal}
 use Rattle.am_input.specs.Zones.{AreZonesIn}
 use Rattle.am_input.specs.declared.input.TheConstants.{MAINTAIN}
@@ -45,12 +45,12 @@ abbrev pub output_for : Option Output → Option Data → Option Output
 output_for (Some output) _ = Some output
 output_for None member = output_in member
 
--- the start that a member tells, the moment that its text is read as; none, where it isn't there
+-- the start that a member says, the time that its text is read as; none, where it isn't there
 abbrev pub DecodesToStart : Option Data → Option StartData → Type 0
 DecodesToStart None start = start ≡ None
 DecodesToStart (Some member) start = IsSomeAnd (as_str member) (λ text. IsSomeAnd start (IsReadFrom text))
 
--- moments are dates where a start is told, and counted where none is
+-- times are dates where a start is given, and counted where none is
 abbrev pub times_from : Option StartData → TimeFormatData
 times_from None = counted
 times_from (Some start) = dated start
@@ -72,48 +72,48 @@ member_names =
     ∷ codes "alerts" ∷ codes "silences" ∷ codes "maintain" ∷ codes "outages" ∷ codes "expect" ∷ codes "output" ∷ []
 
 -- these members, each of a known name, with what the command line says in place of some, ask for this output, give this start and have
--- these expectations, of a rehearsal that has the configuration, the actions and the outages that they tell, and ends and is maintained
--- as they say; their zones are the rules of zones; and these are the reloads and restarts that they tell
-pub record Requests (dialect : Dialect) (changes : Changes) (members : Members) (output : Output) (start : Option StartData)
-    (expectations : List Expectation) (handovers : List Handover) (rehearsal : Rehearsal) : Type 0 where
-  pub known : IsTrue (has_only dialect member_names members)
-  pub configures : IsConfigFor (file_in changes) dialect members rehearsal.config
-  pub hands_over : AreHandoversIn dialect (file_in changes) rehearsal.until members handovers
+-- these expectations, of a rehearsal that has the configuration, the actions and the outages that they say, and ends and is maintained
+-- as they say; their zones are the rules of zones; and these are the reloads and restarts that they say
+pub record Requests (mode : Mode) (changes : Changes) (members : Members) (output : Output) (start : Option StartData)
+    (expectations : List Expectation) (dispatcher_changes : List DispatcherChange) (rehearsal : Rehearsal) : Type 0 where
+  pub known : IsTrue (has_only mode member_names members)
+  pub configures : IsConfigFor (file_in changes) mode members rehearsal.config
+  pub hands_over : AreDispatcherChangesIn mode (file_in changes) rehearsal.until members dispatcher_changes
   pub zones : AreZonesIn (get_member (codes "zones") members)
-  pub tells : output_for changes.overrides.output (get_member (codes "output") members) ≡ Some output
+  pub decodes : output_for changes.overrides.output (get_member (codes "output") members) ≡ Some output
   pub starts : DecodesToStart (get_member (codes "start") members) start
   pub ends : end_for changes.overrides.until members ≡ Some rehearsal.until
   pub maintains : maintain_in (get_member (codes "maintain") members) ≡ Some rehearsal.maintain
-  pub plans : ArePlannedIn dialect members rehearsal.plans.items
-  pub outages : HasOr (IsList (DecodesToOutage dialect)) [] (codes "outages") members rehearsal.outages.items
-  pub places : IsTrue (have_places (configs_of rehearsal.config handovers) rehearsal.outages.items)
-  pub expects : AreExpectedIn dialect (configs_of rehearsal.config handovers) rehearsal.until (last_end rehearsal.until members)
+  pub plans : ArePlannedIn mode members rehearsal.plans.items
+  pub outages : HasOr (IsList (DecodesToOutage mode)) [] (codes "outages") members rehearsal.outages.items
+  pub targets : IsTrue (have_targets (configs_of rehearsal.config dispatcher_changes) rehearsal.outages.items)
+  pub expects : AreExpectedIn mode (configs_of rehearsal.config dispatcher_changes) rehearsal.until (last_end rehearsal.until members)
       rehearsal.plans.items (get_member (codes "expect") members) expectations
 
 -- a JSON value is an object whose members ask for this
-abbrev pub IsRequestIn : Changes → Data → Output → Option StartData → List Expectation → List Handover → Rehearsal → Type 0
-IsRequestIn changes value output start expectations handovers rehearsal =
-    IsSomeAnd (as_object value) (λ members. Requests Strict changes members output start expectations handovers rehearsal)
+abbrev pub IsRequestIn : Changes → Data → Output → Option StartData → List Expectation → List DispatcherChange → Rehearsal → Type 0
+IsRequestIn changes value output start expectations dispatcher_changes rehearsal =
+    IsSomeAnd (as_object value) (λ members. Requests Strict changes members output start expectations dispatcher_changes rehearsal)
 
--- what is asked for isn't refused: the configuration is the story's own and stands in `config`, as that of each reload does, and no
+-- what is asked for isn't refused: the configuration is the story's own and is in `config`, as that of each reload does, and no
 -- matcher needs a regex. A story under a given file isn't among these: that a file of our own form isn't refused is said of the
 -- file alone, by `own` of `read_configured`
-pub record IsWithoutRegexes (dialect : Dialect) (changes : Changes) (members : Members) (handovers : List Handover)
+pub record IsWithoutRegexes (mode : Mode) (changes : Changes) (members : Members) (dispatcher_changes : List DispatcherChange)
     (rehearsal : Rehearsal) : Type 0 where
   pub own : file_in changes ≡ None
   pub ours : HasNone (codes "alertmanager") members
   pub config : IsTrue (config_compares_texts rehearsal.config)
-  pub hands_over : AreHandoversWithoutRegexes dialect (file_in changes) rehearsal.until members handovers
-  pub plans : ArePlannedWithoutRegexes dialect members rehearsal.plans.items
-  pub expects : HaveNoRegexIn dialect (get_member (codes "expect") members)
+  pub hands_over : AreDispatcherChangesWithoutRegexes mode (file_in changes) rehearsal.until members dispatcher_changes
+  pub plans : ArePlannedWithoutRegexes mode members rehearsal.plans.items
+  pub expects : HaveNoRegexIn mode (get_member (codes "expect") members)
 
 -- a refusal, for one fault or for many, excludes these
 abbrev pub RefusesAll : {X : Type 0} → (X → Type 0) → Refusal → Type 0
-RefusesAll Tells (One fault) = Excludes Tells fault
-RefusesAll {X = X} Tells (All faults) = (x : X) → Tells x → ⊥
+RefusesAll Decodes (One fault) = Excludes Decodes fault
+RefusesAll {X = X} Decodes (All faults) = (x : X) → Decodes x → ⊥
 
 -- a JSON value is an object whose members ask for this, which isn't refused
-abbrev pub IsRequestWithoutRegexes : Changes → Data → Output → Option StartData → List Expectation → List Handover → Rehearsal → Type 0
-IsRequestWithoutRegexes changes value output start expectations handovers rehearsal = IsSomeAnd (as_object value) (λ members.
-    Requests Strict changes members output start expectations handovers rehearsal
-    × IsWithoutRegexes Strict changes members handovers rehearsal)
+abbrev pub IsRequestWithoutRegexes : Changes → Data → Output → Option StartData → List Expectation → List DispatcherChange → Rehearsal → Type 0
+IsRequestWithoutRegexes changes value output start expectations dispatcher_changes rehearsal = IsSomeAnd (as_object value) (λ members.
+    Requests Strict changes members output start expectations dispatcher_changes rehearsal
+    × IsWithoutRegexes Strict changes members dispatcher_changes rehearsal)

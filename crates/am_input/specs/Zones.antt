@@ -1,4 +1,4 @@
--- Zones: the time zones that a story tells.
+-- Zones: the time zones that a story says.
 use Rattle.std.specs.Prelude.{◌≤◌, ⊤, Option, Some, None, IsSome, IsSomeAnd}
 use Rattle.serde_json.specs.Data.{Data, Members, no_members, member}
 use Rattle.serde_json.specs.Events.{members_len}

@@ -7,10 +7,10 @@ ghost use Rattle.serde_json.specs.View.{members_view, view};
 ghost use Rattle.am_cli.specs.Configured.{DecodesToConfig};
 ghost use Rattle.am_cli.specs.Decoding.{HasNone};
 ghost use Rattle.am_cli.specs.Read.{Excludes};
-ghost use Rattle.am_cli.specs.declared.reader.Dialect.TheVariants.{Strict};
+ghost use Rattle.am_cli.specs.declared.reader.Mode.TheVariants.{Strict};
 ghost use Rattle.am_input.specs.Configured.{DecodesWithoutRegexes, IsConfigFor, IsConfigIn, IsConfigOf};
-ghost use Rattle.am_input.specs.Configured.{IsReadOfTheirs, TellsWithoutRegexes, form_in};
-ghost use Rattle.am_input.specs.Handovers.{TellsAt, TellsReload, is_ours};
+ghost use Rattle.am_input.specs.Configured.{IsReadOfTheirs, DecodesPlainly, form_in};
+ghost use Rattle.am_input.specs.DispatcherChanges.{DecodesAt, ReloadDecodesTo, is_ours};
 ghost use Rattle.am_input.specs.Request.{RefusesAll};
 
 use crate::form::{Form, alertmanager_in, form_of};
@@ -24,7 +24,7 @@ use am_config::alertmanager::read_alertmanager;
 use am_config::dropped::IgnoredSettings;
 use am_config::hours::Hours;
 use am_model::config::Config;
-use am_plans::handover::Reload;
+use am_plans::dispatcher_change::Reload;
 use serde_json::Value;
 use std::alloc::Global;
 
@@ -33,7 +33,7 @@ use std::alloc::Global;
 pub struct Configured {
     pub config: Config,
     pub ignored: IgnoredSettings,
-    /// Whether routes name time intervals that have no clocks: no story tells when it starts.
+    /// Whether routes name time intervals that have no clocks: no story says when it starts.
     pub lacks_hours: bool,
 }
 
@@ -45,12 +45,12 @@ pub fn read_configured<Z: ZoneFiles>(
     until: Option<u64>,
     files: &mut Z,
 ) -> Result<Configured, Refusal>
-    ensures told { IfOk result (λ read.
-        IsConfigFor (option_map (λ g. view g.now) given.entry) top.now.dialect (members_view top.now.members) read.config) }
+    ensures decoded { IfOk result (λ read.
+        IsConfigFor (option_map (λ g. view g.now) given.entry) top.now.mode (members_view top.now.members) read.config) }
     ensures timed { option_map (λ g. view g.now) given.entry ≡ None → HasNone (codes "alertmanager") (members_view top.now.members)
         → IfOk result (λ read. read.lacks_hours ≡ false) }
     ensures refused { option_map (λ g. view g.now) given.entry ≡ None → HasNone (codes "alertmanager") (members_view top.now.members)
-        → IfErr result (RefusesAll (TellsWithoutRegexes top.now.dialect (members_view top.now.members))) }
+        → IfErr result (RefusesAll (DecodesPlainly top.now.mode (members_view top.now.members))) }
     ensures own { (file : Data) → option_map (λ g. view g.now) given.entry ≡ Some file → form_in file ≡ Form.Own
         → IfErr result (RefusesAll (DecodesWithoutRegexes Strict file)) }
 {
@@ -123,10 +123,10 @@ pub(crate) fn read_reload<Z: ZoneFiles>(
     until: Option<u64>,
     files: &mut Z,
 ) -> Result<Configured, Refusal>
-    ensures told { IfOk result (λ read. TellsReload top.now.dialect (view reload.entry.value.now) read.config) }
+    ensures decoded { IfOk result (λ read. ReloadDecodesTo top.now.mode (view reload.entry.value.now) read.config) }
     ensures timed { IsTrue (is_ours (Some (view reload.entry.value.now))) → IfOk result (λ read. read.lacks_hours ≡ false) }
     ensures refused { IsTrue (is_ours (Some (view reload.entry.value.now)))
-        → IfErr result (RefusesAll (TellsAt top.now.dialect (members_view top.now.members) (Some (view reload.entry.value.now)))) }
+        → IfErr result (RefusesAll (DecodesAt top.now.mode (members_view top.now.members) (Some (view reload.entry.value.now)))) }
 {
     let list = top.member("reload", reload.value);
     match reload.index {
@@ -142,10 +142,10 @@ fn read_at<Z: ZoneFiles>(
     until: Option<u64>,
     files: &mut Z,
 ) -> Result<Configured, Refusal>
-    ensures told { IfOk result (λ read. TellsReload reload.now.dialect (view reload.now.value) read.config) }
+    ensures decoded { IfOk result (λ read. ReloadDecodesTo reload.now.mode (view reload.now.value) read.config) }
     ensures timed { IsTrue (is_ours (Some (view reload.now.value))) → IfOk result (λ read. read.lacks_hours ≡ false) }
     ensures refused { IsTrue (is_ours (Some (view reload.now.value))) → IfErr result (RefusesAll (λ config.
-        IsSomeAnd (as_object (view reload.now.value)) (λ fields. TellsWithoutRegexes reload.now.dialect fields config))) }
+        IsSomeAnd (as_object (view reload.now.value)) (λ fields. DecodesPlainly reload.now.mode fields config))) }
 {
     let object = reload.object()?;
     let hours = read_hours_at(top, &object, until, files)?;
@@ -160,7 +160,7 @@ pub fn configured_for<Z: ZoneFiles>(
     until: Option<u64>,
     files: &mut Z,
 ) -> Result<Configured, Refusal>
-    ensures told { IfOk result (λ read. IsConfigOf (form_in (view given.now)) (view given.now) read.config) }
+    ensures decoded { IfOk result (λ read. IsConfigOf (form_in (view given.now)) (view given.now) read.config) }
     ensures own { form_in (view given.now) ≡ Form.Own → IfErr result (RefusesAll (DecodesWithoutRegexes Strict (view given.now))) }
 {
     let reader = Reader::strict(alloc, story);
@@ -172,7 +172,7 @@ pub fn configured_for<Z: ZoneFiles>(
 
 /// Reads the configuration of a file: one of Alertmanager, one of our own, or that of a story.
 pub fn read_file(alloc: Global, value: &Value, hours: Option<&Hours>) -> Result<Configured, Refusal>
-    ensures told { IfOk result (λ read. IsConfigOf (form_in (view value.now)) (view value.now) read.config) }
+    ensures decoded { IfOk result (λ read. IsConfigOf (form_in (view value.now)) (view value.now) read.config) }
     ensures own { form_in (view value.now) ≡ Form.Own → IfErr result (RefusesAll (DecodesWithoutRegexes Strict (view value.now))) }
 {
     let reader = Reader::strict(alloc, value);
@@ -183,13 +183,13 @@ pub fn read_file(alloc: Global, value: &Value, hours: Option<&Hours>) -> Result<
     }
 }
 
-/// Reads the configuration in a story. It stands in `config` or, as Alertmanager has it, in `alertmanager`, which is
+/// Reads the configuration in a story. It is in `config` or, as Alertmanager has it, in `alertmanager`, which is
 /// refused beside `config`.
 fn read_in_story(top: &Object<'_, '_>, hours: Option<&Hours>) -> Result<Configured, Refusal>
-    ensures told { IfOk result (λ read. IsConfigIn top.now.dialect (members_view top.now.members) read.config) }
+    ensures decoded { IfOk result (λ read. IsConfigIn top.now.mode (members_view top.now.members) read.config) }
     ensures timed { HasNone (codes "alertmanager") (members_view top.now.members) → IfOk result (λ read. read.lacks_hours ≡ false) }
     ensures refused { HasNone (codes "alertmanager") (members_view top.now.members)
-        → IfErr result (RefusesAll (TellsWithoutRegexes top.now.dialect (members_view top.now.members))) }
+        → IfErr result (RefusesAll (DecodesPlainly top.now.mode (members_view top.now.members))) }
 {
     let Some(member) = top.optional("alertmanager") else {
         return Ok(read_own(&top.required("config")?)?);
@@ -202,9 +202,9 @@ fn read_in_story(top: &Object<'_, '_>, hours: Option<&Hours>) -> Result<Configur
 
 /// Reads a configuration of our own.
 fn read_own(reader: &Reader<'_, '_>) -> Result<Configured, InputFault>
-    ensures told { IfOk result (λ read. DecodesToConfig reader.now.dialect (view reader.now.value) read.config) }
+    ensures decoded { IfOk result (λ read. DecodesToConfig reader.now.mode (view reader.now.value) read.config) }
     ensures timed { IfOk result (λ read. read.lacks_hours ≡ false) }
-    ensures refused { IfErr result (Excludes (DecodesWithoutRegexes reader.now.dialect (view reader.now.value))) }
+    ensures refused { IfErr result (Excludes (DecodesWithoutRegexes reader.now.mode (view reader.now.value))) }
 {
     Ok(Configured {
         config: read_config(reader)?,

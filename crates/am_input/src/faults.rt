@@ -1,9 +1,9 @@
 //! All faults of a story.
 use crate::configured::{Configured, read_configured, read_reload};
-use crate::handovers::HandedOver;
+use crate::dispatcher_changes::HandedOver;
 use crate::hours::check_start;
 use crate::input::{MEMBERS, Overrides, read_maintain, read_output, read_until};
-use crate::moment;
+use crate::time;
 use crate::zone_files::ZoneFiles;
 use crate::zones::read_zones;
 use am_cli::fault::InputFault;
@@ -11,13 +11,13 @@ use am_cli::faults::{Faults, Refusal};
 use am_cli::reader::{FromJson, Object, Reader};
 use am_plans::alert::AlertItem;
 use am_plans::configs::Configs;
+use am_plans::dispatcher_change::{item_faults, read_items, reloads_in};
 use am_plans::expectation::expectation_faults;
-use am_plans::handover::{item_faults, read_items, reloads_in};
 use am_plans::outage::OutageItem;
 use am_plans::planned::read_plans;
 use am_plans::silence::SilenceItem;
 use am_plans::target::check;
-use am_terms::handover::Keeps;
+use am_terms::dispatcher_change::Carryover;
 use am_terms::rehearsal::{MAX_UNTIL, TimedAction};
 use serde_json::Value;
 use std::alloc::Global;
@@ -87,9 +87,12 @@ fn keep_all(alloc: Global, faults: &mut Faults, refusal: Refusal) -> Result<(), 
         Refusal::One(fault) => faults.push(fault),
         Refusal::All(all) => {
             for fault in all.as_slice() {
-                let place = String::from_str(alloc, fault.place.as_str())?;
+                let pointer = String::from_str(alloc, fault.pointer.as_str())?;
                 let fault_kind = fault.fault_kind;
-                faults.push(InputFault::Refused { place, fault_kind })?;
+                faults.push(InputFault::Refused {
+                    pointer,
+                    fault_kind,
+                })?;
             }
             Ok(())
         }
@@ -107,13 +110,13 @@ fn plan_faults<Z: ZoneFiles>(
 ) -> Result<(), InputFault> {
     let later = later_faults(alloc, faults, top, overrides.until, files)?;
     let lacks_hours = configured.is_some_and(|configured| configured.lacks_hours);
-    faults.kept(moment::start(top))?;
+    faults.kept(time::start(top))?;
     faults.kept(check_start(top, overrides.until, lacks_hours || later.read.lacks_hours))?;
     match configured {
         Some(configured) if later.is_whole => {
             let configs = Configs {
                 own: &configured.config,
-                later: later.read.handovers.as_slice(),
+                later: later.read.dispatcher_changes.as_slice(),
             };
             event_faults(faults, top, Some(&configs), overrides)
         }
@@ -150,7 +153,7 @@ fn later_faults<Z: ZoneFiles>(
     };
     for reload in reloads_in(top)? {
         match read_reload(top, reload, until, files) {
-            Ok(configured) => later.read.add(0, Keeps::All, configured)?,
+            Ok(configured) => later.read.add(0, Carryover::All, configured)?,
             Err(refusal) => {
                 later.is_whole = false;
                 keep_all(alloc, faults, refusal)?;
@@ -224,8 +227,14 @@ fn outage_faults(
         if let Some(OutageItem { outage }) = faults.kept(OutageItem::read(&reader))? {
             if let Some(configs) = configs {
                 let receiver = outage.receiver.as_str();
-                let place = *reader.place();
-                faults.kept(check(reader.alloc(), configs, receiver, outage.integration, place))?;
+                let pointer = *reader.pointer();
+                faults.kept(check(
+                    reader.alloc(),
+                    configs,
+                    receiver,
+                    outage.integration,
+                    pointer,
+                ))?;
             }
         }
     }

@@ -5,7 +5,7 @@
 ghost use Rattle.std.specs.Prelude.{◌≡◌, IsTrue, false, is_ok};
 
 use crate::input::read_until;
-use crate::moment;
+use crate::time;
 use crate::zone_files::ZoneFiles;
 use crate::zones::read_zones;
 use am_cli::fault::{FaultKind, InputFault};
@@ -18,10 +18,10 @@ use std::alloc::{AllocError, Global};
 /// How long the clocks go on behind the story's end, in milliseconds: 366 days. So it is known how long a route is muted.
 const BEHIND: u64 = 31_622_400_000;
 
-/// The first moment at which a story with time intervals can start, in milliseconds from 1970: 0001-01-03.
+/// The first time at which a story with time intervals can start, in milliseconds from 1970: 0001-01-03.
 const FIRST: i64 = -62_135_424_000_000;
 
-/// The last moment at which its clocks can end: 9999-11-28.
+/// The last time at which its clocks can end: 9999-11-28.
 const LAST: i64 = 253_399_363_200_000;
 
 /// Returns the clocks for a configuration of Alertmanager, if the story has a start, an end and zones without a fault.
@@ -50,7 +50,7 @@ pub fn read_hours<Z: ZoneFiles>(
     Ok(Some(Hours::new(start, horizon, zones)))
 }
 
-/// The start, if it is told without a fault.
+/// The start, if it is given without a fault.
 fn start_of(top: &Object<'_, '_>) -> Option<Timestamp> {
     let member = top.optional("start")?;
     member.text().ok()?.parse::<Timestamp>().ok()
@@ -108,8 +108,8 @@ fn zone_of<Z: ZoneFiles>(
     Ok(Zone::from_file(alloc, bytes.as_slice()).ok())
 }
 
-/// Refuses a story whose time intervals have no clocks, though routes name them: it tells no start, or one that is no
-/// moment of the years 1 to 9999. A fault of its start, end or zones is told in its own order.
+/// Refuses a story whose time intervals have no clocks, though routes name them: it says no start, or one that is no
+/// time of the years 1 to 9999. A fault of its start, end or zones is given in its own order.
 pub fn check_start(
     top: &Object<'_, '_>,
     until: Option<u64>,
@@ -121,7 +121,7 @@ pub fn check_start(
         return Ok(());
     }
     let member = top.required("start")?;
-    let has_fault = moment::start(top).is_err()
+    let has_fault = time::start(top).is_err()
         || read_until(top, until).is_err()
         || read_zones(top).is_err();
     if has_fault {

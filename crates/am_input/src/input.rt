@@ -1,4 +1,4 @@
-//! What a rehearsal asks for, and how it is read, in the strict dialect of `am_cli`. `am_rehearse` calls
+//! What a rehearsal asks for, and how it is read, in the strict mode of `am_cli`. `am_rehearse` calls
 //! `read_input`.
 //!
 //! The inserts of each span and the silences are planned in the order of their times, each with the
@@ -16,28 +16,28 @@ ghost use Rattle.am_terms.specs.declared.rehearsal.TheConstants.{MAX_UNTIL};
 ghost use Rattle.am_cli.specs.Decoding.{HasOr, IsList};
 ghost use Rattle.am_cli.specs.Read.{Excludes, has_only};
 ghost use Rattle.am_input.specs.Configured.{IsConfigFor, file_in};
-ghost use Rattle.am_input.specs.Handovers.{AreHandoversIn};
+ghost use Rattle.am_input.specs.DispatcherChanges.{AreDispatcherChangesIn};
 ghost use Rattle.am_plans.specs.Configs.{configs_of};
-ghost use Rattle.am_plans.specs.Decoding.{DecodesToOutage, have_places};
+ghost use Rattle.am_plans.specs.Decoding.{DecodesToOutage, have_targets};
 ghost use Rattle.am_plans.specs.Expected.{AreExpectedIn, HaveNoRegexIn, last_end};
 ghost use Rattle.am_plans.specs.Planned.{ArePlannedWithoutRegexes, ArePlannedIn};
 ghost use Rattle.am_terms.specs.declared.rehearsal.Outage.{Outage};
 ghost use Rattle.am_terms.specs.declared.rehearsal.Rehearsal.{Rehearsal};
-ghost use Rattle.am_input.specs.declared.input.Asked.{Asked};
+ghost use Rattle.am_input.specs.declared.input.Requested.{Requested};
 ghost use Rattle.am_input.specs.declared.input.Input.{Input};
 ghost use Rattle.am_input.specs.Request.{DecodesToStart, IsRequestIn, IsWithoutRegexes, IsRequestWithoutRegexes};
 ghost use Rattle.am_input.specs.Request.{RefusesAll, Requests, end_for, maintain_in, member_names, output_for};
 
 use crate::configured::{Configured, read_configured};
-use crate::handovers::{HandedOver, both, either, read_handovers};
+use crate::dispatcher_changes::{HandedOver, both, either, read_dispatcher_changes};
 use crate::hours::check_start;
-use crate::moment;
+use crate::time;
 use crate::zone_files::ZoneFiles;
 use crate::zones::read_zones;
 use am_cli::duration::{duration, interval};
 use am_cli::fault::{FaultKind, InputFault};
 use am_cli::faults::Refusal;
-use am_cli::place::JsonPointer;
+use am_cli::pointer::JsonPointer;
 use am_cli::reader::{Object, Reader};
 use am_config::dropped::IgnoredSettings;
 use am_model::config::Config;
@@ -47,8 +47,8 @@ use am_plans::origin::Origin;
 use am_plans::outage::read_outages;
 use am_plans::planned::read_plans;
 use am_terms::dated::UtcDates;
+use am_terms::dispatcher_change::DispatcherChange;
 use am_terms::expectation::Expectation;
-use am_terms::handover::Handover;
 use am_terms::rehearsal::{MAX_UNTIL, Outage, Rehearsal};
 use serde_json::Value;
 use std::alloc::Global;
@@ -78,10 +78,10 @@ pub(crate) const MEMBERS: [&str; 13] = [
 pub struct Input {
     pub rehearsal: Rehearsal,
     /// The reloads and restarts, in the order of their times.
-    pub handovers: Vec<Handover>,
-    /// Where the plans of the rehearsal stand in the input, by place.
+    pub dispatcher_changes: Vec<DispatcherChange>,
+    /// Where the plans of the rehearsal are in the input, by pointer.
     pub origins: Vec<Origin>,
-    /// The moment of the start, if it is told.
+    /// The time of the start, if it is given.
     pub start: Option<UtcDates>,
     pub expectations: Vec<Expectation>,
     pub output: Output,
@@ -91,7 +91,7 @@ pub struct Input {
 
 /// What a story asks for besides what happens in it.
 #[derive(Drop)]
-struct Asked {
+struct Requested {
     start: Option<UtcDates>,
     expectations: Vec<Expectation>,
     output: Output,
@@ -121,7 +121,7 @@ pub struct Overrides {
     pub until: Option<u64>,
 }
 
-/// What stands in place of parts of a story.
+/// What is in place of parts of a story.
 #[derive(Clone, Copy)]
 pub struct Changes<'c> {
     /// A file's value, with a configuration in it.
@@ -130,25 +130,25 @@ pub struct Changes<'c> {
 }
 
 /// Reads a whole rehearsal. The first fault in the order of reading is answered; of Alertmanager's
-/// configuration all faults. The zones that its time intervals name and the rehearsal doesn't tell are those of `files`.
+/// configuration all faults. The zones that its time intervals name and the rehearsal doesn't say are those of `files`.
 pub fn read_input<Z: ZoneFiles>(
     alloc: Global,
     value: &Value,
     changes: Changes<'_>,
     files: &mut Z,
 ) -> Result<Input, Refusal>
-    ensures told { IfOk result (λ input. IsRequestIn changes.entry (view value.now) input.output input.start
-        input.expectations.items input.handovers.items input.rehearsal) }
+    ensures decoded { IfOk result (λ input. IsRequestIn changes.entry (view value.now) input.output input.start
+        input.expectations.items input.dispatcher_changes.items input.rehearsal) }
     ensures refused { IfErr result (RefusesAll (λ (input : Input).
         IsRequestWithoutRegexes changes.entry (view value.now) input.output input.start
-        input.expectations.items input.handovers.items input.rehearsal)) }
+        input.expectations.items input.dispatcher_changes.items input.rehearsal)) }
 {
     let reader = Reader::strict(alloc, value);
     let top = reader.object()?;
     top.only(&MEMBERS)?;
     let configured = read_configured(&top, changes.config, changes.overrides.until, files)?;
     let until = read_until(&top, changes.overrides.until)?;
-    let handed = read_handovers(&top, changes, until, files)?;
+    let handed = read_dispatcher_changes(&top, changes, until, files)?;
     Ok(read_planned(&top, configured, handed, until, changes)?)
 }
 
@@ -162,16 +162,17 @@ fn read_planned(
 ) -> Result<Input, InputFault>
     requires most { until ≤ MAX_UNTIL }
     requires ends { end_for changes.overrides.until (members_view top.now.members) ≡ Some until }
-    requires hands_over { AreHandoversIn top.now.dialect (file_in changes) until (members_view top.now.members) handed.handovers.items }
-    requires known { IsTrue (has_only top.now.dialect member_names (members_view top.now.members)) }
-    requires configures { IsConfigFor (file_in changes) top.now.dialect (members_view top.now.members) configured.config }
-    ensures told { IfOk result (λ input. Requests top.now.dialect changes.entry (members_view top.now.members) input.output input.start
-        input.expectations.items input.handovers.items input.rehearsal) }
+    requires hands_over { AreDispatcherChangesIn top.now.mode (file_in changes) until
+        (members_view top.now.members) handed.dispatcher_changes.items }
+    requires known { IsTrue (has_only top.now.mode member_names (members_view top.now.members)) }
+    requires configures { IsConfigFor (file_in changes) top.now.mode (members_view top.now.members) configured.config }
+    ensures decoded { IfOk result (λ input. Requests top.now.mode changes.entry (members_view top.now.members) input.output input.start
+        input.expectations.items input.dispatcher_changes.items input.rehearsal) }
     ensures refused { configured.lacks_hours ≡ false → handed.lacks_hours ≡ false → IfErr result (Excludes (λ (input : Input).
-        Requests top.now.dialect changes.entry (members_view top.now.members) input.output input.start
-        input.expectations.items input.handovers.items input.rehearsal
-        × (input.rehearsal.config ≡ configured.config) × (input.handovers.items ≡ handed.handovers.items)
-        × IsWithoutRegexes top.now.dialect changes.entry (members_view top.now.members) input.handovers.items input.rehearsal)) }
+        Requests top.now.mode changes.entry (members_view top.now.members) input.output input.start
+        input.expectations.items input.dispatcher_changes.items input.rehearsal
+        × (input.rehearsal.config ≡ configured.config) × (input.dispatcher_changes.items ≡ handed.dispatcher_changes.items)
+        × IsWithoutRegexes top.now.mode changes.entry (members_view top.now.members) input.dispatcher_changes.items input.rehearsal)) }
 {
     let Configured {
         config,
@@ -179,24 +180,24 @@ fn read_planned(
         lacks_hours,
     } = configured;
     let HandedOver {
-        handovers,
+        dispatcher_changes,
         ignored: ignored_later,
         lacks_hours: lacks_later,
     } = handed;
     let overrides = changes.overrides;
     read_zones(top)?;
     check_start(top, overrides.until, either(lacks_hours, lacks_later))?;
-    let later = handovers.as_slice();
+    let later = dispatcher_changes.as_slice();
     let (rehearsal, origins) = read_rehearsal(top, config, later, until)?;
-    let asked = read_asked(top, &rehearsal, later, overrides.output)?;
-    let Asked {
+    let requested = read_requested(top, &rehearsal, later, overrides.output)?;
+    let Requested {
         start,
         expectations,
         output,
-    } = asked;
+    } = requested;
     Ok(Input {
         rehearsal,
-        handovers,
+        dispatcher_changes,
         origins,
         start,
         expectations,
@@ -206,48 +207,48 @@ fn read_planned(
 }
 
 /// Reads how the output of a rehearsal shows times, what is expected of it and what is printed.
-fn read_asked(
+fn read_requested(
     top: &Object<'_, '_>,
     rehearsal: &Rehearsal,
-    handovers: &[Handover],
+    dispatcher_changes: &[DispatcherChange],
     output: Option<Output>,
-) -> Result<Asked, InputFault>
-    ensures output { IfOk result (λ asked.
-        output_for output (get_member (codes "output") (members_view top.now.members)) ≡ Some asked.output) }
-    ensures start { IfOk result (λ asked. DecodesToStart (get_member (codes "start") (members_view top.now.members)) asked.start) }
-    ensures expectations { IfOk result (λ asked.
-        AreExpectedIn top.now.dialect (configs_of rehearsal.now.config handovers.now) rehearsal.now.until
+) -> Result<Requested, InputFault>
+    ensures output { IfOk result (λ requested.
+        output_for output (get_member (codes "output") (members_view top.now.members)) ≡ Some requested.output) }
+    ensures start { IfOk result (λ requested. DecodesToStart (get_member (codes "start") (members_view top.now.members)) requested.start) }
+    ensures expectations { IfOk result (λ requested.
+        AreExpectedIn top.now.mode (configs_of rehearsal.now.config dispatcher_changes.now) rehearsal.now.until
         (last_end rehearsal.now.until (members_view top.now.members)) rehearsal.now.plans.items
-        (get_member (codes "expect") (members_view top.now.members)) asked.expectations.items) }
-    ensures refused { IfErr result (Excludes (λ (asked : Asked).
-        DecodesToStart (get_member (codes "start") (members_view top.now.members)) asked.start
-        × (output_for output (get_member (codes "output") (members_view top.now.members)) ≡ Some asked.output)
-        × AreExpectedIn top.now.dialect (configs_of rehearsal.now.config handovers.now) rehearsal.now.until
+        (get_member (codes "expect") (members_view top.now.members)) requested.expectations.items) }
+    ensures refused { IfErr result (Excludes (λ (requested : Requested).
+        DecodesToStart (get_member (codes "start") (members_view top.now.members)) requested.start
+        × (output_for output (get_member (codes "output") (members_view top.now.members)) ≡ Some requested.output)
+        × AreExpectedIn top.now.mode (configs_of rehearsal.now.config dispatcher_changes.now) rehearsal.now.until
         (last_end rehearsal.now.until (members_view top.now.members)) rehearsal.now.plans.items
-        (get_member (codes "expect") (members_view top.now.members)) asked.expectations.items
-        × HaveNoRegexIn top.now.dialect (get_member (codes "expect") (members_view top.now.members)))) }
+        (get_member (codes "expect") (members_view top.now.members)) requested.expectations.items
+        × HaveNoRegexIn top.now.mode (get_member (codes "expect") (members_view top.now.members)))) }
 {
-    let start = moment::start(top)?;
+    let start = time::start(top)?;
     let output = read_output(top, output)?;
     let plans = rehearsal.plans.as_slice();
     let configs = Configs {
         own: &rehearsal.config,
-        later: handovers,
+        later: dispatcher_changes,
     };
     let expectations = read_expectations(top, &configs, rehearsal.until, plans)?;
-    Ok(Asked {
+    Ok(Requested {
         start,
         expectations,
         output,
     })
 }
 
-/// Reads what happens until `until` under a configuration, and those of handovers, and where the planned actions are in
+/// Reads what happens until `until` under a configuration, and those of changes of the dispatcher, and where the planned actions are in
 /// the input.
 fn read_rehearsal(
     top: &Object<'_, '_>,
     config: Config,
-    handovers: &[Handover],
+    dispatcher_changes: &[DispatcherChange],
     until: u64,
 ) -> Result<(Rehearsal, Vec<Origin>), InputFault>
     requires { until ≤ MAX_UNTIL }
@@ -255,18 +256,18 @@ fn read_rehearsal(
     ensures until { IfOk result (λ read. read.0.until ≡ until) }
     ensures maintain { IfOk result (λ read.
         maintain_in (get_member (codes "maintain") (members_view top.now.members)) ≡ Some read.0.maintain) }
-    ensures plans { IfOk result (λ read. ArePlannedIn top.now.dialect (members_view top.now.members) read.0.plans.items) }
+    ensures plans { IfOk result (λ read. ArePlannedIn top.now.mode (members_view top.now.members) read.0.plans.items) }
     ensures outages { IfOk result (λ read.
-        HasOr (IsList (DecodesToOutage top.now.dialect)) [] (codes "outages") (members_view top.now.members) read.0.outages.items) }
-    ensures places { IfOk result (λ read. IsTrue (have_places (configs_of config handovers.now) read.0.outages.items)) }
+        HasOr (IsList (DecodesToOutage top.now.mode)) [] (codes "outages") (members_view top.now.members) read.0.outages.items) }
+    ensures targets { IfOk result (λ read. IsTrue (have_targets (configs_of config dispatcher_changes.now) read.0.outages.items)) }
     ensures refused { IfErr result (Excludes (λ (r : Rehearsal).
         (maintain_in (get_member (codes "maintain") (members_view top.now.members)) ≡ Some r.maintain)
-        × HasOr (IsList (DecodesToOutage top.now.dialect)) [] (codes "outages") (members_view top.now.members) r.outages.items
-        × IsTrue (have_places (configs_of config handovers.now) r.outages.items)
-        × ArePlannedWithoutRegexes top.now.dialect (members_view top.now.members) r.plans.items)) }
+        × HasOr (IsList (DecodesToOutage top.now.mode)) [] (codes "outages") (members_view top.now.members) r.outages.items
+        × IsTrue (have_targets (configs_of config dispatcher_changes.now) r.outages.items)
+        × ArePlannedWithoutRegexes top.now.mode (members_view top.now.members) r.plans.items)) }
 {
     let maintain = read_maintain(top)?;
-    let outages = read_outages_under(top, &config, handovers)?;
+    let outages = read_outages_under(top, &config, dispatcher_changes)?;
     let (plans, origins) = read_plans(top)?;
     let rehearsal = Rehearsal {
         config,
@@ -281,18 +282,18 @@ fn read_rehearsal(
 fn read_outages_under(
     top: &Object<'_, '_>,
     config: &Config,
-    handovers: &[Handover],
+    dispatcher_changes: &[DispatcherChange],
 ) -> Result<Vec<Outage>, InputFault>
-    ensures told { IfOk result (λ outages.
-        HasOr (IsList (DecodesToOutage top.now.dialect)) [] (codes "outages") (members_view top.now.members) outages.items) }
-    ensures places { IfOk result (λ outages. IsTrue (have_places (configs_of config.now handovers.now) outages.items)) }
+    ensures decoded { IfOk result (λ outages.
+        HasOr (IsList (DecodesToOutage top.now.mode)) [] (codes "outages") (members_view top.now.members) outages.items) }
+    ensures targets { IfOk result (λ outages. IsTrue (have_targets (configs_of config.now dispatcher_changes.now) outages.items)) }
     ensures refused { IfErr result (Excludes (λ (outages : List Outage).
-        HasOr (IsList (DecodesToOutage top.now.dialect)) [] (codes "outages") (members_view top.now.members) outages
-        × IsTrue (have_places (configs_of config.now handovers.now) outages))) }
+        HasOr (IsList (DecodesToOutage top.now.mode)) [] (codes "outages") (members_view top.now.members) outages
+        × IsTrue (have_targets (configs_of config.now dispatcher_changes.now) outages))) }
 {
     let configs = Configs {
         own: config,
-        later: handovers,
+        later: dispatcher_changes,
     };
     read_outages(top, &configs)
 }
@@ -308,17 +309,17 @@ pub(crate) fn read_maintain(top: &Object<'_, '_>) -> Result<u64, InputFault>
     }
 }
 
-/// The last moment, as the command line says it, or else the member; `Value` above `MAX_UNTIL`.
-pub(crate) fn read_until(top: &Object<'_, '_>, asked: Option<u64>) -> Result<u64, InputFault>
-    ensures until { IfOk result (λ until. end_for asked (members_view top.now.members) ≡ Some until) }
+/// The last time, as the command line says it, or else the member; `Value` above `MAX_UNTIL`.
+pub(crate) fn read_until(top: &Object<'_, '_>, requested: Option<u64>) -> Result<u64, InputFault>
+    ensures until { IfOk result (λ until. end_for requested (members_view top.now.members) ≡ Some until) }
     ensures most { IfOk result (λ until. until ≤ MAX_UNTIL) }
-    ensures refused { IfErr result (λ _. (until : ℕ) → end_for asked (members_view top.now.members) ≡ Some until → MAX_UNTIL < until) }
+    ensures refused { IfErr result (λ _. (until : ℕ) → end_for requested (members_view top.now.members) ≡ Some until → MAX_UNTIL < until) }
 {
-    let until = end_of(top, asked)?;
+    let until = end_of(top, requested)?;
     if until > MAX_UNTIL {
-        let place = JsonPointer::Root;
+        let pointer = JsonPointer::Root;
         return Err(
-            place
+            pointer
                 .member("until")
                 .refuse(top.alloc(), FaultKind::BadValue),
         );
@@ -326,21 +327,24 @@ pub(crate) fn read_until(top: &Object<'_, '_>, asked: Option<u64>) -> Result<u64
     Ok(until)
 }
 
-/// The last moment, whichever it is.
-fn end_of(top: &Object<'_, '_>, asked: Option<u64>) -> Result<u64, InputFault>
-    ensures { result_ok result ≡ end_for asked (members_view top.now.members) }
+/// The last time, whichever it is.
+fn end_of(top: &Object<'_, '_>, requested: Option<u64>) -> Result<u64, InputFault>
+    ensures { result_ok result ≡ end_for requested (members_view top.now.members) }
 {
-    match asked {
+    match requested {
         Some(until) => Ok(until),
         None => duration(&top.required("until")?),
     }
 }
 
 /// What is printed, as the command line says it, or else the member; the timeline, where it isn't said.
-pub(crate) fn read_output(top: &Object<'_, '_>, asked: Option<Output>) -> Result<Output, InputFault>
-    ensures { result_ok result ≡ output_for asked (get_member (codes "output") (members_view top.now.members)) }
+pub(crate) fn read_output(
+    top: &Object<'_, '_>,
+    requested: Option<Output>,
+) -> Result<Output, InputFault>
+    ensures { result_ok result ≡ output_for requested (get_member (codes "output") (members_view top.now.members)) }
 {
-    if let Some(output) = asked {
+    if let Some(output) = requested {
         return Ok(output);
     }
     let Some(member) = top.optional("output") else {

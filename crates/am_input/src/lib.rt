@@ -6,11 +6,11 @@
 #![tactic(auto)]
 
 pub mod configured;
+pub mod dispatcher_changes;
 pub mod faults;
 pub mod form;
-pub mod handovers;
 mod hours;
 pub mod input;
-mod moment;
+mod time;
 pub mod zone_files;
 mod zones;

@@ -1,5 +1,5 @@
 //! `ZoneFiles`: where the files of time zones are read from. `hours` reads the zones by it that a configuration names and
-//! a story doesn't tell; `am_rehearse` hands the system's in.
+//! a story doesn't say; `am_rehearse` hands the system's in.
 use std::alloc::AllocError;
 
 /// Where the files of time zones are read from.

@@ -11,12 +11,12 @@ use am_cli::reader::{Object, Reader};
 use am_config::hours::NamedZone;
 use am_hours::zone::Zone;
 
-/// The most time zones that a story tells.
+/// The most time zones that a story says.
 pub const MAX_ZONES: usize = 64;
 
-/// Reads the time zones that a story tells: names, each with a POSIX rule such as `CET-1CEST,M3.5.0,M10.5.0/3`.
+/// Reads the time zones that a story says: names, each with a POSIX rule such as `CET-1CEST,M3.5.0,M10.5.0/3`.
 pub fn read_zones(top: &Object<'_, '_>) -> Result<Vec<NamedZone>, InputFault>
-    ensures told { IfOk result (λ _. AreZonesIn (get_member (codes "zones") (members_view top.now.members))) }
+    ensures decoded { IfOk result (λ _. AreZonesIn (get_member (codes "zones") (members_view top.now.members))) }
     ensures refused { IfErr result (Excludes (λ (_ : ⊤). AreZonesIn (get_member (codes "zones") (members_view top.now.members)))) }
 {
     let Some(member) = top.optional("zones") else {
@@ -29,9 +29,9 @@ pub fn read_zones(top: &Object<'_, '_>) -> Result<Vec<NamedZone>, InputFault>
     Ok(read_listed(&listed)?)
 }
 
-/// Reads the zones that these members tell.
+/// Reads the zones that these members say.
 fn read_listed(listed: &Object<'_, '_>) -> Result<Vec<NamedZone>, InputFault>
-    ensures told { IfOk result (λ _. AreZones (members_view listed.now.members)) }
+    ensures decoded { IfOk result (λ _. AreZones (members_view listed.now.members)) }
     ensures refused { IfErr result (Excludes (λ (_ : ⊤). AreZones (members_view listed.now.members))) }
 {
     let mut zones = Vec::new(listed.alloc());
@@ -46,7 +46,7 @@ fn read_listed(listed: &Object<'_, '_>) -> Result<Vec<NamedZone>, InputFault>
 
 /// Reads the zone of a rule.
 fn read_zone(rule: &Reader<'_, '_>) -> Result<Zone, InputFault>
-    ensures told { IfOk result (λ _. IsZone (view rule.now.value)) }
+    ensures decoded { IfOk result (λ _. IsZone (view rule.now.value)) }
     ensures refused { IfErr result (Excludes (λ (_ : ⊤). IsZone (view rule.now.value))) }
 {
     match Zone::from_rule(rule.text()?) {

@@ -35,7 +35,7 @@ is_for_integration config x s =
     option_map_or (λ kind. bytes_eq (kind_for config s) kind) x.kind true
     && option_map_or (λ position. s.notice.integration == position) x.integration true
 
--- whether a notice is one of those that an expectation speaks of: delivered, from the one moment to the other, to its target;
+-- whether a notice is one of those that an expectation speaks of: delivered, from the one time to the other, to its target;
 -- one counts also if its sending ended after the deadline of its flush
 abbrev pub is_in_scope : Config → Expectation → SentData → Bool
 is_in_scope config x s =

@@ -132,7 +132,7 @@ abbrev pub resolved_word : List AlertData → List ℕ
 resolved_word [] = codes "resolved "
 resolved_word (a ∷ alerts) = codes "; resolved "
 
--- what a notice told
+-- what a notice reported
 unfoldable pub got_alerts_text : NoticeData → List ℕ
 got_alerts_text n = alerts_text (codes "firing ") n.firing ++ alerts_text (resolved_word n.firing) n.resolved
 
@@ -197,7 +197,7 @@ differences playback x s =
 unfoldable pub came_front : List ℕ → Config → TimeFormatData → SentData → List ℕ
 came_front word config times s = word ++ times.text s.report.ended ++ getter_text config s.notice
 
--- a notice behind a word: when it came, to whom, what it told, and how it differs from what is expected
+-- a notice behind a word: when it came, to whom, what it reported, and how it differs from what is expected
 unfoldable pub came_line : List ℕ → PlaybackData → TimeFormatData → Expectation → SentData → List ℕ
 came_line word playback times x s =
     came_front word playback.config times s ++ codes ": " ++ got_alerts_text s.notice ++ differences playback x s ++ codes "\n"

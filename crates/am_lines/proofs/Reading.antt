@@ -2,7 +2,7 @@
 use Rattle.std.proofs.Common.{◌≡◌, ◌≢◌, ◌∙◌, ◌<◌, ◌≤◌, ◌+◌, ◌++◌, ◌∷◌, [], ℕ, List, true, false, IsTrue, IfErr, Result, Ok, Err, append_assoc, ap, arith, inl, length, refl, subst, sym}
 use Rattle.std.proofs.lemmas.List.{append-nil, length-append}
 use Rattle.am_lines.specs.declared.lines.LineRead.{LineRead}
-use Rattle.am_lines.specs.declared.lines.LineRead.TheVariants.{Whole, TooLong, NoMemory, End}
+use Rattle.am_lines.specs.declared.lines.LineRead.TheVariants.{Complete, TooLong, NoMemory, End}
 use Rattle.am_lines.specs.Lines.{FailsToRead, Fills, IsKept, IsLater, IsRead, LinesData, Moves, Reads, ReadsLine, UsesPart, is_plain, lines_of}
 use Rattle.am_lines.proofs.Splitting.{fed_line, plain_join, unfed_line}
 
@@ -100,14 +100,14 @@ further old now next given given_to read read_to kept kept_to pieces so_far uses
     }
 
 is_read : (read : LineRead) (text kept : List ℕ) → read ≢ End → IsKept read text kept → IsRead read text kept
-is_read Whole text kept begun is = is
+is_read Complete text kept begun is = is
 is_read TooLong text kept begun is = is
 is_read NoMemory text kept begun is = tt
 is_read End text kept begun is = absurd (begun refl)
 
 reads_line : (old new : LinesData) (given given_to : List ℕ) (read : LineRead) (kept : List ℕ)
     → read ≢ End → ReadsLine old new given given_to read kept → Reads old new given given_to read kept
-reads_line old new given given_to Whole kept begun reads = reads
+reads_line old new given given_to Complete kept begun reads = reads
 reads_line old new given given_to TooLong kept begun reads = reads
 reads_line old new given given_to NoMemory kept begun reads = reads
 reads_line old new given given_to End kept begun reads = absurd (begun refl)
@@ -165,7 +165,7 @@ nothing_left (x ∷ xs) ys none = absurd cc
 -- the input has ended
 pub ended_there : (old new : LinesData) (given given_to : List ℕ) (read : LineRead) (kept : List ℕ) (pieces : ℕ)
     → ReadsSoFar old new given given_to read kept pieces → new.unused ≡ [] → new.ended ≡ true → Reads old new given given_to read kept
-ended_there old new given given_to Whole kept pieces so_far none ended = last_line old new given given_to Whole kept pieces so_far none ended (λ e. cc)
+ended_there old new given given_to Complete kept pieces so_far none ended = last_line old new given given_to Complete kept pieces so_far none ended (λ e. cc)
 ended_there old new given given_to TooLong kept pieces so_far none ended = last_line old new given given_to TooLong kept pieces so_far none ended (λ e. cc)
 ended_there old new given given_to NoMemory kept pieces so_far none ended = last_line old new given given_to NoMemory kept pieces so_far none ended (λ e. cc)
 ended_there old new given given_to End kept pieces so_far none ended =

@@ -11,7 +11,7 @@ use Rattle.am_lines.specs.Lines.{is_plain, last_line, lines_from, lines_of}
 plain_cons : (x : ℕ) (xs : List ℕ) → nat_eq x 10 ≡ false → IsTrue (is_plain xs) → IsTrue (is_plain (x ∷ xs))
 plain_cons x xs e h = rw e h
 
--- no line feed before this place
+-- no line feed before this pointer
 plain_upto : (xs : List ℕ) (n : ℕ) → n ≤ length xs → ((k : ℕ) → k < n → nat_eq (get_or xs k 0) 10 ≡ false) → IsTrue (is_plain (take n xs))
 plain_upto xs zero within none = refl
 plain_upto [] (suc n) within none = absurd (omega arith)

@@ -1,4 +1,4 @@
--- Answer: the JSON tokens of what answers tell.
+-- Answer: the JSON tokens of what answers say.
 use Rattle.std.specs.Prelude.{ℕ, Bool, List, [], ◌∷◌, ◌++◌, codes, decimal, Option, None, Some}
 use Rattle.std.specs.List.{flat_map}
 use Rattle.json.specs.Token.{Token, begin_object, end_object, begin_array, end_array, key, string, number, boolean, null}
@@ -44,7 +44,7 @@ abbrev pub group_tokens : Config → GroupName → List Token
 group_tokens config group =
     object (text_member (codes "route") (route_of config group).name ++ key (codes "labels") ∷ labels_tokens group.labels)
 
--- what is told of an alert: its labels, its start and its end
+-- what is answered about an alert: its labels, its start and its end
 abbrev pub alert_members : AlertData → List Token
 alert_members a =
     key (codes "labels") ∷ labels_tokens a.labels ++ number_member (codes "starts") a.starts

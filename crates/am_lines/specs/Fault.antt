@@ -39,14 +39,14 @@ refusal_message refusal.Full = codes "there is no room for this"
 refusal_message refusal.Unsupported = codes "this can't be reproduced exactly"
 
 -- where in the line a fault is, as a JSON pointer
-abbrev pub place_of : LineFault → List ℕ
-place_of (fault.NotJson column) = []
-place_of fault.TooLong = []
-place_of fault.NoMemory = []
-place_of fault.Untold = []
-place_of fault.Spent = []
-place_of (fault.Refused place kind) = string_bytes place
-place_of (fault.NotMade place kind message) = place.now
+abbrev pub pointer_of : LineFault → List ℕ
+pointer_of (fault.NotJson column) = []
+pointer_of fault.TooLong = []
+pointer_of fault.NoMemory = []
+pointer_of fault.Untold = []
+pointer_of fault.Spent = []
+pointer_of (fault.Refused pointer kind) = string_bytes pointer
+pointer_of (fault.NotMade pointer kind message) = pointer.now
 
 -- the kind of a fault, for programs
 abbrev pub kind_of : LineFault → List ℕ
@@ -55,8 +55,8 @@ kind_of fault.TooLong = codes "length"
 kind_of fault.NoMemory = codes "memory"
 kind_of fault.Untold = codes "untold"
 kind_of fault.Spent = codes "NotOpen"
-kind_of (fault.Refused place kind) = refusal_kind kind
-kind_of (fault.NotMade place kind message) = kind.now
+kind_of (fault.Refused pointer kind) = refusal_kind kind
+kind_of (fault.NotMade pointer kind message) = kind.now
 
 -- the message of a fault, for people
 abbrev pub message_of : LineFault → List ℕ
@@ -65,8 +65,8 @@ message_of fault.TooLong = codes "the line has more than 16,777,216 bytes"
 message_of fault.NoMemory = codes "out of memory"
 message_of fault.Untold = codes "the call was made, and there was no memory to write its answer"
 message_of fault.Spent = codes "no open flush has this ticket"
-message_of (fault.Refused place kind) = refusal_message kind
-message_of (fault.NotMade place kind message) = message.now
+message_of (fault.Refused pointer kind) = refusal_message kind
+message_of (fault.NotMade pointer kind message) = message.now
 
 -- the column of what isn't JSON
 abbrev pub column_member : LineFault → List Token
@@ -75,17 +75,17 @@ column_member fault.TooLong = []
 column_member fault.NoMemory = []
 column_member fault.Untold = []
 column_member fault.Spent = []
-column_member (fault.Refused place kind) = []
-column_member (fault.NotMade place kind message) = []
+column_member (fault.Refused pointer kind) = []
+column_member (fault.NotMade pointer kind message) = []
 
--- a fault: its words at its place
+-- a fault: its words at its pointer
 abbrev pub fault_tokens : LineFault → List Token
 fault_tokens f =
     named (codes "error")
-    (text_member (codes "pointer") (place_of f) ++ text_member (codes "kind") (kind_of f) ++ column_member f
+    (text_member (codes "pointer") (pointer_of f) ++ text_member (codes "kind") (kind_of f) ++ column_member f
     ++ text_member (codes "message") (message_of f))
 
--- the line that tells a fault
+-- the line that says a fault
 abbrev pub fault_line : LineFault → List ℕ
 fault_line f = print (fault_tokens f) ++ 10 ∷ []
 
@@ -96,7 +96,7 @@ IsOfParse parse.NoMemory f = f ≡ fault.NoMemory
 
 -- the fault of a line whose value is refused
 abbrev pub IsOfInput : InputFault → LineFault → Type 0
-IsOfInput (input.Refused place kind) f = f ≡ fault.Refused place kind
+IsOfInput (input.Refused pointer kind) f = f ≡ fault.Refused pointer kind
 IsOfInput input.NoMemory f = f ≡ fault.NoMemory
 
 -- whether a line that is answered by this fault has changed nothing
@@ -106,8 +106,8 @@ changes_nothing fault.TooLong = true
 changes_nothing fault.NoMemory = true
 changes_nothing fault.Untold = false
 changes_nothing fault.Spent = false
-changes_nothing (fault.Refused place kind) = true
-changes_nothing (fault.NotMade place kind message) = true
+changes_nothing (fault.Refused pointer kind) = true
+changes_nothing (fault.NotMade pointer kind message) = true
 
 -- a call isn't made, for memory or because the board refuses it
 abbrev pub IsUnmade : LineFault → Type 0
@@ -116,31 +116,31 @@ IsUnmade fault.TooLong = ⊥
 IsUnmade fault.NoMemory = Unit {0}
 IsUnmade fault.Untold = ⊥
 IsUnmade fault.Spent = ⊥
-IsUnmade (fault.Refused place kind) = ⊥
-IsUnmade (fault.NotMade place kind message) = Unit {0}
+IsUnmade (fault.Refused pointer kind) = ⊥
+IsUnmade (fault.NotMade pointer kind message) = Unit {0}
 
--- the text tells the fault. Where memory for its words is refused it tells that, if the line has changed nothing
-abbrev pub TellsFault : LineFault → List ℕ → Type 0
-TellsFault f text = (text ≡ fault_line f) ⊎ (IsTrue (changes_nothing f) × (text ≡ fault_line fault.NoMemory))
+-- the text says the fault. Where memory for its words is refused it says that, if the line has changed nothing
+abbrev pub AnswersFault : LineFault → List ℕ → Type 0
+AnswersFault f text = (text ≡ fault_line f) ⊎ (IsTrue (changes_nothing f) × (text ≡ fault_line fault.NoMemory))
 
--- a call isn't made, for what has this kind at this place
+-- a call isn't made, for what has this kind at this pointer
 abbrev pub IsRefusedAs : LineFault → List ℕ → List ℕ → Type 0
-IsRefusedAs (fault.NotJson column) place kind = ⊥
-IsRefusedAs fault.TooLong place kind = ⊥
-IsRefusedAs fault.NoMemory place kind = ⊥
-IsRefusedAs fault.Untold place kind = ⊥
-IsRefusedAs fault.Spent place kind = ⊥
-IsRefusedAs (fault.Refused at what) place kind = ⊥
-IsRefusedAs (fault.NotMade at what message) place kind = (at.now ≡ place) × (what.now ≡ kind)
+IsRefusedAs (fault.NotJson column) pointer kind = ⊥
+IsRefusedAs fault.TooLong pointer kind = ⊥
+IsRefusedAs fault.NoMemory pointer kind = ⊥
+IsRefusedAs fault.Untold pointer kind = ⊥
+IsRefusedAs fault.Spent pointer kind = ⊥
+IsRefusedAs (fault.Refused at what) pointer kind = ⊥
+IsRefusedAs (fault.NotMade at what message) pointer kind = (at.now ≡ pointer) × (what.now ≡ kind)
 
--- the fault of a call, at its place, that the board refuses
+-- the fault of a call, at its pointer, that the board refuses
 abbrev pub IsOfBoard : List ℕ → Fault → LineFault → Type 0
-IsOfBoard place board.NoMemory f = f ≡ fault.NoMemory
-IsOfBoard place board.TooManyNames f = IsRefusedAs f place (codes "TooManyNames")
-IsOfBoard place board.TooManyGroups f = IsRefusedAs f place (codes "TooManyGroups")
-IsOfBoard place board.TooManySilences f = IsRefusedAs f place (codes "TooManySilences")
-IsOfBoard place board.TooManyOpen f = IsRefusedAs f place (codes "TooManyOpen")
-IsOfBoard place board.HistoryFull f = IsRefusedAs f place (codes "HistoryFull")
+IsOfBoard pointer board.NoMemory f = f ≡ fault.NoMemory
+IsOfBoard pointer board.TooManyAlerts f = IsRefusedAs f pointer (codes "TooManyNames")
+IsOfBoard pointer board.TooManyGroups f = IsRefusedAs f pointer (codes "TooManyGroups")
+IsOfBoard pointer board.TooManySilences f = IsRefusedAs f pointer (codes "TooManySilences")
+IsOfBoard pointer board.TooManyOpen f = IsRefusedAs f pointer (codes "TooManyOpen")
+IsOfBoard pointer board.HistoryFull f = IsRefusedAs f pointer (codes "HistoryFull")
 
 -- the fault of a note that the board refuses
 abbrev pub IsOfNote : NoteFault → LineFault → Type 0

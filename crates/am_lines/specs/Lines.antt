@@ -2,9 +2,9 @@
 use Rattle.std.specs.Prelude.{◌≡◌, ◌<◌, ◌≤◌, ◌+◌, ◌==◌, ◌⊎◌, ℕ, Bool, true, false, IsTrue, List, [], ◌∷◌, ◌++◌, if◌then◌else◌, length}
 use Rattle.am_cli.specs.declared.transfer.TheConstants.{MAX_INPUT}
 use Rattle.am_lines.specs.declared.lines.LineRead.{LineRead}
-use Rattle.am_lines.specs.declared.lines.LineRead.TheVariants.{Whole, TooLong, NoMemory, End}
+use Rattle.am_lines.specs.declared.lines.LineRead.TheVariants.{Complete, TooLong, NoMemory, End}
 
--- what stands behind the last line feed is a line, unless it is nothing
+-- what is behind the last line feed is a line, unless it is nothing
 abbrev pub last_line : List ℕ → List (List ℕ)
 last_line [] = []
 last_line (b ∷ line) = (b ∷ line) ∷ []
@@ -23,12 +23,12 @@ abbrev pub is_plain : List ℕ → Bool
 is_plain [] = true
 is_plain (b ∷ bytes) = if b == 10 then false else is_plain bytes
 
--- what a reader of lines has: the bytes that were given and aren't used, and whether the input has told its end
+-- what a reader of lines has: the bytes that were given and aren't used, and whether the input has reported its end
 pub record LinesData : Type 0 where
   pub unused : List ℕ
   pub ended : Bool
 
--- whether the input has told its end, as a number
+-- whether the input has reported its end, as a number
 abbrev pub end_count : LinesData → ℕ
 end_count r = if r.ended then 1 else 0
 
@@ -43,14 +43,14 @@ pub record Moves (from to : LinesData) (given used : List ℕ) : Type 0 where
 
 -- what is kept of the line that has this text so far: all of it, or nothing where it is too long or memory is refused
 abbrev pub IsKept : LineRead → List ℕ → List ℕ → Type 0
-IsKept Whole text kept = (kept ≡ text) × (length text ≤ MAX_INPUT)
+IsKept Complete text kept = (kept ≡ text) × (length text ≤ MAX_INPUT)
 IsKept TooLong text kept = MAX_INPUT < length text
 IsKept NoMemory text kept = Unit {0}
 IsKept End text kept = (text ≡ []) × (kept ≡ [])
 
 -- a line was read that has this text
 abbrev pub IsRead : LineRead → List ℕ → List ℕ → Type 0
-IsRead Whole text kept = IsKept Whole text kept
+IsRead Complete text kept = IsKept Complete text kept
 IsRead TooLong text kept = IsKept TooLong text kept
 IsRead NoMemory text kept = Unit {0}
 IsRead End text kept = ⊥
@@ -75,7 +75,7 @@ pub record ReadsEnd (old new : LinesData) (given given_to : List ℕ) : Type 0 w
 
 -- what came of reading a line
 abbrev pub Reads : LinesData → LinesData → List ℕ → List ℕ → LineRead → List ℕ → Type 0
-Reads old new given given_to Whole kept = ReadsLine old new given given_to Whole kept
+Reads old new given given_to Complete kept = ReadsLine old new given given_to Complete kept
 Reads old new given given_to TooLong kept = ReadsLine old new given given_to TooLong kept
 Reads old new given given_to NoMemory kept = ReadsLine old new given given_to NoMemory kept
 Reads old new given given_to End kept = ReadsEnd old new given given_to

@@ -1,4 +1,4 @@
--- Reply: the JSON tokens of the answers that tell a board's replies.
+-- Reply: the JSON tokens of the answers that say a board's replies.
 use Rattle.std.specs.Prelude.{ℕ, Bool, List, [], ◌∷◌, ◌++◌, codes, if◌then◌else◌}
 use Rattle.json.specs.Token.{Token, begin_array, end_array, key, string}
 use Rattle.am_config.specs.declared.dropped.IgnoredSettings.{IgnoredSettings}
@@ -33,7 +33,7 @@ abbrev pub quiet_tokens : Config → GroupName → ℕ → List Token
 quiet_tokens config group removed =
     named (codes "quiet") (key (codes "group") ∷ group_tokens config group ++ number_member (codes "removed") removed)
 
--- what is told of a flush: its number as that of the ticket, its group, whom it is for, until when, and the notices
+-- what is answered about a flush: its number as that of the ticket, its group, whom it is for, until when, and the notices
 abbrev pub flush_members : Config → ℕ → GroupName → ℕ → List NoticeData → List Token
 flush_members config ticket group deadline notices =
     number_member (codes "ticket") ticket ++ key (codes "group") ∷ group_tokens config group

@@ -1,4 +1,4 @@
--- View: the JSON tokens of the answers that tell what a board has, and what a begin would do.
+-- View: the JSON tokens of the answers that say what a board has, and what a begin would do.
 use Rattle.std.specs.Prelude.{ℕ, List, [], ◌∷◌, ◌++◌, codes, Option, None, Some}
 use Rattle.json.specs.Token.{Token, key}
 use Rattle.am_alerts.specs.declared.labels.Label.{Label}
@@ -14,7 +14,7 @@ use Rattle.am_model.specs.declared.views.GroupView.{GroupView}
 use Rattle.am_model.specs.declared.views.RowView.{RowView}
 use Rattle.am_model.specs.declared.views.Summary.{Summary}
 use Rattle.am_model.specs.Configured.{route_of}
-use Rattle.am_model.specs.look_back.Reasons.{asks}
+use Rattle.am_model.specs.look_back.Reasons.{notifies}
 use Rattle.am_lines.specs.Answer.{text_member, number_member, flag_member, object, array, optional_number}
 use Rattle.am_lines.specs.Answer.{labels_tokens, group_tokens, alert_tokens, integration_members}
 use Rattle.am_lines.specs.Reply.{named}
@@ -39,7 +39,7 @@ abbrev pub row_tokens : Config → RowView → List Token
 row_tokens config row =
     object (key (codes "group") ∷ group_tokens config row.group ++ text_member (codes "receiver") (route_of config row.group).receiver
     ++ integration_members config row.group row.integration
-    ++ number_member (codes "moment") row.moment ++ number_member (codes "expiry") row.expiry
+    ++ number_member (codes "moment") row.time ++ number_member (codes "expiry") row.expiry
     ++ key (codes "firing") ∷ array labels_tokens row.firing ++ key (codes "resolved") ∷ array labels_tokens row.resolved)
 
 -- a group with its alerts
@@ -94,18 +94,18 @@ reason_time (reason.RouteMuted until) = number_member (codes "until") until
 -- why an integration is notified or not
 abbrev pub reason_tokens : Reason → List Token
 reason_tokens r =
-    object (flag_member (codes "notifies") (asks r) ++ text_member (codes "reason") (reason_word r) ++ reason_time r)
+    object (flag_member (codes "notifies") (notifies r) ++ text_member (codes "reason") (reason_word r) ++ reason_time r)
 
 -- the group that a begin would take then, and its muted alerts
 abbrev pub taken_members : Config → ℕ → GroupName → List MutedAlert → List Token
-taken_members config moment group muted =
-    number_member (codes "now") moment ++ key (codes "group") ∷ group_tokens config group
+taken_members config time group muted =
+    number_member (codes "now") time ++ key (codes "group") ∷ group_tokens config group
     ++ text_member (codes "receiver") (route_of config group).receiver ++ key (codes "muted") ∷ array muted_tokens muted
 
 -- what a begin would do with the group that it would take, and why each integration would be notified or not
 abbrev pub preview_tokens : Config → Preview → List Token
 preview_tokens config p =
-    named (codes "outlook") (taken_members config p.moment p.group p.muted ++ key (codes "reasons") ∷ array reason_tokens p.reasons)
+    named (codes "outlook") (taken_members config p.time p.group p.muted ++ key (codes "reasons") ∷ array reason_tokens p.reasons)
 
 -- what a begin would do
 abbrev pub outlook_tokens : Config → Option Preview → List Token

@@ -31,7 +31,7 @@ impl Model for Answer {
     ghost invariant = { λ a. a.writer.before ≡ [] };
 }
 
-/// What answers tell as one JSON value. Routes and integrations have their names in a configuration.
+/// What answers say as one JSON value. Routes and integrations have their names in a configuration.
 pub trait ToJson {
     ghost use Rattle.std.specs.Prelude.{List};
     ghost use Rattle.json.specs.Token.{Token};

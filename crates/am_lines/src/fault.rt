@@ -1,7 +1,7 @@
 //! `LineFault`: why a line isn't answered by what it asks for, and the text of that.
 ghost use Rattle.std.specs.Prelude.{◌≡◌, ◌++◌, IfSome, IsTrue, None, OnOk, codes};
 ghost use Rattle.am_lines.specs.Fault.{changes_nothing, IsOfBoard, IsOfLoad, IsOfNote, IsOfReport, IsRefusedAs};
-ghost use Rattle.am_lines.specs.Fault.{fault_line, fault_tokens, kind_of, column_member, message_of, place_of};
+ghost use Rattle.am_lines.specs.Fault.{fault_line, fault_tokens, kind_of, column_member, message_of, pointer_of};
 ghost use Rattle.am_lines.specs.Fault.{refusal_kind, refusal_message};
 
 use crate::answer::Answer;
@@ -20,7 +20,7 @@ const UNTOLD_LINE: &str =
 const SPENT_LINE: &str =
     "{\"error\":{\"pointer\":\"\",\"kind\":\"NotOpen\",\"message\":\"no open flush has this ticket\"}}\n";
 
-/// Returns the line that tells that memory was refused. It needs none.
+/// Returns the line that says that memory was refused. It needs none.
 pub fn no_memory_line() -> &'static str
     ensures { result.now ≡ fault_line LineFault.NoMemory }
 {
@@ -30,7 +30,7 @@ pub fn no_memory_line() -> &'static str
 /// Why a line isn't answered by what it asks for. The board and the tickets are as before, except after `Untold` and `Spent`.
 #[derive(Drop)]
 pub enum LineFault {
-    /// It is no JSON text, for what stands at this column. It counts in bytes, from 1.
+    /// It is no JSON text, for what is at this column. It counts in bytes, from 1.
     NotJson {
         column: usize,
     },
@@ -42,14 +42,14 @@ pub enum LineFault {
     Untold,
     /// The ticket was there, and the board has no open flush of its number. The ticket is gone.
     Spent,
-    /// A value is refused; the place is a JSON pointer.
+    /// A value is refused; the pointer is a JSON pointer.
     Refused {
-        place: String,
+        pointer: String,
         fault_kind: FaultKind,
     },
-    /// The call is refused. The place is a JSON pointer, the kind is for programs, the message for people.
+    /// The call is refused. The pointer is a JSON pointer, the kind is for programs, the message for people.
     NotMade {
-        place: &'static str,
+        pointer: &'static str,
         kind: &'static str,
         message: &'static str,
     },
@@ -75,7 +75,13 @@ impl From<InputFault> for LineFault {
 
     fn from(fault: InputFault) -> LineFault {
         match fault {
-            InputFault::Refused { place, fault_kind } => LineFault::Refused { place, fault_kind },
+            InputFault::Refused {
+                pointer,
+                fault_kind,
+            } => LineFault::Refused {
+                pointer,
+                fault_kind,
+            },
             InputFault::NoMemory => LineFault::NoMemory,
         }
     }
@@ -93,13 +99,13 @@ impl From<AllocError> for LineFault {
 }
 
 impl LineFault {
-    /// Returns the fault of a call that the board refuses; the place is that of the call.
-    pub fn of_board(place: &'static str, fault: Fault) -> LineFault
-        ensures { IsOfBoard place.now fault result }
+    /// Returns the fault of a call that the board refuses; the pointer is that of the call.
+    pub fn of_board(pointer: &'static str, fault: Fault) -> LineFault
+        ensures { IsOfBoard pointer.now fault result }
     {
         let (kind, message) = match fault {
             Fault::NoMemory => return LineFault::NoMemory,
-            Fault::TooManyNames => (
+            Fault::TooManyAlerts => (
                 "TooManyNames",
                 "the label set is new, and as many alerts are known as may be",
             ),
@@ -121,7 +127,7 @@ impl LineFault {
             ),
         };
         LineFault::NotMade {
-            place,
+            pointer,
             kind,
             message,
         }
@@ -136,12 +142,12 @@ impl LineFault {
             NoteFault::HistoryFull => LineFault::of_board("/note", Fault::HistoryFull),
             NoteFault::Foreign | NoteFault::NotOpen => LineFault::not_open("/note/ticket"),
             NoteFault::NotReady => LineFault::NotMade {
-                place: "/note/integration",
+                pointer: "/note/integration",
                 kind: "NotReady",
                 message: "the flush has no notice for the integration, or it isn't reported delivered",
             },
             NoteFault::Already => LineFault::NotMade {
-                place: "/note/integration",
+                pointer: "/note/integration",
                 kind: "Already",
                 message: "the integration was noted before",
             },
@@ -152,7 +158,7 @@ impl LineFault {
     pub fn of_load(fault: LoadFault) -> LineFault
         ensures { IsOfLoad fault result }
     {
-        let (place, kind, message) = match fault {
+        let (pointer, kind, message) = match fault {
             LoadFault::NoMemory => return LineFault::NoMemory,
             LoadFault::HistoryFull => return LineFault::of_board("/load", Fault::HistoryFull),
             LoadFault::NoIntegration => (
@@ -172,7 +178,7 @@ impl LineFault {
             ),
         };
         LineFault::NotMade {
-            place,
+            pointer,
             kind,
             message,
         }
@@ -184,12 +190,12 @@ impl LineFault {
     {
         match fault {
             ReportFault::Stranger => LineFault::NotMade {
-                place: "/report/integration",
+                pointer: "/report/integration",
                 kind: "Stranger",
                 message: "the flush has no notice for the integration that has something to send",
             },
             ReportFault::Twice => LineFault::NotMade {
-                place: "/report/integration",
+                pointer: "/report/integration",
                 kind: "Twice",
                 message: "the notice has a report already",
             },
@@ -197,17 +203,17 @@ impl LineFault {
     }
 
     /// Returns the fault of a ticket of which no flush is open.
-    pub fn not_open(place: &'static str) -> LineFault
-        ensures { IsRefusedAs result place.now (codes "NotOpen") }
+    pub fn not_open(pointer: &'static str) -> LineFault
+        ensures { IsRefusedAs result pointer.now (codes "NotOpen") }
     {
         LineFault::NotMade {
-            place,
+            pointer,
             kind: "NotOpen",
             message: "no open flush has this ticket",
         }
     }
 
-    /// Returns the line that tells the fault, if that needs no memory. After each other fault all is as before.
+    /// Returns the line that says the fault, if that needs no memory. After each other fault all is as before.
     pub fn ready_line(&self) -> Option<&'static str>
         ensures line { IfSome result (λ line. line.now ≡ fault_line self.now) }
         ensures none { result ≡ None → IsTrue (changes_nothing self.now) }
@@ -227,7 +233,7 @@ impl LineFault {
     {
         let (kind, message) = self.words();
         begin("error", answer)?;
-        answer.put_text("pointer", self.place())?;
+        answer.put_text("pointer", self.pointer())?;
         answer.put_text("kind", kind)?;
         self.put_column(answer)?;
         answer.put_text("message", message)?;
@@ -244,15 +250,15 @@ impl LineFault {
         }
     }
 
-    fn place(&self) -> &str
-        ensures { result.now ≡ place_of self.now }
+    fn pointer(&self) -> &str
+        ensures { result.now ≡ pointer_of self.now }
     {
         match self {
             LineFault::Refused {
-                place,
+                pointer,
                 fault_kind: _,
-            } => place.as_str(),
-            LineFault::NotMade { place, .. } => place,
+            } => pointer.as_str(),
+            LineFault::NotMade { pointer, .. } => pointer,
             _ => "",
         }
     }
@@ -275,7 +281,7 @@ impl LineFault {
             ),
             LineFault::Spent => ("NotOpen", "no open flush has this ticket"),
             LineFault::Refused {
-                place: _,
+                pointer: _,
                 fault_kind,
             } => refusal_words(*fault_kind),
             LineFault::NotMade { kind, message, .. } => (kind, message),

@@ -2,15 +2,15 @@
 //!
 //! - `lines` finds the lines in what is given. `request` reads what a line asks.
 //! - `answer` is the JSON text of an answer; contracts see its tokens. `parts`, `reply`, `view` and `record` write what the
-//!   board's replies, views and records tell, `fault` why a line is refused.
+//!   board's replies, views and records say, `fault` why a line is refused.
 #![tactic(auto)]
 
 pub mod answer;
 pub mod fault;
 pub mod lines;
-mod moment;
 mod parts;
 pub mod record;
 pub mod reply;
 pub mod request;
+mod time;
 pub mod view;

@@ -19,7 +19,7 @@ const CHUNK: usize = 8_192;
 #[derive(Clone, Copy)]
 pub enum LineRead {
     /// The line is there, without its line feed.
-    Whole,
+    Complete,
     /// It has more than 16,777,216 bytes. It was read to its end, and isn't kept.
     TooLong,
     /// Memory was refused for it. It was read to its end, and isn't kept.
@@ -39,7 +39,7 @@ impl LineRead {
 
 /// The lines of an input. The caller has the line that was read last.
 ///
-/// Contracts see the bytes that were given and aren't used, and whether the input has told its end.
+/// Contracts see the bytes that were given and aren't used, and whether the input has reported its end.
 #[derive(Drop)]
 pub struct LineReader {
     /// What was given last.
@@ -48,7 +48,7 @@ pub struct LineReader {
     start: usize,
     /// How much of it was given.
     end: usize,
-    /// Whether the input has told its end. It isn't asked again.
+    /// Whether the input has reported its end. It isn't asked again.
     ended: bool,
 }
 
@@ -78,7 +78,7 @@ impl LineReader {
         }
     }
 
-    /// Reads the next line, in place of the one before. What stands behind the last line feed is a line too, unless it is nothing.
+    /// Reads the next line, in place of the one before. What is behind the last line feed is a line too, unless it is nothing.
     ///
     /// # Errors
     ///
@@ -173,7 +173,7 @@ impl LineReader {
     }
 }
 
-/// Returns the place of the first line feed.
+/// Returns the pointer of the first line feed.
 fn find_feed(bytes: &[u8]) -> Option<usize>
     ensures within { IfSome result (λ n. n < length bytes.now) }
     ensures first { result ≡ position (λ b. b == 10) bytes.now }
@@ -191,7 +191,7 @@ fn keep(line: &mut Vec<u8>, part: &[u8], read: LineRead) -> LineRead
 {
     match read {
         LineRead::TooLong | LineRead::NoMemory => read,
-        LineRead::Whole | LineRead::End => {
+        LineRead::Complete | LineRead::End => {
             if line.len() + part.len() > MAX_INPUT {
                 line.clear();
                 LineRead::TooLong
@@ -199,7 +199,7 @@ fn keep(line: &mut Vec<u8>, part: &[u8], read: LineRead) -> LineRead
                 line.clear();
                 LineRead::NoMemory
             } else {
-                LineRead::Whole
+                LineRead::Complete
             }
         }
     }

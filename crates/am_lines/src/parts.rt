@@ -1,4 +1,4 @@
-//! What several answers tell: label sets, groups, alerts, integrations and notices.
+//! What several answers say: label sets, groups, alerts, integrations and notices.
 ghost use Rattle.std.specs.Prelude.{◌≡◌, ◌++◌, ◌∷◌, OnOk};
 ghost use Rattle.std.specs.List.{flat_map};
 ghost use Rattle.json.specs.Token.{key};

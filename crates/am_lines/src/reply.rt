@@ -1,4 +1,4 @@
-//! The answers that tell a board's replies to its calls. `am_dispatch` calls it.
+//! The answers that say a board's replies to its calls. `am_dispatch` calls it.
 ghost use Rattle.std.specs.Prelude.{◌≡◌, ◌++◌, ◌∷◌, [], OnOk};
 ghost use Rattle.json.specs.Token.{begin_object, end_object, key};
 ghost use Rattle.am_lines.specs.Reply.{counts_tokens, flush_members, flush_tokens, ignored_tokens, inserted_tokens};
@@ -13,7 +13,7 @@ use am_model::notice::Notice;
 use am_model::record::{Inserted, Loaded, Opened, Reply, Silenced};
 use std::alloc::AllocError;
 
-/// Writes a reply: an object with one member, whose name tells what came, and whose value the reply's numbers and lists.
+/// Writes a reply: an object with one member, whose name says what came, and whose value the reply's numbers and lists.
 pub fn write_reply(config: &Config, reply: &Reply, answer: &mut Answer) -> Result<(), AllocError>
     ensures { OnOk result (answer.new ≡ answer.old ++ reply_tokens config.now reply.now) }
 {
@@ -145,7 +145,7 @@ pub fn write_flush(
     end(answer)
 }
 
-/// Adds what a begin tells of the flush that it opened.
+/// Adds what a begin says of the flush that it opened.
 pub fn put_flush(
     config: &Config,
     number: u64,

@@ -11,10 +11,10 @@ ghost use Rattle.am_cli.specs.Decoding.{Has, HasIf, IsList, IsNumber, IsText};
 ghost use Rattle.am_mute.specs.Silence.{silence_of};
 ghost use Rattle.am_lines.specs.Request.{IsGroupLabels, HasOneMember, IsOpening, IsOutcome, IsRequestIn, IsRequestOf, outcome_word};
 
-use crate::moment::{ends, moment_at, moment_or};
+use crate::time::{ends, time_at, time_or};
 use am_alerts::alert::{Alert, AlertFault};
 use am_alerts::labels::Labels;
-use am_alerts::limits::{MAX_MATCHERS, MAX_MOMENT};
+use am_alerts::limits::{MAX_MATCHERS, MAX_TIME};
 use am_alerts::matcher::Matcher;
 use am_alerts::text::Text;
 use am_cli::config::read_config;
@@ -126,7 +126,7 @@ pub struct NamedRow {
     pub receiver: Option<Text>,
     pub integration: u32,
     pub kind: Text,
-    pub moment: u64,
+    pub time: u64,
     pub expiry: u64,
     pub firing: Vec<Labels>,
     pub resolved: Vec<Labels>,
@@ -151,7 +151,7 @@ struct Nothing;
 /// The first value that is refused, in the order of reading. Of an `alertmanager.yml` that is refused for several faults it
 /// is the first.
 pub fn read_request(reader: &Reader<'_, '_>) -> Result<Request, InputFault>
-    ensures { IfOk result (IsRequestIn reader.now.dialect (view reader.now.value)) }
+    ensures { IfOk result (IsRequestIn reader.now.mode (view reader.now.value)) }
 {
     let line = reader.object()?;
     let name = only_name(reader, &line)?;
@@ -161,7 +161,7 @@ pub fn read_request(reader: &Reader<'_, '_>) -> Result<Request, InputFault>
 
 /// Reads what a line asks whose member has this name.
 fn read_call(line: &Object<'_, '_>, name: &str) -> Result<Request, InputFault>
-    ensures { IfOk result (IsRequestOf line.now.dialect (members_view line.now.members)) }
+    ensures { IfOk result (IsRequestOf line.now.mode (members_view line.now.members)) }
 {
     match name {
         "config" => Ok(Request::Open(read_own(line)?)),
@@ -182,21 +182,24 @@ fn read_call(line: &Object<'_, '_>, name: &str) -> Result<Request, InputFault>
 
 /// Reads what has no arguments: what asks for a view, or for the history.
 fn read_bare(line: &Object<'_, '_>, name: &str) -> Result<Request, InputFault>
-    ensures { IfOk result (IsRequestOf line.now.dialect (members_view line.now.members)) }
+    ensures { IfOk result (IsRequestOf line.now.mode (members_view line.now.members)) }
 {
     match name {
-        "next_due" => asked(member(line, "next_due"), Request::NextDue),
-        "rows" => asked(member(line, "rows"), Request::Rows),
-        "groups" => asked(member(line, "groups"), Request::Groups),
-        "summary" => asked(member(line, "summary"), Request::Summary),
-        "tickets" => asked(member(line, "tickets"), Request::Tickets),
-        "take_history" => asked(member(line, "take_history"), Request::TakeHistory),
+        "next_due" => without_fields(member(line, "next_due"), Request::NextDue),
+        "rows" => without_fields(member(line, "rows"), Request::Rows),
+        "groups" => without_fields(member(line, "groups"), Request::Groups),
+        "summary" => without_fields(member(line, "summary"), Request::Summary),
+        "tickets" => without_fields(member(line, "tickets"), Request::Tickets),
+        "take_history" => without_fields(member(line, "take_history"), Request::TakeHistory),
         _ => Err(line.required(name)?.refuse(FaultKind::Unknown)),
     }
 }
 
 /// What is asked, if its arguments are none.
-fn asked(read: Result<Nothing, InputFault>, request: Request) -> Result<Request, InputFault>
+fn without_fields(
+    read: Result<Nothing, InputFault>,
+    request: Request,
+) -> Result<Request, InputFault>
     ensures { IfOk result (λ r. IsOkAnd read (λ _. r ≡ request)) }
 {
     let Nothing = read?;
@@ -205,7 +208,7 @@ fn asked(read: Result<Nothing, InputFault>, request: Request) -> Result<Request,
 
 /// Reads the value of a member that must be there.
 fn member<'v, T: FromJson<'v>>(line: &Object<'v, '_>, name: &str) -> Result<T, InputFault>
-    ensures { IfOk result (Has (T.decodes_to line.now.dialect) name.now (members_view line.now.members)) }
+    ensures { IfOk result (Has (T.decodes_to line.now.mode) name.now (members_view line.now.members)) }
 {
     let value = T::read(&line.required(name)?)?;
     Ok(value)
@@ -231,7 +234,7 @@ fn only_name<'v>(reader: &Reader<'v, '_>, line: &Object<'v, '_>) -> Result<&'v s
 
 /// Reads a configuration of our own, the member `config`.
 fn read_own(line: &Object<'_, '_>) -> Result<Opening, InputFault>
-    ensures { IfOk result (λ opening. IsOpening line.now.dialect (members_view line.now.members) opening) }
+    ensures { IfOk result (λ opening. IsOpening line.now.mode (members_view line.now.members) opening) }
 {
     let config = read_config(&line.required("config")?)?;
     Ok(Opening {
@@ -242,7 +245,7 @@ fn read_own(line: &Object<'_, '_>) -> Result<Opening, InputFault>
 
 /// Reads a configuration of Alertmanager, the member `alertmanager`.
 fn read_theirs(line: &Object<'_, '_>) -> Result<Opening, InputFault>
-    ensures { IfOk result (λ opening. IsOpening line.now.dialect (members_view line.now.members) opening) }
+    ensures { IfOk result (λ opening. IsOpening line.now.mode (members_view line.now.members) opening) }
 {
     let reader = line.required("alertmanager")?;
     match read_alertmanager(&reader, None) {
@@ -265,10 +268,10 @@ fn read_theirs(line: &Object<'_, '_>) -> Result<Opening, InputFault>
 fn first_of(alloc: Global, faults: &Faults) -> InputFault {
     match faults.as_slice().first() {
         None => InputFault::NoMemory,
-        Some(fault) => match String::from_str(alloc, fault.place.as_str()) {
+        Some(fault) => match String::from_str(alloc, fault.pointer.as_str()) {
             Err(_) => InputFault::NoMemory,
-            Ok(place) => InputFault::Refused {
-                place,
+            Ok(pointer) => InputFault::Refused {
+                pointer,
                 fault_kind: fault.fault_kind,
             },
         },
@@ -285,13 +288,13 @@ impl<'v> FromJson<'v> for Nothing {
 impl<'v> FromJson<'v> for Timed {
     ghost use Rattle.am_lines.specs.Request.{DecodesToTimed};
 
-    ghost decodes_to = { λ dialect value timed. DecodesToTimed value timed };
+    ghost decodes_to = { λ mode value timed. DecodesToTimed value timed };
 
     fn read(reader: &Reader<'v, '_>) -> Result<Timed, InputFault> {
         let call = reader.object()?;
         call.only(&["now"])?;
         Ok(Timed {
-            now: moment_at(&call, "now")?,
+            now: time_at(&call, "now")?,
         })
     }
 }
@@ -299,13 +302,13 @@ impl<'v> FromJson<'v> for Timed {
 impl<'v> FromJson<'v> for Insertion {
     ghost use Rattle.am_lines.specs.Request.{DecodesToInsertion};
 
-    ghost decodes_to = { λ dialect value insertion. DecodesToInsertion dialect value insertion };
+    ghost decodes_to = { λ mode value insertion. DecodesToInsertion mode value insertion };
 
     fn read(reader: &Reader<'v, '_>) -> Result<Insertion, InputFault> {
         let call = reader.object()?;
         call.only(&["now", "labels", "starts", "ends"])?;
-        let now = moment_at(&call, "now")?;
-        let starts = moment_or(&call, "starts", now)?;
+        let now = time_at(&call, "now")?;
+        let starts = time_or(&call, "starts", now)?;
         let ends = ends(&call)?;
         let labels = member(&call, "labels")?;
         let alert = make_alert(reader, labels, starts, ends)?;
@@ -332,23 +335,23 @@ fn make_alert(
 fn member_at_fault(fault: AlertFault, starts: u64) -> &'static str {
     match fault {
         AlertFault::NoLabels => "labels",
-        AlertFault::BadMoment if starts > MAX_MOMENT => "starts",
-        AlertFault::BadMoment | AlertFault::EndBeforeStart => "ends",
+        AlertFault::BadTime if starts > MAX_TIME => "starts",
+        AlertFault::BadTime | AlertFault::EndBeforeStart => "ends",
     }
 }
 
 impl<'v> FromJson<'v> for Silencing {
     ghost use Rattle.am_lines.specs.Request.{DecodesToSilencing};
 
-    ghost decodes_to = { λ dialect value silencing. DecodesToSilencing dialect value silencing };
+    ghost decodes_to = { λ mode value silencing. DecodesToSilencing mode value silencing };
 
     fn read(reader: &Reader<'v, '_>) -> Result<Silencing, InputFault> {
         let call = reader.object()?;
         call.only(&["now", "id", "matchers", "starts", "ends"])?;
-        let now = moment_at(&call, "now")?;
+        let now = time_at(&call, "now")?;
         let id = number_at(&call, "id")?;
-        let starts = moment_or(&call, "starts", now)?;
-        let ends = moment_at(&call, "ends")?;
+        let starts = time_or(&call, "starts", now)?;
+        let ends = time_at(&call, "ends")?;
         let matchers = matchers_at(&call)?;
         let silence = make_silence(reader, id, matchers, starts, ends)?;
         Ok(Silencing { now, silence })
@@ -357,7 +360,7 @@ impl<'v> FromJson<'v> for Silencing {
 
 /// Reads the matchers of a silence. They are counted before the first is read: each can want much memory.
 fn matchers_at(call: &Object<'_, '_>) -> Result<Vec<Matcher>, InputFault>
-    ensures { IfOk result (λ matchers. Has (IsList (DecodesToMatcher call.now.dialect)) (codes "matchers")
+    ensures { IfOk result (λ matchers. Has (IsList (DecodesToMatcher call.now.mode)) (codes "matchers")
         (members_view call.now.members) matchers.items) }
 {
     let listed = call.required("matchers")?;
@@ -389,19 +392,19 @@ fn make_silence(
 fn part_at_fault(fault: SilenceFault, starts: u64) -> &'static str {
     match fault {
         SilenceFault::NoMatchers | SilenceFault::TooManyMatchers => "matchers",
-        SilenceFault::BadMoments if starts > MAX_MOMENT => "starts",
-        SilenceFault::BadMoments => "ends",
+        SilenceFault::BadTimes if starts > MAX_TIME => "starts",
+        SilenceFault::BadTimes => "ends",
     }
 }
 
 fn refuse_member(reader: &Reader<'_, '_>, name: &str) -> InputFault {
-    reader.refuse_at(&reader.place().member(name), FaultKind::BadValue)
+    reader.refuse_at(&reader.pointer().member(name), FaultKind::BadValue)
 }
 
 impl<'v> FromJson<'v> for Reporting {
     ghost use Rattle.am_lines.specs.Request.{DecodesToReporting};
 
-    ghost decodes_to = { λ dialect value reporting. DecodesToReporting value reporting };
+    ghost decodes_to = { λ mode value reporting. DecodesToReporting value reporting };
 
     fn read(reader: &Reader<'v, '_>) -> Result<Reporting, InputFault> {
         let call = reader.object()?;
@@ -417,13 +420,13 @@ impl<'v> FromJson<'v> for Reporting {
 impl<'v> FromJson<'v> for Noting {
     ghost use Rattle.am_lines.specs.Request.{DecodesToNoting};
 
-    ghost decodes_to = { λ dialect value noting. DecodesToNoting value noting };
+    ghost decodes_to = { λ mode value noting. DecodesToNoting value noting };
 
     fn read(reader: &Reader<'v, '_>) -> Result<Noting, InputFault> {
         let call = reader.object()?;
         call.only(&["now", "ticket", "integration"])?;
         Ok(Noting {
-            now: moment_at(&call, "now")?,
+            now: time_at(&call, "now")?,
             ticket: number_at(&call, "ticket")?,
             integration: position_at(&call)?,
         })
@@ -433,13 +436,13 @@ impl<'v> FromJson<'v> for Noting {
 impl<'v> FromJson<'v> for Finishing {
     ghost use Rattle.am_lines.specs.Request.{DecodesToFinishing};
 
-    ghost decodes_to = { λ dialect value finishing. DecodesToFinishing value finishing };
+    ghost decodes_to = { λ mode value finishing. DecodesToFinishing value finishing };
 
     fn read(reader: &Reader<'v, '_>) -> Result<Finishing, InputFault> {
         let call = reader.object()?;
         call.only(&["now", "ticket"])?;
         Ok(Finishing {
-            now: moment_at(&call, "now")?,
+            now: time_at(&call, "now")?,
             ticket: number_at(&call, "ticket")?,
         })
     }
@@ -448,12 +451,12 @@ impl<'v> FromJson<'v> for Finishing {
 impl<'v> FromJson<'v> for Loading {
     ghost use Rattle.am_lines.specs.Request.{DecodesToLoading};
 
-    ghost decodes_to = { λ dialect value loading. DecodesToLoading dialect value loading };
+    ghost decodes_to = { λ mode value loading. DecodesToLoading mode value loading };
 
     fn read(reader: &Reader<'v, '_>) -> Result<Loading, InputFault> {
         let call = reader.object()?;
         call.only(&["now", "row"])?;
-        let now = moment_at(&call, "now")?;
+        let now = time_at(&call, "now")?;
         let row = member(&call, "row")?;
         Ok(Loading { now, row })
     }
@@ -462,7 +465,7 @@ impl<'v> FromJson<'v> for Loading {
 impl<'v> FromJson<'v> for NamedRow {
     ghost use Rattle.am_lines.specs.Request.{DecodesToRow};
 
-    ghost decodes_to = { λ dialect value row. DecodesToRow dialect value row };
+    ghost decodes_to = { λ mode value row. DecodesToRow mode value row };
 
     fn read(reader: &Reader<'v, '_>) -> Result<NamedRow, InputFault> {
         let row = reader.object()?;
@@ -477,8 +480,8 @@ impl<'v> FromJson<'v> for NamedRow {
             "resolved",
         ])?;
         let integration = position_at(&row)?;
-        let moment = moment_at(&row, "moment")?;
-        let expiry = moment_at(&row, "expiry")?;
+        let time = time_at(&row, "moment")?;
+        let expiry = time_at(&row, "expiry")?;
         let group = member(&row, "group")?;
         let receiver = receiver_at(&row)?;
         let kind = member(&row, "kind")?;
@@ -489,7 +492,7 @@ impl<'v> FromJson<'v> for NamedRow {
             receiver,
             integration,
             kind,
-            moment,
+            time,
             expiry,
             firing,
             resolved,
@@ -510,7 +513,7 @@ fn receiver_at(row: &Object<'_, '_>) -> Result<Option<Text>, InputFault>
 impl<'v> FromJson<'v> for NamedGroup {
     ghost use Rattle.am_lines.specs.Request.{DecodesToGroup};
 
-    ghost decodes_to = { λ dialect value group. DecodesToGroup dialect value group };
+    ghost decodes_to = { λ mode value group. DecodesToGroup mode value group };
 
     fn read(reader: &Reader<'v, '_>) -> Result<NamedGroup, InputFault> {
         let group = reader.object()?;
@@ -523,7 +526,7 @@ impl<'v> FromJson<'v> for NamedGroup {
 
 /// Reads the labels of a group, the member `labels`.
 fn group_labels_at(group: &Object<'_, '_>) -> Result<Option<Labels>, InputFault>
-    ensures { IfOk result (Has (IsGroupLabels group.now.dialect) (codes "labels") (members_view group.now.members)) }
+    ensures { IfOk result (Has (IsGroupLabels group.now.mode) (codes "labels") (members_view group.now.members)) }
 {
     let labels = read_group_labels(&group.required("labels")?)?;
     Ok(labels)
@@ -531,7 +534,7 @@ fn group_labels_at(group: &Object<'_, '_>) -> Result<Option<Labels>, InputFault>
 
 /// Reads a label set, or an object without members for none.
 fn read_group_labels(reader: &Reader<'_, '_>) -> Result<Option<Labels>, InputFault>
-    ensures { IfOk result (IsGroupLabels reader.now.dialect (view reader.now.value)) }
+    ensures { IfOk result (IsGroupLabels reader.now.mode (view reader.now.value)) }
 {
     if has_no_members(reader) {
         return Ok(None);
@@ -556,7 +559,7 @@ fn has_no_members(reader: &Reader<'_, '_>) -> bool
 
 /// Reads label sets.
 fn label_sets(row: &Object<'_, '_>, name: &str) -> Result<Vec<Labels>, InputFault>
-    ensures { IfOk result (λ sets. Has (IsList (DecodesToLabels row.now.dialect)) name.now
+    ensures { IfOk result (λ sets. Has (IsList (DecodesToLabels row.now.mode)) name.now
         (members_view row.now.members) sets.items) }
 {
     let sets = row.required(name)?.list::<Labels>()?;

@@ -1,4 +1,4 @@
-//! The answers that tell what a board has, and what a begin would do. `am_dispatch` calls it.
+//! The answers that say what a board has, and what a begin would do. `am_dispatch` calls it.
 ghost use Rattle.std.specs.Prelude.{◌≡◌, ◌++◌, OnOk, option_copied};
 ghost use Rattle.am_lines.specs.View.{cause_members, due_tokens, inhibited_members, listed, outlook_tokens, preview_tokens};
 ghost use Rattle.am_lines.specs.View.{reason_time, reason_word, taken_members, silenced_members, summary_tokens};
@@ -61,7 +61,7 @@ impl ToJson for RowView {
         answer.put(config, "group", &self.group)?;
         answer.put_text("receiver", config.route_of(&self.group).receiver.as_str())?;
         put_integration(config, &self.group, self.integration, answer)?;
-        answer.put_number("moment", self.moment)?;
+        answer.put_number("moment", self.time)?;
         answer.put_number("expiry", self.expiry)?;
         answer.put_list(config, "firing", self.firing.as_slice())?;
         answer.put_list(config, "resolved", self.resolved.as_slice())?;
@@ -104,7 +104,7 @@ fn write_preview(config: &Config, preview: &Preview, answer: &mut Answer) -> Res
     begin("outlook", answer)?;
     put_taken(
         config,
-        preview.moment,
+        preview.time,
         &preview.group,
         preview.muted.as_slice(),
         answer,
@@ -116,14 +116,14 @@ fn write_preview(config: &Config, preview: &Preview, answer: &mut Answer) -> Res
 /// Adds the group that a begin would take then, and its muted alerts.
 fn put_taken(
     config: &Config,
-    moment: u64,
+    time: u64,
     group: &GroupName,
     muted: &[MutedAlert],
     answer: &mut Answer,
 ) -> Result<(), AllocError>
-    ensures { OnOk result (answer.new ≡ answer.old ++ taken_members config.now moment group.now muted.now) }
+    ensures { OnOk result (answer.new ≡ answer.old ++ taken_members config.now time group.now muted.now) }
 {
-    answer.put_number("now", moment)?;
+    answer.put_number("now", time)?;
     answer.put(config, "group", group)?;
     answer.put_text("receiver", config.route_of(group).receiver.as_str())?;
     answer.put_list(config, "muted", muted)
@@ -179,7 +179,7 @@ impl ToJson for Reason {
 
     fn write(&self, _config: &Config, answer: &mut Answer) -> Result<(), AllocError> {
         answer.open()?;
-        answer.put_flag("notifies", self.asks())?;
+        answer.put_flag("notifies", self.notifies())?;
         answer.put_text("reason", reason_word(self))?;
         put_time(self, answer)?;
         answer.close()

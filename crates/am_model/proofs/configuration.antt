@@ -1,6 +1,6 @@
 pub mod Carried
 pub mod Faultless
-pub mod FewAsked
+pub mod FewNotified
 pub mod GroupReceiver
 pub mod Led
 pub mod Receivers

@@ -15,4 +15,4 @@ pub mod Histories
 pub mod KnownMembers
 pub mod LedRows
 pub mod LoadableRows
-pub mod RowMoments
+pub mod RowTimes

@@ -2,7 +2,7 @@ pub mod Alone
 pub mod Distinct
 pub mod Exchanges
 pub mod InOrder
-pub mod Places
+pub mod Indexes
 pub mod Removals
 pub mod Sets
 pub mod Words

@@ -23,9 +23,9 @@ use Rattle.am_model.specs.Configured.{rules_of, route_of, route_muted, integrati
 use Rattle.am_model.specs.Notice.{NoticeData}
 use Rattle.am_model.specs.Records.{flush_reply}
 use Rattle.am_model.specs.Lists.{without, unless, changed_where, in_order, least}
-use Rattle.am_model.specs.State.{GroupState, AskedState, Stamped, FlushState, State, at_moment, is_named, same_name, name_cmp, is_flushing}
+use Rattle.am_model.specs.State.{GroupState, NotifiedState, Stamped, FlushState, State, at_time, is_named, same_name, name_cmp, is_flushing}
 
--- the order in which groups are taken: by due moment, then by name
+-- the order in which groups are taken: by due time, then by name
 abbrev pub due_cmp : GroupState → GroupState → Ordering
 due_cmp g h = ordering_then (nat_cmp g.due h.due) (name_cmp g.name h.name)
 
@@ -37,7 +37,7 @@ may_begin s t g = nat_le g.due t && not (is_flushing s.flushes g.name)
 abbrev pub taken : State → ℕ → Option GroupState
 taken s t = least due_cmp (filter (may_begin s t) s.groups)
 
--- when the next group is due that has no open flush: the one that a begin at the last moment of all takes
+-- when the next group is due that has no open flush: the one that a begin at the last time of all takes
 abbrev pub next_due : State → Option ℕ
 next_due s = option_map (λ g. g.due) (taken s MAX_DEADLINE)
 
@@ -75,7 +75,7 @@ is_entry_of name integration row = same_name name row.group && (integration == r
 
 -- a row as the log keeps it under its key
 abbrev pub log_row : RowView → LogRow (List Label)
-log_row row = record { moment = row.moment; firing = row.firing; resolved = row.resolved; expiry = row.expiry }
+log_row row = record { time = row.time; firing = row.firing; resolved = row.resolved; expiry = row.expiry }
 
 -- an integration's entry for a group, past its expiry too
 abbrev pub entry_of : List RowView → GroupName → ℕ → Option (LogRow (List Label))
@@ -87,14 +87,14 @@ needs config s t name firing resolved i =
     needed same_label_set (entry_of s.rows name i.0) firing resolved i.1.send_resolved (route_of config name).repeat_interval t
 
 -- the integrations of a group's receiver that need an update; none where nothing fires and nothing is resolved
-abbrev pub asked_about : Config → State → ℕ → GroupName → List (List Label) → List (List Label) → List (ℕ × Integration)
-asked_about config s t name firing resolved =
+abbrev pub notified_about : Config → State → ℕ → GroupName → List (List Label) → List (List Label) → List (ℕ × Integration)
+notified_about config s t name firing resolved =
     if is_empty firing && is_empty resolved then [] else filter (needs config s t name firing resolved) (integrations_of config name)
 
--- the integrations that the flush of a group at t asks
-abbrev pub asked_of : Config → State → ℕ → GroupState → List (ℕ × Integration)
-asked_of config s t g =
-    asked_about config s t g.name (label_sets (firing_of config s t g)) (label_sets (resolved_of config s t g))
+-- the integrations that the flush of a group at t notifies
+abbrev pub notified_of : Config → State → ℕ → GroupState → List (ℕ × Integration)
+notified_of config s t g =
+    notified_about config s t g.name (label_sets (firing_of config s t g)) (label_sets (resolved_of config s t g))
 
 -- the resolved alerts that an integration is sent
 abbrev pub sent : Integration → List AlertData → List AlertData
@@ -104,11 +104,11 @@ sent i resolved = if i.send_resolved then resolved else []
 abbrev pub deadline_of : Config → ℕ → GroupState → ℕ
 deadline_of config t g = t + max (route_of config g.name).group_interval MIN_FLUSH_TIMEOUT
 
--- the notice for an integration that is asked
+-- the notice for an integration that is notified
 abbrev pub notice_for : Config → ℕ → State → ℕ → GroupState → ℕ × Integration → NoticeData
 notice_for config id s t g i =
     record {
-      desk = id;
+      board_id = id;
       ticket = s.next_number;
       deadline = deadline_of config t g;
       group = g.name;
@@ -121,16 +121,16 @@ notice_for config id s t g i =
 abbrev pub count_resolved : ℕ → GroupState → ℕ
 count_resolved t g = count_by (λ m. is_resolved m.alert t) g.members
 
--- the reply where a group is taken and these integrations are asked: a flush, or all is quiet
-abbrev pub reply_asking : Config → ℕ → State → ℕ → GroupState → List (ℕ × Integration) → Reply
-reply_asking config id s t g [] = Quiet g.name (count_resolved t g)
-reply_asking config id s t g (i ∷ is) =
+-- the reply where a group is taken and these integrations are notified: a flush, or all is quiet
+abbrev pub reply_notifying : Config → ℕ → State → ℕ → GroupState → List (ℕ × Integration) → Reply
+reply_notifying config id s t g [] = Quiet g.name (count_resolved t g)
+reply_notifying config id s t g (i ∷ is) =
     flush_reply s.next_number g.name (deadline_of config t g) (map (notice_for config id s t g) (i ∷ is))
 
 -- the reply to a begin at t that takes this group
 abbrev pub reply_taking : Config → ℕ → State → ℕ → Option GroupState → Reply
 reply_taking config id s t None = NothingDue
-reply_taking config id s t (Some g) = reply_asking config id s t g (asked_of config s t g)
+reply_taking config id s t (Some g) = reply_notifying config id s t g (notified_of config s t g)
 
 -- the reply to a begin at t
 abbrev pub begun : Config → ℕ → State → ℕ → Reply
@@ -144,51 +144,51 @@ begun_group config t g = record g { due = t + (route_of config g.name).group_int
 abbrev pub without_resolved : ℕ → GroupState → GroupState
 without_resolved t g = record g { members = without (λ m. is_resolved m.alert t) g.members }
 
--- an integration that was asked, with nothing to send where neither alerts fire nor resolved ones are sent
-abbrev pub asked_state : Config → State → ℕ → GroupState → ℕ × Integration → AskedState
-asked_state config s t g i =
+-- an integration that was notified, with nothing to send where neither alerts fire nor resolved ones are sent
+abbrev pub notified_state : Config → State → ℕ → GroupState → ℕ × Integration → NotifiedState
+notified_state config s t g i =
     record {
       integration = i.0;
       nothing = is_empty (firing_of config s t g) && is_empty (sent i.1 (resolved_of config s t g));
       noted = false;
     }
 
--- the alerts of a group that are resolved at t, as they stand in it, muted ones too
+-- the alerts of a group that are resolved at t, as they are in it, muted ones too
 abbrev pub leaving_of : ℕ → GroupState → List Stamped
 leaving_of t g =
     map (λ m. record { labels = m.alert.labels; stamp = m.stamp }) (filter (λ m. is_resolved m.alert t) g.members)
 
--- the flush of a group at t that asks these integrations
-abbrev pub flush_asking : Config → State → ℕ → GroupState → List (ℕ × Integration) → FlushState
-flush_asking config s t g asked =
+-- the flush of a group at t that notifies these integrations
+abbrev pub flush_notifying : Config → State → ℕ → GroupState → List (ℕ × Integration) → FlushState
+flush_notifying config s t g notified =
     record {
       number = s.next_number;
       group = g.name;
-      asked = map (asked_state config s t g) asked;
+      notified = map (notified_state config s t g) notified;
       firing = label_sets (firing_of config s t g);
       resolved = label_sets (resolved_of config s t g);
       leaving = leaving_of t g;
     }
 
--- the state after a begin at t that takes a group and asks these integrations: a flush is opened, or the resolved alerts leave
-abbrev pub after_asking : Config → State → ℕ → GroupState → List (ℕ × Integration) → State
-after_asking config s t g [] =
+-- the state after a begin at t that takes a group and notifies these integrations: a flush is opened, or the resolved alerts leave
+abbrev pub after_notifying : Config → State → ℕ → GroupState → List (ℕ × Integration) → State
+after_notifying config s t g [] =
     record s {
       clock = t;
       groups = changed_where (is_named g.name) (λ h. without_resolved t (begun_group config t h)) s.groups;
     }
-after_asking config s t g (i ∷ is) =
+after_notifying config s t g (i ∷ is) =
     record s {
       clock = t;
       groups = changed_where (is_named g.name) (begun_group config t) s.groups;
-      flushes = s.flushes ++ flush_asking config s t g (i ∷ is) ∷ [];
+      flushes = s.flushes ++ flush_notifying config s t g (i ∷ is) ∷ [];
       next_number = s.next_number + 1;
     }
 
 -- the state after a begin at t that takes this group
 abbrev pub after_taking : Config → State → ℕ → Option GroupState → State
-after_taking config s t None = at_moment s t
-after_taking config s t (Some g) = after_asking config s t g (asked_of config s t g)
+after_taking config s t None = at_time s t
+after_taking config s t (Some g) = after_notifying config s t g (notified_of config s t g)
 
 -- the state after a begin at t
 abbrev pub after_begin : Config → State → ℕ → State

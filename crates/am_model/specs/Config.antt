@@ -14,12 +14,12 @@ use Rattle.am_model.specs.declared.config.ConfigFault.TheVariants.{BadKind, TooM
 use Rattle.am_model.specs.declared.config.Integration.{Integration}
 use Rattle.am_model.specs.declared.config.Limits.{Limits}
 use Rattle.am_model.specs.declared.config.Receiver.{Receiver}
-use Rattle.am_model.specs.declared.config.TheConstants.{MAX_RECEIVERS, MAX_INTEGRATIONS, MAX_RULES, MAX_NAMES, MAX_GROUPS, MAX_SILENCES}
+use Rattle.am_model.specs.declared.config.TheConstants.{MAX_RECEIVERS, MAX_INTEGRATIONS, MAX_RULES, MAX_ALERTS, MAX_GROUPS, MAX_SILENCES}
 use Rattle.am_model.specs.declared.config.TheConstants.{MAX_FLUSHES, MAX_HISTORY}
 
 -- the limits where none is lowered
 abbrev pub greatest_limits : Limits
-greatest_limits = record { names = MAX_NAMES; groups = MAX_GROUPS; silences = MAX_SILENCES; flushes = MAX_FLUSHES; history = MAX_HISTORY }
+greatest_limits = record { alerts = MAX_ALERTS; groups = MAX_GROUPS; silences = MAX_SILENCES; flushes = MAX_FLUSHES; history = MAX_HISTORY }
 
 -- a limit from 1 to its greatest value
 abbrev pub IsWithin : ℕ → ℕ → Type 0
@@ -27,7 +27,7 @@ IsWithin limit most = (1 ≤ limit) × (limit ≤ most)
 
 -- each limit is at least 1 and at most its greatest value
 pub record AreAllowed (limits : Limits) : Type 0 where
-  pub names : IsWithin limits.names MAX_NAMES
+  pub alerts : IsWithin limits.alerts MAX_ALERTS
   pub groups : IsWithin limits.groups MAX_GROUPS
   pub silences : IsWithin limits.silences MAX_SILENCES
   pub flushes : IsWithin limits.flushes MAX_FLUSHES
@@ -40,7 +40,7 @@ is_within limit most = nat_le 1 limit && nat_le limit most
 -- whether each limit is
 abbrev pub are_allowed : Limits → Bool
 are_allowed limits =
-    is_within limits.names MAX_NAMES && is_within limits.groups MAX_GROUPS && is_within limits.silences MAX_SILENCES
+    is_within limits.alerts MAX_ALERTS && is_within limits.groups MAX_GROUPS && is_within limits.silences MAX_SILENCES
     && is_within limits.flushes MAX_FLUSHES && is_within limits.history MAX_HISTORY
 
 -- whether there is a receiver of this name

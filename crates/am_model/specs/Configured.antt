@@ -3,7 +3,7 @@ use Rattle.std.specs.Prelude.{ℕ, ◌+◌, ◌*◌, ◌≤◌, min, codes, deci
 use Rattle.std.specs.List.{enumerate_from}
 use Rattle.std.specs.Str.{bytes_eq}
 use Rattle.am_alerts.specs.RoutingTree.{route_at}
-use Rattle.am_alerts.specs.Spans.{shut_at, shut_until}
+use Rattle.am_alerts.specs.Spans.{muted_at, muted_until}
 use Rattle.am_alerts.specs.declared.route.Route.{Route}
 use Rattle.am_mute.specs.Inhibit.{RuleData}
 use Rattle.am_model.specs.Config.{kind_at}
@@ -23,7 +23,7 @@ route_of config name = route_at config.routes name.route
 
 -- until when a group's route is muted at t, if it is (Alertmanager's TimeMuteStage and TimeActiveStage)
 abbrev pub route_muted : Config → GroupName → ℕ → Option ℕ
-route_muted config name t = shut_until (shut_at config.routes name.route) t
+route_muted config name t = muted_until (muted_at config.routes name.route) t
 
 -- the integrations of the receiver of this name
 abbrev pub integrations_named : List ℕ → List Receiver → List Integration

@@ -10,7 +10,7 @@ use Rattle.am_model.specs.declared.views.RowView.{RowView}
 use Rattle.am_model.specs.Begin.{is_entry_of}
 use Rattle.am_model.specs.Configured.{expiry_at}
 use Rattle.am_model.specs.Lists.{upsert, without, changed_where}
-use Rattle.am_model.specs.State.{MemberState, GroupState, AskedState, Stamped, FlushState, State, at_moment, is_named, members_in}
+use Rattle.am_model.specs.State.{MemberState, GroupState, NotifiedState, Stamped, FlushState, State, at_time, is_named, members_in}
 use Rattle.am_model.specs.Ticket.{outcome_of}
 
 -- whether a notice is reported delivered
@@ -21,13 +21,13 @@ is_delivered (Some Refused) = false
 is_delivered (Some Expired) = false
 is_delivered (Some Starved) = false
 
--- whether an integration that was asked succeeded: it is noted, it had nothing to send, or its notice is reported delivered
-abbrev pub has_succeeded : List (ℕ × Outcome) → AskedState → Bool
+-- whether an integration that was notified succeeded: it is noted, it had nothing to send, or its notice is reported delivered
+abbrev pub has_succeeded : List (ℕ × Outcome) → NotifiedState → Bool
 has_succeeded outcomes a = a.noted || a.nothing || is_delivered (outcome_of outcomes a.integration)
 
--- whether every integration that a flush asked succeeded
+-- whether every integration that a flush notified succeeded
 abbrev pub all_succeeded : List (ℕ × Outcome) → FlushState → Bool
-all_succeeded outcomes f = list_all (has_succeeded outcomes) f.asked
+all_succeeded outcomes f = list_all (has_succeeded outcomes) f.notified
 
 -- the log row of an integration for a flush, at t
 abbrev pub row_at : Config → ℕ → FlushState → ℕ → RowView
@@ -35,7 +35,7 @@ row_at config t f integration =
     record {
       group = f.group;
       integration = integration;
-      moment = t;
+      time = t;
       expiry = expiry_at config f.group t;
       firing = f.firing;
       resolved = f.resolved;
@@ -50,19 +50,19 @@ abbrev pub log_with : RowView → List RowView → List RowView
 log_with row rows = upsert same_key row rows
 
 -- the integrations whose success a finish logs: those that weren't noted
-abbrev pub logged_by : List (ℕ × Outcome) → FlushState → List AskedState
-logged_by outcomes f = filter (λ a. has_succeeded outcomes a && not a.noted) f.asked
+abbrev pub logged_by : List (ℕ × Outcome) → FlushState → List NotifiedState
+logged_by outcomes f = filter (λ a. has_succeeded outcomes a && not a.noted) f.notified
 
 -- the log after a finish at t
 abbrev pub rows_after : Config → ℕ → List (ℕ × Outcome) → FlushState → List RowView → List RowView
 rows_after config t outcomes f rows =
     fold (λ log a. log_with (row_at config t f a.integration) log) rows (logged_by outcomes f)
 
--- whether a member stands in its group with the label set and the stamp of one that leaves
+-- whether a member is in its group with the label set and the stamp of one that leaves
 abbrev pub is_leaving : List Stamped → MemberState → Bool
 is_leaving leaving m = list_any (λ l. same_label_set l.labels m.alert.labels && (l.stamp == m.stamp)) leaving
 
--- whether a member leaves its group by the finish of a flush: all succeeded, and it stands there as it did at the begin, resolved
+-- whether a member leaves its group by the finish of a flush: all succeeded, and it is there as it did at the begin, resolved
 abbrev pub leaves_by : List (ℕ × Outcome) → FlushState → MemberState → Bool
 leaves_by outcomes f m = all_succeeded outcomes f && is_leaving f.leaving m
 
@@ -90,5 +90,5 @@ after_finish config s t outcomes f =
 
 -- the state after a finish at t of this flush; where it isn't open, only the clock moves
 abbrev pub after_finish_of : Config → State → ℕ → List (ℕ × Outcome) → Option FlushState → State
-after_finish_of config s t outcomes None = at_moment s t
+after_finish_of config s t outcomes None = at_time s t
 after_finish_of config s t outcomes (Some f) = after_finish config s t outcomes f

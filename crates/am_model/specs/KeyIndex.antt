@@ -1,4 +1,4 @@
--- KeyIndex: where keys stand, as `route_keys` and `rekey` keep it.
+-- KeyIndex: where keys are, as `route_keys` and `rekey` keep it.
 use Rattle.std.specs.Prelude.{◌≡◌, ℕ, Vec, List, [], None, Option, Some}
 use Rattle.std.specs.Cmp.Lexicographic.{pointwise}
 use Rattle.std.specs.Global.{Global}
@@ -15,6 +15,6 @@ positions_in (Some positions) = positions.items
 abbrev pub positions_at : {S : Type 0} → HashMap (List ℕ) (Vec ℕ Global) S → List ℕ → List ℕ
 positions_at index key = positions_in (get (pointwise nat_eq) index key)
 
--- an index has each key's positions among these keys, which stand from position 0 on
+-- an index has each key's positions among these keys, which are from position 0 on
 abbrev pub IsIndexOf : {S : Type 0} → List (List ℕ) → HashMap (List ℕ) (Vec ℕ Global) S → Type 0
 IsIndexOf keys index = (key : List ℕ) → positions_at index key ≡ positions_from 0 key keys

@@ -3,7 +3,7 @@ use Rattle.std.specs.Prelude.{◌≡◌, ℕ, ◌+◌, ◌<◌, ◌≤◌, ◌�
 use Rattle.std.specs.Prelude.{Option, Some, None, ◌==◌, find, if◌then◌else◌}
 use Rattle.std.specs.List.{list_any, IsDistinct}
 use Rattle.std.specs.Option.{option_map}
-use Rattle.am_alerts.specs.declared.limits.TheConstants.{MAX_MOMENT}
+use Rattle.am_alerts.specs.declared.limits.TheConstants.{MAX_TIME}
 use Rattle.am_nflog.specs.Members.{is_empty}
 use Rattle.am_model.specs.declared.config.Config.{Config}
 use Rattle.am_model.specs.declared.group.GroupName.{GroupName}
@@ -22,9 +22,9 @@ use Rattle.am_model.specs.Forget.{after_forget}
 use Rattle.am_model.specs.Insert.{same_alert, same_member, same_group, names_for}
 use Rattle.am_model.specs.look_back.Entry.{row_in}
 use Rattle.am_model.specs.Replay.{reply, after, after_call, replay, IsLegal}
-use Rattle.am_model.specs.Upkeep.{same_silence}
-use Rattle.am_model.specs.State.{MemberState, GroupState, AskedState, FlushState, State, opening_state, at_moment, same_name}
-use Rattle.am_model.specs.State.{has_group, members_in, moment}
+use Rattle.am_model.specs.Maintenance.{same_silence}
+use Rattle.am_model.specs.State.{MemberState, GroupState, NotifiedState, FlushState, State, opening_state, at_time, same_name}
+use Rattle.am_model.specs.State.{has_group, members_in, time}
 use Rattle.am_model.specs.Views.{row_views}
 
 -- one record more is one step more
@@ -44,15 +44,15 @@ abbrev pub BeginningsAreLegal : Type 0
 BeginningsAreLegal =
     (config : Config) (id : ℕ) (beginning rest : List Record) → IsLegal config id (beginning ++ rest) → IsLegal config id beginning
 
--- moment of a history: the greatest moment that its calls handed in, each at most the greatest there is
-abbrev pub moment_of : List Record → ℕ
-moment_of history = fold (λ t r. max t (min (now_of r.call) MAX_MOMENT)) 0 history
+-- time of a history: the greatest time that its calls handed in, each at most the greatest there is
+abbrev pub time_of : List Record → ℕ
+time_of history = fold (λ t r. max t (min (now_of r.call) MAX_TIME)) 0 history
 
--- each call leaves the clock at the history's moment
-abbrev pub ClockIsMoment : Type 0
-ClockIsMoment = (config : Config) (history : List Record) → (replay config history).clock ≡ moment_of history
+-- each call leaves the clock at the history's time
+abbrev pub ClockIsTime : Type 0
+ClockIsTime = (config : Config) (history : List Record) → (replay config history).clock ≡ time_of history
 
--- the moment of the last begin of a group since it was made, after a record that leaves the clock at t; a maintenance that finds the
+-- the time of the last begin of a group since it was made, after a record that leaves the clock at t; a maintenance that finds the
 -- group without alerts ends it
 abbrev pub last_begin_after : GroupName → State → ℕ → Option ℕ → Reply → Option ℕ
 last_begin_after name s t last (Inserted inserted) = last
@@ -72,7 +72,7 @@ last_begin_from config name s last [] = last
 last_begin_from config name s last (r ∷ rs) =
     last_begin_from config name (after config s r) (last_begin_after name s (after config s r).clock last r.reply) rs
 
--- the moment of the last begin of a group in a history since the group was made, if it was begun since
+-- the time of the last begin of a group in a history since the group was made, if it was begun since
 abbrev pub last_begin : Config → GroupName → List Record → Option ℕ
 last_begin config name history = last_begin_from config name opening_state None history
 
@@ -100,19 +100,19 @@ abbrev pub same_number : FlushState → FlushState → Bool
 same_number f g = f.number == g.number
 
 -- whether two entries are of one integration
-abbrev pub same_asked : AskedState → AskedState → Bool
-same_asked a b = a.integration == b.integration
+abbrev pub same_notified : NotifiedState → NotifiedState → Bool
+same_notified a b = a.integration == b.integration
 
 -- an open flush has a number that was given, asked some integrations, each once, and its group has alerts
 pub record IsHeld (s : State) (f : FlushState) : Type 0 where
   pub number : f.number < s.next_number
-  pub asked : IsTrue (not (is_empty f.asked))
-  pub each_once : IsDistinct same_asked f.asked
+  pub notified : IsTrue (not (is_empty f.notified))
+  pub each_once : IsDistinct same_notified f.notified
   pub alive : IsTrue (not (is_empty (members_in s.groups f.group)))
 
 -- what holds of the state after any list of records: no two of a kind are alike, and each open flush has its group
 pub record IsConsistent (s : State) : Type 0 where
-  pub clock : s.clock ≤ MAX_MOMENT
+  pub clock : s.clock ≤ MAX_TIME
   pub known : IsDistinct same_alert s.known
   pub groups : IsDistinct same_group s.groups
   pub members : All (λ g. IsDistinct same_member g.members) s.groups
@@ -123,7 +123,7 @@ pub record IsConsistent (s : State) : Type 0 where
   pub numbers : IsDistinct same_number s.flushes
   pub held : All (IsHeld s) s.flushes
 
--- an alert of a group stands there as the known alert with its labels does, and the group is among those to which it goes
+-- an alert of a group is there as the known alert with its labels does, and the group is among those to which it goes
 pub record IsKnownMember (config : Config) (s : State) (g : GroupState) (m : MemberState) : Type 0 where
   pub known : find (same_alert m.alert) s.known ≡ Some m.alert
   pub routed : IsTrue (list_any (same_name g.name) (names_for config m.alert.labels))
@@ -151,12 +151,12 @@ RowsMayBeLoaded =
     (config : Config) (history : List Record) (t : ℕ) → (replay config history).clock ≤ t
     → All (λ row. may_load config t row ≡ true) (replay config history).rows
 
--- a handover: each row that is taken over for one of those that are shown may be loaded at any state under the new configuration, by a
--- call that hands in the clock's moment or a later one
-abbrev pub HandoversMayBeLoaded : Type 0
-HandoversMayBeLoaded =
+-- a change of the dispatcher: each row that is taken over for one of those that are shown may be loaded at any state under the new configuration, by a
+-- call that hands in the clock's time or a later one
+abbrev pub DispatcherChangesMayBeLoaded : Type 0
+DispatcherChangesMayBeLoaded =
     (old new : Config) (history : List Record) (s : State) (now : ℕ) → (replay old history).clock ≤ now
-    → All (λ row. All (λ taken. may_load new (moment s now) taken ≡ true) (carried old new row)) (row_views (replay old history))
+    → All (λ row. All (λ taken. may_load new (time s now) taken ≡ true) (carried old new row)) (row_views (replay old history))
 
 -- each row that records load has an alert that goes to its group, as each that is taken over has
 abbrev pub LoadsAreLed : Config → List Record → Type 0
@@ -205,14 +205,14 @@ replies_from config id s (c ∷ cs) = option_map bare_reply (reply config id s c
 abbrev pub state_from : Config → State → List Call → State
 state_from config s calls = fold (after_call config) s calls
 
--- calls after a forgetting are replied as they are where nothing was forgotten at its moment, but for what bare replies leave out
+-- calls after a forgetting are replied as they are where nothing was forgotten at its time, but for what bare replies leave out
 abbrev pub ForgettingChangesNoReply : Type 0
 ForgettingChangesNoReply =
     (config : Config) (id : ℕ) (s : State) (t : ℕ) (calls : List Call) → IsConsistent s
-    → replies_from config id (after_forget s t) calls ≡ replies_from config id (at_moment s t) calls
+    → replies_from config id (after_forget s t) calls ≡ replies_from config id (at_time s t) calls
 
 -- and they leave the same state, but for known alerts and silences
 abbrev pub ForgettingChangesNoState : Type 0
 ForgettingChangesNoState =
     (config : Config) (s : State) (t : ℕ) (calls : List Call) → IsConsistent s
-    → bare_state (state_from config (after_forget s t) calls) ≡ bare_state (state_from config (at_moment s t) calls)
+    → bare_state (state_from config (after_forget s t) calls) ≡ bare_state (state_from config (at_time s t) calls)

@@ -18,7 +18,7 @@ pub mod Forget
 pub mod Insert
 -- what is true after every history, and how a history's state goes record by record
 pub mod Laws
--- where the keys of routes stand
+-- where the keys of routes are
 pub mod KeyIndex
 -- operations on the lists of a state, which put, remove, change and order elements
 pub mod Lists
@@ -43,7 +43,7 @@ pub mod State
 -- a ticket as contracts see it, and the outcomes that it records
 pub mod Ticket
 -- the calls silence and maintain
-pub mod Upkeep
+pub mod Maintenance
 -- the limits, the default and the faults' numbers, by their values
 pub mod Values
 -- the rows, groups and counts that a board returns of its state

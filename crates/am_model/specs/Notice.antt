@@ -5,7 +5,7 @@ use Rattle.am_alerts.specs.AlertData.{AlertData}
 use Rattle.am_model.specs.declared.group.GroupName.{GroupName}
 
 pub record NoticeData : Type 0 where
-  pub desk : ℕ
+  pub board_id : ℕ
   pub ticket : ℕ
   pub deadline : ℕ
   pub group : GroupName

@@ -14,7 +14,7 @@ use Rattle.am_model.specs.Ticket.{TicketData, outcome_of}
 abbrev pub entry : ℕ → Call → Reply → Record
 entry pass call reply = record { pass = pass; call = call; reply = reply }
 
--- the moment that a call hands in
+-- the time that a call hands in
 abbrev pub now_of : Call → ℕ
 now_of (Insert now alert) = now
 now_of (Silence now number matchers start end) = now
@@ -33,8 +33,8 @@ call_of_silence now silence = Silence now silence.id silence.matchers silence.st
 abbrev pub flush_reply : ℕ → GroupName → ℕ → List NoticeData → Reply
 flush_reply number group deadline notices = Flush group (record { number = number; deadline = deadline; notices = notices })
 
--- the record of a note of the notice at this place of a ticket
+-- the record of a note of the notice at this index of a ticket
 abbrev pub IsNoteOf : ℕ → ℕ → TicketData → ℕ → Record → Type 0
-IsNoteOf pass now ticket place r =
-    (notice : NoticeData) × (slice_get ticket.notices place ≡ Some notice)
+IsNoteOf pass now ticket index r =
+    (notice : NoticeData) × (slice_get ticket.notices index ≡ Some notice)
     × (r ≡ entry pass (Note now ticket.number notice.integration (outcome_of ticket.outcomes notice.integration)) Noted)

@@ -14,34 +14,34 @@ use Rattle.am_model.specs.Finish.{finished, after_finish_of}
 use Rattle.am_model.specs.Forget.{forgotten, after_forget}
 use Rattle.am_model.specs.Load.{load_reply, after_load}
 use Rattle.am_model.specs.Note.{noted, after_note_of}
-use Rattle.am_model.specs.Upkeep.{silenced, after_silence, maintained, after_maintain}
-use Rattle.am_model.specs.State.{State, opening_state, moment, flush_numbered}
+use Rattle.am_model.specs.Maintenance.{silenced, after_silence, maintained, after_maintain}
+use Rattle.am_model.specs.State.{State, opening_state, time, flush_numbered}
 
 -- the reply to a call at a state; none where the call is no legal one: a finish or a note of a flush that isn't open, or a note or a load
 -- that isn't allowed
 abbrev pub reply : Config → ℕ → State → Call → Option Reply
 reply config id s (Insert now alert) = Some (Inserted (inserted config s alert))
 reply config id s (Silence now number matchers start end) = Some (Silenced (silenced s (silence_of number matchers start end)))
-reply config id s (Begin now) = Some (begun config id s (moment s now))
+reply config id s (Begin now) = Some (begun config id s (time s now))
 reply config id s (Finish now number outcomes) =
     option_map (λ f. Finished (finished s outcomes f)) (flush_numbered s.flushes number)
-reply config id s (Maintain now) = Some (Maintained (maintained s (moment s now)))
-reply config id s (Forget now) = Some (Forgotten (forgotten s (moment s now)))
-reply config id s (Load now row) = load_reply config s (moment s now) row
+reply config id s (Maintain now) = Some (Maintained (maintained s (time s now)))
+reply config id s (Forget now) = Some (Forgotten (forgotten s (time s now)))
+reply config id s (Load now row) = load_reply config s (time s now) row
 reply config id s (Note now number integration outcome) = noted integration outcome (flush_numbered s.flushes number)
 
 -- the state after a call
 abbrev pub after_call : Config → State → Call → State
-after_call config s (Insert now alert) = after_insert config s (moment s now) alert
-after_call config s (Silence now number matchers start end) = after_silence s (moment s now) (silence_of number matchers start end)
-after_call config s (Begin now) = after_begin config s (moment s now)
+after_call config s (Insert now alert) = after_insert config s (time s now) alert
+after_call config s (Silence now number matchers start end) = after_silence s (time s now) (silence_of number matchers start end)
+after_call config s (Begin now) = after_begin config s (time s now)
 after_call config s (Finish now number outcomes) =
-    after_finish_of config s (moment s now) outcomes (flush_numbered s.flushes number)
-after_call config s (Maintain now) = after_maintain s (moment s now)
-after_call config s (Forget now) = after_forget s (moment s now)
-after_call config s (Load now row) = after_load config s (moment s now) row
+    after_finish_of config s (time s now) outcomes (flush_numbered s.flushes number)
+after_call config s (Maintain now) = after_maintain s (time s now)
+after_call config s (Forget now) = after_forget s (time s now)
+after_call config s (Load now row) = after_load config s (time s now) row
 after_call config s (Note now number integration outcome) =
-    after_note_of config s (moment s now) integration outcome (flush_numbered s.flushes number)
+    after_note_of config s (time s now) integration outcome (flush_numbered s.flushes number)
 
 -- the state after a record
 abbrev pub after : Config → State → Record → State

@@ -57,7 +57,7 @@ keys_of tree = root_key ∷ keys_below root_key tree.below
 abbrev pub key_at : RoutingTree → ℕ → List ℕ
 key_at tree position = slice_index_or (keys_of tree) position root_key
 
--- the positions at which a key stands among these keys, the first of which is at a position
+-- the positions at which a key is among these keys, the first of which is at a position
 abbrev pub positions_from : ℕ → List ℕ → List (List ℕ) → List ℕ
 positions_from position key [] = []
 positions_from position key (k ∷ ks) =

@@ -7,7 +7,7 @@ use Rattle.std.specs.declared.cmp.Ordering.{Ordering}
 use Rattle.am_alerts.specs.AlertData.{AlertData}
 use Rattle.am_alerts.specs.Labels.{same_label_set, label_set_cmp}
 use Rattle.am_alerts.specs.declared.labels.Label.{Label}
-use Rattle.am_alerts.specs.declared.limits.TheConstants.{MAX_MOMENT}
+use Rattle.am_alerts.specs.declared.limits.TheConstants.{MAX_TIME}
 use Rattle.am_mute.specs.Silence.{SilenceData}
 use Rattle.am_model.specs.declared.group.GroupName.{GroupName}
 use Rattle.am_model.specs.declared.views.RowView.{RowView}
@@ -24,8 +24,8 @@ pub record GroupState : Type 0 where
   pub flushed : Bool
   pub members : List MemberState
 
--- an integration that a flush asked: whether it has nothing to send, and whether its success was noted
-pub record AskedState : Type 0 where
+-- an integration that a flush notified: whether it has nothing to send, and whether its success was noted
+pub record NotifiedState : Type 0 where
   pub integration : ℕ
   pub nothing : Bool
   pub noted : Bool
@@ -35,12 +35,12 @@ pub record Stamped : Type 0 where
   pub labels : List Label
   pub stamp : ℕ
 
--- an open flush: whom it asked, the label sets that fired and those that were resolved in it, and the alerts of the group that were
+-- an open flush: whom it notified, the label sets that fired and those that were resolved in it, and the alerts of the group that were
 -- resolved at its begin
 pub record FlushState : Type 0 where
   pub number : ℕ
   pub group : GroupName
-  pub asked : List AskedState
+  pub notified : List NotifiedState
   pub firing : List (List Label)
   pub resolved : List (List Label)
   pub leaving : List Stamped
@@ -62,13 +62,13 @@ abbrev pub opening_state : State
 opening_state =
     record { clock = 0; inserts = 0; known = []; groups = []; silences = []; rows = []; flushes = []; next_number = 1 }
 
--- moment: the call's own, but none after the greatest and none before the clock
-abbrev pub moment : State → ℕ → ℕ
-moment s now = max s.clock (min now MAX_MOMENT)
+-- time: the call's own, but none after the greatest and none before the clock
+abbrev pub time : State → ℕ → ℕ
+time s now = max s.clock (min now MAX_TIME)
 
 -- the state with the clock at t
-abbrev pub at_moment : State → ℕ → State
-at_moment s t = record s { clock = t }
+abbrev pub at_time : State → ℕ → State
+at_time s t = record s { clock = t }
 
 -- whether two names are of one group
 abbrev pub same_name : GroupName → GroupName → Bool

@@ -9,7 +9,7 @@ use Rattle.am_model.specs.declared.group.GroupName.{GroupName}
 
 -- an open flush in its holder's hands, with the outcomes recorded so far
 pub record TicketData : Type 0 where
-  pub desk : ℕ
+  pub board_id : ℕ
   pub number : ℕ
   pub group : GroupName
   pub deadline : ℕ
@@ -23,7 +23,7 @@ outcome_of (pair ∷ pairs) integration = if pair.0 == integration then Some pai
 
 -- whether a report is of a notice of this ticket that has something to send
 abbrev pub is_of_ticket : TicketData → Report → Bool
-is_of_ticket t r = (r.desk == t.desk) && (r.ticket == t.number) && has_something_for t.notices r.integration
+is_of_ticket t r = (r.board_id == t.board_id) && (r.ticket == t.number) && has_something_for t.notices r.integration
 
 -- why a report isn't recorded
 abbrev pub report_fault : TicketData → Report → Option ReportFault
@@ -36,7 +36,7 @@ report_fault t r =
 abbrev pub recorded : TicketData → Report → TicketData
 recorded t r =
     record {
-      desk = t.desk;
+      board_id = t.board_id;
       number = t.number;
       group = t.group;
       deadline = t.deadline;

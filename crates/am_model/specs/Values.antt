@@ -3,7 +3,7 @@ use Rattle.std.specs.Prelude.{◌≡◌, [], ◌∷◌}
 use Rattle.am_model.specs.declared.config.ConfigFault.{ConfigFault}
 use Rattle.am_model.specs.declared.config.ConfigFault.TheVariants as config
 use Rattle.am_model.specs.declared.config.TheConstants.{MAX_RECEIVERS, MAX_INTEGRATIONS, MAX_RULES}
-use Rattle.am_model.specs.declared.config.TheConstants.{MAX_NAMES, MAX_GROUPS, MAX_SILENCES, MAX_FLUSHES, MAX_HISTORY, MAX_HANDED}
+use Rattle.am_model.specs.declared.config.TheConstants.{MAX_ALERTS, MAX_GROUPS, MAX_SILENCES, MAX_FLUSHES, MAX_HISTORY, MAX_HANDED}
 use Rattle.am_model.specs.declared.fault.BoardFault.TheVariants as board
 use Rattle.am_model.specs.declared.fault.Fault.TheVariants as call
 use Rattle.am_model.specs.declared.fault.LoadFault.TheVariants as load
@@ -22,7 +22,7 @@ LimitsAre =
     (MAX_RECEIVERS ≡ 64)
     × (MAX_INTEGRATIONS ≡ 8)
     × (MAX_RULES ≡ 256)
-    × (MAX_NAMES ≡ 65_536)
+    × (MAX_ALERTS ≡ 65_536)
     × (MAX_GROUPS ≡ 4_096)
     × (MAX_SILENCES ≡ 1_024)
     × (MAX_FLUSHES ≡ 64)
@@ -32,7 +32,7 @@ LimitsAre =
 -- law: the default of the limits, none of them lowered
 abbrev pub DefaultIs : Type 0
 DefaultIs =
-    greatest_limits ≡ record { names = 65_536; groups = 4_096; silences = 1_024; flushes = 64; history = 1_048_576 }
+    greatest_limits ≡ record { alerts = 65_536; groups = 4_096; silences = 1_024; flushes = 64; history = 1_048_576 }
 
 -- law: a flush has 10 s at least, and a deadline is at most 10^15 + 10^12 ms
 abbrev pub TimesAre : Type 0
@@ -42,7 +42,7 @@ TimesAre = (MIN_FLUSH_TIMEOUT ≡ 10_000) × (MAX_DEADLINE ≡ 1_001_000_000_000
 abbrev pub CallFaultsAre : Type 0
 CallFaultsAre =
     CALL_FAULTS
-    ≡ (call.NoMemory, 1) ∷ (call.TooManyNames, 2) ∷ (call.TooManyGroups, 3)
+    ≡ (call.NoMemory, 1) ∷ (call.TooManyAlerts, 2) ∷ (call.TooManyGroups, 3)
     ∷ (call.TooManySilences, 4) ∷ (call.TooManyOpen, 5) ∷ (call.HistoryFull, 6) ∷ []
 
 -- law: the numbers of the faults of a note

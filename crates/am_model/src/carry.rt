@@ -2,8 +2,8 @@
 //! of one under an old configuration. After a restart `Board::load` takes each of them.
 ghost use Rattle.std.specs.Prelude.{◌≡◌, ◌≤◌, fold, length, map, None, IfOk, OnOk};
 ghost use Rattle.am_alerts.specs.RoutingTree.{last_of};
-ghost use Rattle.am_model.specs.Carry.{place_at, position_of, moved_to, inherits, with_position, with_heir};
-ghost use Rattle.am_model.specs.Carry.{with_heirs, heirs, own_or_all, moved, carried};
+ghost use Rattle.am_model.specs.Carry.{index_at, position_of, moved_to, inherits, with_position, with_successor};
+ghost use Rattle.am_model.specs.Carry.{with_successors, successors, own_or_all, moved, carried};
 ghost use Rattle.am_model.specs.Config.{config_fault};
 ghost use Rattle.am_model.specs.declared.config.TheConstants.{MAX_INTEGRATIONS};
 
@@ -18,7 +18,7 @@ use std::alloc::{AllocError, Global};
 /// There is one for each new route that has the row's receiver and puts an alert of the row into a
 /// group with the row's group labels. Exception: if the route at the row's own position is one of
 /// them, it has the row alone. Under an unchanged configuration each of the others has a row of its
-/// own. The integration is the one of the same kind and the same place among the receiver's
+/// own. The integration is the one of the same kind and the same index among the receiver's
 /// integrations of its kind. There is no row where the receiver has none.
 ///
 /// An alert of the row isn't sent a second time by a route that has the row. A second notification
@@ -60,14 +60,14 @@ pub(crate) fn moved_to(olds: &[Integration], position: u32, news: &[Integration]
     if position >= olds.len() {
         return None;
     }
-    let place = place_at(olds, position);
-    position_of(kind_at(olds, position), place, news)
+    let index = index_at(olds, position);
+    position_of(kind_at(olds, position), index, news)
 }
 
-/// Returns how many integrations of its kind stand before the one at a position.
-fn place_at(integrations: &[Integration], position: usize) -> usize
+/// Returns how many integrations of its kind are before the one at a position.
+fn index_at(integrations: &[Integration], position: usize) -> usize
     requires { position ≤ length integrations.now }
-    ensures { result ≡ place_at integrations.now position }
+    ensures { result ≡ index_at integrations.now position }
 {
     let kind = kind_at(integrations, position);
     integrations[..position]
@@ -76,12 +76,12 @@ fn place_at(integrations: &[Integration], position: usize) -> usize
         .count()
 }
 
-/// Returns the position of the integration of a kind that has a place among those of this kind.
-fn position_of(kind: &str, place: usize, integrations: &[Integration]) -> Option<u32>
+/// Returns the position of the integration of a kind that has an index among those of this kind.
+fn position_of(kind: &str, index: usize, integrations: &[Integration]) -> Option<u32>
     requires { length integrations.now ≤ MAX_INTEGRATIONS }
-    ensures { result ≡ position_of kind.now place 0 integrations.now }
+    ensures { result ≡ position_of kind.now index 0 integrations.now }
 {
-    let mut left = place;
+    let mut left = index;
     for i in 0..integrations.len() {
         if integrations[i].kind.as_str() == kind {
             if left == 0 {
@@ -101,9 +101,9 @@ fn takers(
     row: &RowView,
 ) -> Result<Vec<u32>, AllocError>
     ensures { IfOk result (λ routes. routes.items
-        ≡ own_or_all row.now.group.route (heirs config.now receiver.now row.now)) }
+        ≡ own_or_all row.now.group.route (successors config.now receiver.now row.now)) }
 {
-    let mut routes = heirs(alloc, config, receiver, row)?;
+    let mut routes = successors(alloc, config, receiver, row)?;
     prefer_own(&mut routes, row.group.route)?;
     Ok(routes)
 }
@@ -120,13 +120,13 @@ fn prefer_own(routes: &mut Vec<u32>, own: u32) -> Result<(), AllocError>
 }
 
 /// Returns the positions of the routes that inherit a row of this receiver.
-fn heirs(
+fn successors(
     alloc: Global,
     config: &Config,
     receiver: &str,
     row: &RowView,
 ) -> Result<Vec<u32>, AllocError>
-    ensures { IfOk result (λ routes. routes.items ≡ heirs config.now receiver.now row.now) }
+    ensures { IfOk result (λ routes. routes.items ≡ successors config.now receiver.now row.now) }
 {
     let mut routes = Vec::new(alloc);
     let group = &row.group.labels;
@@ -159,16 +159,16 @@ fn add_all(
     routes: &mut Vec<u32>,
 ) -> Result<(), AllocError>
     ensures { OnOk result (routes.new.items
-        ≡ fold (with_heirs config.now receiver.now group.now) routes.old.items sets.now) }
+        ≡ fold (with_successors config.now receiver.now group.now) routes.old.items sets.now) }
 {
     for labels in sets {
-        add_heirs(alloc, config, receiver, group, labels, routes)?;
+        add_successors(alloc, config, receiver, group, labels, routes)?;
     }
     Ok(())
 }
 
 /// Adds the routes of an alert that inherit.
-fn add_heirs(
+fn add_successors(
     alloc: Global,
     config: &Config,
     receiver: &str,
@@ -176,17 +176,17 @@ fn add_heirs(
     labels: &Labels,
     routes: &mut Vec<u32>,
 ) -> Result<(), AllocError>
-    ensures { OnOk result (routes.new.items ≡ with_heirs config.now receiver.now group.now routes.old.items labels.now) }
+    ensures { OnOk result (routes.new.items ≡ with_successors config.now receiver.now group.now routes.old.items labels.now) }
 {
     let found = config.routes.of(alloc, labels)?;
     for i in 0..found.len() {
-        add_heir(alloc, config, receiver, group, labels, found[i], routes)?;
+        add_successor(alloc, config, receiver, group, labels, found[i], routes)?;
     }
     Ok(())
 }
 
 /// Adds a route, if it inherits.
-fn add_heir(
+fn add_successor(
     alloc: Global,
     config: &Config,
     receiver: &str,
@@ -197,7 +197,7 @@ fn add_heir(
 ) -> Result<(), AllocError>
     requires { route ≤ last_of config.now.routes }
     ensures { OnOk result (routes.new.items
-        ≡ with_heir config.now receiver.now group.now labels.now routes.old.items route) }
+        ≡ with_successor config.now receiver.now group.now labels.now routes.old.items route) }
 {
     if inherits(alloc, config, receiver, group, labels, route)? {
         add_route(routes, route)?;

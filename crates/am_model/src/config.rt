@@ -16,7 +16,7 @@ use am_alerts::labels::is_label_name;
 use am_alerts::limits::{MAX_DURATION, MAX_ROUTES};
 use am_alerts::route::{Child, Route, Routes};
 use am_alerts::sequence::Sequence;
-use am_alerts::spans::shut_until;
+use am_alerts::spans::muted_until;
 use am_alerts::text::Text;
 use am_mute::inhibit::InhibitRule;
 use std::alloc::AllocError;
@@ -32,7 +32,7 @@ pub const MAX_INTEGRATIONS: usize = 8;
 pub const MAX_RULES: usize = 256;
 
 /// The greatest number of known alerts.
-pub const MAX_NAMES: usize = 65_536;
+pub const MAX_ALERTS: usize = 65_536;
 
 /// The greatest number of groups.
 pub const MAX_GROUPS: usize = 4_096;
@@ -71,7 +71,7 @@ pub struct Receiver {
 #[derive(Clone, Copy, Debug, PartialEq, Eq)]
 pub struct Limits {
     /// Known alerts.
-    pub names: usize,
+    pub alerts: usize,
     pub groups: usize,
     pub silences: usize,
     /// Open flushes.
@@ -85,7 +85,7 @@ impl Default for Limits {
 
     fn default() -> Limits {
         Limits {
-            names: MAX_NAMES,
+            alerts: MAX_ALERTS,
             groups: MAX_GROUPS,
             silences: MAX_SILENCES,
             flushes: MAX_FLUSHES,
@@ -165,7 +165,7 @@ impl Config {
         ensures { result ≡ route_muted self.now group.now t }
     {
         if group.route <= self.routes.last() {
-            shut_until(self.routes.shut(group.route), t)
+            muted_until(self.routes.muted(group.route), t)
         } else {
             None
         }
@@ -333,9 +333,9 @@ impl Receiver {
 impl Limits {
     fn are_allowed(&self) -> bool
         ensures value { result ≡ are_allowed self.now }
-        ensures tells { IsTrue result ↔ AreAllowed self.now }
+        ensures exact { IsTrue result ↔ AreAllowed self.now }
     {
-        is_within(self.names, MAX_NAMES)
+        is_within(self.alerts, MAX_ALERTS)
             && is_within(self.groups, MAX_GROUPS)
             && is_within(self.silences, MAX_SILENCES)
             && is_within(self.flushes, MAX_FLUSHES)
@@ -345,7 +345,7 @@ impl Limits {
 
 fn is_within(limit: usize, most: usize) -> bool
     ensures value { result ≡ is_within limit most }
-    ensures tells { IsTrue result ↔ IsWithin limit most }
+    ensures exact { IsTrue result ↔ IsWithin limit most }
 {
     1 <= limit && limit <= most
 }

@@ -12,7 +12,7 @@ use thiserror::Error;
 
 /// Why an insert, a silence, a begin, a maintenance or a forgetting fails.
 ///
-/// If several causes apply, the order is `HistoryFull`, `TooManyNames`, `TooManyGroups`,
+/// If several causes apply, the order is `HistoryFull`, `TooManyAlerts`, `TooManyGroups`,
 /// `TooManySilences`, `TooManyOpen`, `NoMemory`. Exception: `NoMemory` can precede `TooManyGroups`
 /// and `TooManyOpen`, while an insert's groups or a begin's integrations are looked for.
 #[derive(Clone, Copy, Debug, PartialEq, Eq, Error)]
@@ -20,7 +20,7 @@ pub enum Fault {
     #[error("out of memory")]
     NoMemory = 1,
     #[error("the label set is new, and as many alerts are known as may be")]
-    TooManyNames = 2,
+    TooManyAlerts = 2,
     #[error("the insert would make more groups than there may be")]
     TooManyGroups = 3,
     #[error("the silence is new, and there are as many as there may be")]

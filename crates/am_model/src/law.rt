@@ -1,11 +1,11 @@
 //! The laws of histories, the limits and the faults' numbers, as calls that verifiers read. Each
 //! has an empty body: its `ensures` is the statement.
 ghost use Rattle.am_model.specs.Carry.{CarriedRowsFit, CarriedRowsMayBeLoaded, RestartsCarryRows};
-ghost use Rattle.am_model.specs.Rekey.{RekeyedRowsFit, RekeyedRowsMayBeLoaded, RekeyedHandoversMayBeLoaded, RestartsFindRows};
+ghost use Rattle.am_model.specs.Rekey.{RekeyedRowsFit, RekeyedRowsMayBeLoaded, RekeyedDispatcherChangesMayBeLoaded, RestartsFindRows};
 ghost use Rattle.am_model.specs.Rekey.{RestartsFindShownRows};
-ghost use Rattle.am_model.specs.Laws.{ReplayAppends, LegalAppends, ClockIsMoment, BeginningsAreLegal};
+ghost use Rattle.am_model.specs.Laws.{ReplayAppends, LegalAppends, ClockIsTime, BeginningsAreLegal};
 ghost use Rattle.am_model.specs.Laws.{ReplaysAreConsistent, ReplaysKnowMembers, LegalKeepsBegins};
-ghost use Rattle.am_model.specs.Laws.{RowsMayBeLoaded, HandoversMayBeLoaded, RowsAreLed, RestartsKeepRows};
+ghost use Rattle.am_model.specs.Laws.{RowsMayBeLoaded, DispatcherChangesMayBeLoaded, RowsAreLed, RestartsKeepRows};
 ghost use Rattle.am_model.specs.Laws.{ForgettingChangesNoReply, ForgettingChangesNoState};
 ghost use Rattle.am_model.specs.look_back.Interval.{BeginsKeepTheInterval};
 ghost use Rattle.am_model.specs.look_back.Laws.{EveryLegalHistory, AlertsAreFound, ShownAlertsAreFound, RowsAreFound, ShownRowsAreFound};
@@ -23,7 +23,7 @@ use crate::fault::{Fault, LoadFault, NoteFault, ReportFault, TakeFault};
 
 const CALL_FAULTS: [(Fault, u8); 6] = [
     (Fault::NoMemory, Fault::NoMemory as u8),
-    (Fault::TooManyNames, Fault::TooManyNames as u8),
+    (Fault::TooManyAlerts, Fault::TooManyAlerts as u8),
     (Fault::TooManyGroups, Fault::TooManyGroups as u8),
     (Fault::TooManySilences, Fault::TooManySilences as u8),
     (Fault::TooManyOpen, Fault::TooManyOpen as u8),
@@ -84,7 +84,7 @@ const REPORT_FAULTS: [(ReportFault, u8); 2] = [
 pub fn histories_go_record_by_record()
     ensures replay { ReplayAppends }
     ensures legal { LegalAppends }
-    ensures clock { ClockIsMoment }
+    ensures clock { ClockIsTime }
 {}
 
 /// States that a beginning of a legal history is legal.
@@ -123,7 +123,7 @@ pub fn forgetting_changes_no_answer()
 /// States what `carried` returns.
 ///
 /// Clause `fit`: each row that it returns has an integration of the new configuration and an alert
-/// that goes to its group there, and is else as the row that it stands for. Clause `restart`: under
+/// that goes to its group there, and is else as the row that it represents. Clause `restart`: under
 /// the same configuration it returns the row itself alone, if it has an integration there and one of
 /// its alerts goes to its group. Clause `led`: after every list of records, legal or not, each row
 /// of the log has such an alert, if each row that was loaded had one. Clause `kept`: then each row
@@ -140,14 +140,14 @@ pub fn rows_are_carried()
 /// Clause `fit`: each row that it returns has an integration of the new configuration, under a route
 /// that has the receiver and the key of the old row's route, and is else as that row. Clause `load`:
 /// where a row may be loaded under the old configuration, each that it returns for it may be loaded
-/// under the new one. Clause `handover`: that is true of each row that a board returns, at any state
+/// under the new one. Clause `dispatcher_change`: that is true of each row that a board returns, at any state
 /// of a board of the new configuration, if the load hands in the old board's clock or a later time.
 /// Clause `restart`: under the same configuration it returns the row itself, at least, if the row has
 /// an integration there. Clause `kept`: so it returns each row that a board returns.
 pub fn rows_are_found_again()
     ensures fit { RekeyedRowsFit }
     ensures load { RekeyedRowsMayBeLoaded }
-    ensures handover { RekeyedHandoversMayBeLoaded }
+    ensures dispatcher_change { RekeyedDispatcherChangesMayBeLoaded }
     ensures restart { RestartsFindRows }
     ensures kept { RestartsFindShownRows }
 {}
@@ -158,12 +158,12 @@ pub fn rows_are_found_again()
 /// the same configuration, from the clock on. Its route and its integration are there, its label
 /// sets are in order, and its time isn't later. Clause `carried`: where a row may be loaded under an
 /// old configuration, each that `carried` returns for it may be loaded under the new one. Clause
-/// `handover`: that is true of each row that a board returns, at any state of a board of the new
+/// `dispatcher_change`: that is true of each row that a board returns, at any state of a board of the new
 /// configuration, if the load hands in the old board's clock or a later time.
 pub fn rows_may_be_loaded()
     ensures own { RowsMayBeLoaded }
     ensures carried { CarriedRowsMayBeLoaded }
-    ensures handover { HandoversMayBeLoaded }
+    ensures dispatcher_change { DispatcherChangesMayBeLoaded }
 {}
 
 /// States which alerts are in which group after a legal history, read off the history from its end.
@@ -250,7 +250,7 @@ pub fn begins_keep_the_interval()
 /// `so`: a reason is given exactly where what it says is true. Clause `waits`: a notice that isn't
 /// repeated yet is repeated from the time on that its reason names.
 pub fn reasons_are_exact()
-    ensures asked { EveryLegalHistory BeginsHaveReasons }
+    ensures notified { EveryLegalHistory BeginsHaveReasons }
     ensures so { ReasonsAreSo }
     ensures waits { NotYetEnds }
 {}

@@ -5,14 +5,14 @@ ghost use Rattle.am_model.specs.Notice.{is_nothing};
 
 use crate::group::GroupName;
 use am_alerts::alert::Alert;
-use am_alerts::limits::{MAX_DURATION, MAX_MOMENT};
+use am_alerts::limits::{MAX_DURATION, MAX_TIME};
 use am_alerts::sequence::{Copied, Sequence};
 use am_retry::Outcome;
 use std::alloc::{AllocError, Global};
 use std::marker::Model;
 
 /// The greatest deadline, in milliseconds: the greatest time and the greatest interval together.
-pub const MAX_DEADLINE: u64 = MAX_MOMENT + MAX_DURATION;
+pub const MAX_DEADLINE: u64 = MAX_TIME + MAX_DURATION;
 
 /// The least time from a flush's begin to its deadline, in milliseconds.
 pub const MIN_FLUSH_TIMEOUT: u64 = 10_000;
@@ -22,7 +22,7 @@ pub const MIN_FLUSH_TIMEOUT: u64 = 10_000;
 #[derive(Debug, Drop)]
 pub struct Notice {
     /// The id of the desk.
-    pub desk: u64,
+    pub board_id: u64,
     /// The number of the flush.
     pub ticket: u64,
     /// An attempt can start before this time, in milliseconds. It is at most `MAX_DEADLINE`.
@@ -43,7 +43,7 @@ impl Model for Notice {
 
     ghost view = { λ n.
         record {
-          desk = n.desk;
+          board_id = n.board_id;
           ticket = n.ticket;
           deadline = n.deadline;
           group = n.group;
@@ -58,7 +58,7 @@ impl Model for Notice {
 /// The end of the sending of a notice.
 #[derive(Clone, Copy, Debug)]
 pub struct Report {
-    pub desk: u64,
+    pub board_id: u64,
     pub ticket: u64,
     pub integration: u32,
     pub outcome: Outcome,
@@ -82,7 +82,7 @@ impl Notice {
         ensures { IfOk result (λ notice. notice ≡ self.now) }
     {
         Ok(Notice {
-            desk: self.desk,
+            board_id: self.board_id,
             ticket: self.ticket,
             deadline: self.deadline,
             group: self.group.copy(alloc)?,

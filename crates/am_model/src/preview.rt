@@ -21,7 +21,7 @@ pub struct MutedAlert {
 #[derive(Debug, Drop)]
 pub struct Preview {
     /// The time of the begin, in milliseconds.
-    pub moment: u64,
+    pub time: u64,
     /// The group that it would take.
     pub group: GroupName,
     /// The group's muted alerts, in the order in which their label sets came into it.

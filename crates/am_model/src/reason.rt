@@ -1,7 +1,7 @@
 //! `Reason`: why a begin notifies an integration, or why not. Previews have one for each
 //! integration.
 ghost use Rattle.std.specs.Prelude.{◌≡◌};
-ghost use Rattle.am_model.specs.look_back.Reasons.{asks};
+ghost use Rattle.am_model.specs.look_back.Reasons.{notifies};
 
 /// Why a begin that takes a group notifies an integration of its receiver, or why not.
 ///
@@ -42,8 +42,8 @@ pub enum Reason {
 
 impl Reason {
     /// Returns whether an integration is notified for this reason.
-    pub fn asks(&self) -> bool
-        ensures { result ≡ asks self.now }
+    pub fn notifies(&self) -> bool
+        ensures { result ≡ notifies self.now }
     {
         match self {
             Reason::FirstNotice

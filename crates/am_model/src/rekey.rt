@@ -1,7 +1,7 @@
 //! Finding rows again as Alertmanager does: `Rekeying` returns the rows that a log under a new
 //! configuration has for those of one under an old one. `am_rehearsal` plays reloads by it.
 //!
-//! Alertmanager's log knows an entry by the receiver's name, the integration's kind and place, the
+//! Alertmanager's log knows an entry by the receiver's name, the integration's kind and index, the
 //! route's key (`route_keys`) and the group labels. So a changed matcher makes a first notification.
 //! `carry` is the other way, for programs that want none.
 ghost use Rattle.std.specs.Prelude.{◌≡◌, ◌≤◌, ◌<◌, All, IfOk, None, filter, length, slice_index_or};
@@ -34,7 +34,7 @@ pub struct Rekeying<'c> {
     new: &'c Config,
     /// The keys of the old routes, by their positions.
     olds: Vec<Text>,
-    /// Where the new routes stand, by their keys.
+    /// Where the new routes are, by their keys.
     news: KeyIndex,
 }
 
@@ -88,7 +88,7 @@ impl<'c> Rekeying<'c> {
     /// So if a matcher of the route changed, or of a route above it, there is none, save for other
     /// routes that have the old key now. Where Alertmanager's routes of one key share an entry,
     /// each has a row here. The integration is the
-    /// one of the same kind and the same place among the receiver's integrations of its kind. There
+    /// one of the same kind and the same index among the receiver's integrations of its kind. There
     /// is no row where the receiver has none.
     ///
     /// # Errors
@@ -105,17 +105,17 @@ impl<'c> Rekeying<'c> {
 }
 
 /// Returns the rows that a log under a new configuration has for a row of one under an old one, by
-/// the keys of the old routes and the places of those of the new ones.
+/// the keys of the old routes and the indexes of those of the new ones.
 fn found_again(
     alloc: Global,
     old: &Config,
     new: &Config,
     keys: &[Text],
-    places: &KeyIndex,
+    indexes: &KeyIndex,
     row: &RowView,
 ) -> Result<Vec<RowView>, AllocError>
     requires keys { keys.now ≡ keys_of old.now.routes }
-    requires places { IsIndexOf (keys_of new.now.routes) places.now }
+    requires indexes { IsIndexOf (keys_of new.now.routes) indexes.now }
     requires faultless { config_fault new.now ≡ None }
     ensures { IfOk result (λ rows. rows.items ≡ rekeyed (record { old = old.now; new = new.now }) row.now) }
 {
@@ -126,7 +126,7 @@ fn found_again(
         None => Ok(Vec::new(alloc)),
         Some(integration) => {
             let key = key_at(keys, row.group.route);
-            let positions = positions_at(places, key);
+            let positions = positions_at(indexes, key);
             let routes = routes_of_receiver(alloc, new, receiver, positions)?;
             rows_at(alloc, row, integration, routes.as_slice())
         }

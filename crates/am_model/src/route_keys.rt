@@ -8,7 +8,7 @@ ghost use Rattle.std.specs.Prelude.{◌≡◌, ◌++◌, ◌≤◌, ℕ, List, [
 ghost use Rattle.std.specs.List.{insert, join_by};
 ghost use Rattle.std.specs.Str.{bytes_eq};
 ghost use Rattle.am_alerts.specs.Layout.{laid, planted};
-ghost use Rattle.am_alerts.specs.Planted.{IsLaid, part};
+ghost use Rattle.am_alerts.specs.RouteLayouts.{IsLaid, part};
 ghost use Rattle.am_alerts.specs.RoutingTree.{last_of};
 ghost use Rattle.am_alerts.specs.declared.limits.TheConstants.{MAX_ROUTES};
 ghost use Rattle.am_model.specs.Lists.{in_order, put_in_order};
@@ -39,8 +39,8 @@ pub fn route_keys(alloc: Global, routes: &Routes) -> Result<Vec<Text>, AllocErro
     Ok(keys)
 }
 
-/// Adds the keys of the routes at one level and below them, which stand in the list of children from
-/// one place up to another, below a route with this key.
+/// Adds the keys of the routes at one level and below them, which are in the list of children from
+/// one index up to another, below a route with this key.
 fn push_keys(
     alloc: Global,
     keys: &mut Vec<Text>,
@@ -94,16 +94,16 @@ fn sorted(alloc: Global, matchers: &[Matcher]) -> Result<Vec<MatcherParts>, Allo
     let mut sorted = Vec::new(alloc);
     for i in 0..matchers.len() {
         let parts = matchers[matchers.len() - 1 - i].parts();
-        let place = place_for(sorted.as_slice(), parts);
-        sorted.insert(place, parts.copy(alloc)?)?;
+        let index = index_for(sorted.as_slice(), parts);
+        sorted.insert(index, parts.copy(alloc)?)?;
     }
     Ok(sorted)
 }
 
-/// Returns the place of a matcher among sorted ones: before the first that it isn't above.
-fn place_for(sorted: &[MatcherParts], parts: &MatcherParts) -> usize
+/// Returns the index of a matcher among sorted ones: before the first that it isn't above.
+fn index_for(sorted: &[MatcherParts], parts: &MatcherParts) -> usize
     ensures within { result ≤ length sorted.now }
-    ensures place { insert sorted.now result parts.now ≡ put_in_order matcher_cmp parts.now sorted.now }
+    ensures index { insert sorted.now result parts.now ≡ put_in_order matcher_cmp parts.now sorted.now }
 {
     for i in 0..sorted.len() {
         if !matcher_cmp(parts, &sorted[i]).is_gt() {
@@ -161,7 +161,7 @@ fn push_matcher(out: &mut String, parts: &MatcherParts) -> Result<(), AllocError
 /// The positions of routes by their keys. `rekey` keeps one of the routes of a new configuration.
 pub(crate) type KeyIndex = HashMap<Text, Vec<u32>>;
 
-/// Returns where each of these keys stands.
+/// Returns where each of these keys is.
 pub(crate) fn index_of(alloc: Global, keys: &[Text]) -> Result<KeyIndex, AllocError>
     requires few { length keys.now ≤ 1 + MAX_ROUTES }
     ensures { IfOk result (λ index. IsIndexOf keys.now index) }
@@ -188,7 +188,7 @@ fn put(alloc: Global, index: &mut KeyIndex, key: Text, position: u32) -> Result<
     Ok(())
 }
 
-/// Returns where a key stands.
+/// Returns where a key is.
 pub(crate) fn positions_at<'i>(index: &'i KeyIndex, key: &Text) -> &'i [u32]
     ensures { result.now ≡ positions_at index.now key.now }
 {

@@ -12,7 +12,7 @@ use std::alloc::{AllocError, Global};
 pub struct RowView {
     pub group: GroupName,
     pub integration: u32,
-    pub moment: u64,
+    pub time: u64,
     pub expiry: u64,
     pub firing: Sequence<Labels>,
     pub resolved: Sequence<Labels>,
@@ -26,7 +26,7 @@ impl RowView {
         Ok(RowView {
             group: self.group.copy(alloc)?,
             integration: self.integration,
-            moment: self.moment,
+            time: self.time,
             expiry: self.expiry,
             firing: self.firing.copy(alloc)?,
             resolved: self.resolved.copy(alloc)?,

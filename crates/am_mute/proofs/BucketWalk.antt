@@ -1,4 +1,4 @@
--- A walk over the keys of one bucket: what the first source among their alerts tells of all known alerts.
+-- A walk over the keys of one bucket: what the first source among their alerts says of all known alerts.
 use Rattle.std.proofs.Common.{◌≡◌, ℕ, zero, suc, ◌<◌, ◌≤◌, Bool, true, false, true≢false, cond, not, ◌&&◌, ◌||◌, List, [], ◌∷◌, length}
 use Rattle.std.proofs.Common.{get_or, take, filter, find, Some, None, refl, inl, inr, ◌⊎◌, sym, ap, ◌∙◌, arith}
 use Rattle.std.specs.Prelude.{All}
@@ -66,40 +66,40 @@ between m n p q low high =
 -- ---- the keys of one bucket
 
 module _ (number hash : ℕ) where
-  -- the key of the bucket at a place
-  abbrev pub at_place : ℕ → SourceKey
-  at_place i = record { rule = number; hash = hash; place = i }
+  -- the key of the bucket at an index
+  abbrev pub at_index : ℕ → SourceKey
+  at_index i = record { rule = number; hash = hash; index = i }
 
   -- a key is of the bucket
   abbrev pub IsOfBucket : SourceKey → Type 0
   IsOfBucket k = (k.rule ≡ number) × (k.hash ≡ hash)
 
-  its : (k : SourceKey) → IsOfBucket k → k ≡ at_place k.place
-  its k h = λ i. record { rule = h.0 i; hash = h.1 i; place = k.place }
+  its : (k : SourceKey) → IsOfBucket k → k ≡ at_index k.index
+  its k h = λ i. record { rule = h.0 i; hash = h.1 i; index = k.index }
 
-  -- the keys of one bucket are in the order of their places
-  by_place : (i j : ℕ) → key_cmp (at_place i) (at_place j) ≡ nat_cmp i j
-  by_place i j =
+  -- the keys of one bucket are in the order of their indexes
+  by_index : (i j : ℕ) → key_cmp (at_index i) (at_index j) ≡ nat_cmp i j
+  by_index i j =
       after_tie (nat_cmp number number) (ordering_then (nat_cmp hash hash) (nat_cmp i j)) (tied_number number)
       ∙ after_tie (nat_cmp hash hash) (nat_cmp i j) (tied_number hash)
 
   -- what lies between two keys of the bucket is of it
-  pub of_bucket : (i j : ℕ) (k : SourceKey) → is_gt (key_cmp (at_place i) k) ≡ false → is_gt (key_cmp k (at_place j)) ≡ false → IsOfBucket k
+  pub of_bucket : (i j : ℕ) (k : SourceKey) → is_gt (key_cmp (at_index i) k) ≡ false → is_gt (key_cmp k (at_index j)) ≡ false → IsOfBucket k
   of_bucket i j k low high =
       let rule : k.rule ≡ number = between number k.rule _ _ low high in
       let tie : nat_cmp number k.rule ≡ Equal = ap (nat_cmp number) rule ∙ tied_number number in
       let tie_too : nat_cmp k.rule number ≡ Equal = ap (λ n. nat_cmp n number) rule ∙ tied_number number in
-      let low_hash : is_gt (ordering_then (nat_cmp hash k.hash) (nat_cmp i k.place)) ≡ false =
+      let low_hash : is_gt (ordering_then (nat_cmp hash k.hash) (nat_cmp i k.index)) ≡ false =
       ap is_gt (sym (after_tie (nat_cmp number k.rule) _ tie)) ∙ low in
-      let high_hash : is_gt (ordering_then (nat_cmp k.hash hash) (nat_cmp k.place j)) ≡ false =
+      let high_hash : is_gt (ordering_then (nat_cmp k.hash hash) (nat_cmp k.index j)) ≡ false =
       ap is_gt (sym (after_tie (nat_cmp k.rule number) _ tie_too)) ∙ high in
       (rule, between hash k.hash _ _ low_hash high_hash)
 
-  -- a key of the bucket that is before the key at a place has a place below it
-  pub place_below : (j : ℕ) (k : SourceKey) → IsOfBucket k → key_cmp k (at_place j) ≡ Less → k.place < j
-  place_below j k of less =
-      let after : nat_cmp k.place j ≡ Less = sym (by_place k.place j) ∙ (ap (λ q. key_cmp q (at_place j)) (sym (its k of)) ∙ less) in
-      less_number (nat_cmp k.place j) k.place j (ranked k.place j (nat_cmp k.place j) refl) after
+  -- a key of the bucket that is before the key at an index has an index below it
+  pub index_below : (j : ℕ) (k : SourceKey) → IsOfBucket k → key_cmp k (at_index j) ≡ Less → k.index < j
+  index_below j k of less =
+      let after : nat_cmp k.index j ≡ Less = sym (by_index k.index j) ∙ (ap (λ q. key_cmp q (at_index j)) (sym (its k of)) ∙ less) in
+      less_number (nat_cmp k.index j) k.index j (ranked k.index j (nat_cmp k.index j) refl) after
 
   low : (o : Ordering) (i : ℕ) → MatchOrdering o (0 < i) (0 ≡ i) (i < 0) → is_le o ≡ true
   low Less i h = refl
@@ -111,13 +111,13 @@ module _ (number hash : ℕ) where
   high Equal len i h less = absurd (omega (arith, h, less))
   high Greater len i h less = refl
 
-  -- the keys of the bucket with places below a length are between its ends
+  -- the keys of the bucket with indexes below a length are between its ends
   pub in_bucket : (len i : ℕ) → i < len
-      → (is_le (key_cmp (at_place 0) (at_place i)) && not (is_le (key_cmp (at_place len) (at_place i)))) ≡ true
+      → (is_le (key_cmp (at_index 0) (at_index i)) && not (is_le (key_cmp (at_index len) (at_index i)))) ≡ true
   in_bucket len i less =
-      ap (λ o. is_le o && not (is_le (key_cmp (at_place len) (at_place i)))) (by_place 0 i)
-      ∙ (ap (λ b. b && not (is_le (key_cmp (at_place len) (at_place i)))) (low (nat_cmp 0 i) i (ranked 0 i (nat_cmp 0 i) refl))
-      ∙ (ap (λ o. not (is_le o)) (by_place len i) ∙ high (nat_cmp len i) len i (ranked len i (nat_cmp len i) refl) less))
+      ap (λ o. is_le o && not (is_le (key_cmp (at_index len) (at_index i)))) (by_index 0 i)
+      ∙ (ap (λ b. b && not (is_le (key_cmp (at_index len) (at_index i)))) (low (nat_cmp 0 i) i (ranked 0 i (nat_cmp 0 i) refl))
+      ∙ (ap (λ o. not (is_le o)) (by_index len i) ∙ high (nat_cmp len i) len i (ranked len i (nat_cmp len i) refl) less))
 
 -- a key that passes is among those that a filter keeps
 pub kept_key : (test : SourceKey → Bool) (keys : List SourceKey) (q : SourceKey) → test q ≡ true → has_key keys q ≡ true
@@ -167,11 +167,11 @@ next_or_behind k keys sorted q h =
 module _ {X : Type 0} (test : X → Bool) (xs : List X) (number hash : ℕ) where
   -- each element that passes has its key among them
   abbrev pub IsAhead : List SourceKey → Type 0
-  IsAhead keys = (i : ℕ) (x : X) → IsAt xs i x → test x ≡ true → has_key keys (at_place number hash i) ≡ true
+  IsAhead keys = (i : ℕ) (x : X) → IsAt xs i x → test x ≡ true → has_key keys (at_index number hash i) ≡ true
 
   -- a key of the bucket, of one of the elements
   abbrev pub IsNear : SourceKey → Type 0
-  IsNear k = IsOfBucket number hash k × (k.place < length xs)
+  IsNear k = IsOfBucket number hash k × (k.index < length xs)
 
   -- these keys are left: they are in order, and each element that passes has its own among them
   pub record AreLeft (keys : List SourceKey) : Type 0 where
@@ -185,7 +185,7 @@ module _ {X : Type 0} (test : X → Bool) (xs : List X) (number hash : ℕ) wher
       sym (ap (find test) (take_all (length xs) xs (omega arith)))
       ∙ none_before test xs (length xs) (λ j y at less. not_true (test y) (λ passes. true≢false (sym (left.ahead j y at passes))))
 
-  module _ (k : SourceKey) (keys : List SourceKey) (x : X) (here : x ≡ get_or xs k.place x) (left : AreLeft (k ∷ keys)) where
+  module _ (k : SourceKey) (keys : List SourceKey) (x : X) (here : x ≡ get_or xs k.index x) (left : AreLeft (k ∷ keys)) where
     near : IsNear k
     near = All-head IsNear k keys left.near
 
@@ -195,26 +195,26 @@ module _ {X : Type 0} (test : X → Bool) (xs : List X) (number hash : ℕ) wher
       where
         ahead : IsAhead keys
         ahead i y at passes =
-            elim (is_eq (key_cmp (at_place number hash i) k)) as
-            (λ b. is_eq (key_cmp (at_place number hash i) k) ≡ b → (b || has_key keys (at_place number hash i)) ≡ true
-            → has_key keys (at_place number hash i) ≡ true) [
+            elim (is_eq (key_cmp (at_index number hash i) k)) as
+            (λ b. is_eq (key_cmp (at_index number hash i) k) ≡ b → (b || has_key keys (at_index number hash i)) ≡ true
+            → has_key keys (at_index number hash i) ≡ true) [
               | true ↦ λ tied there.
-                  let place : i ≡ k.place = ap (λ (q : SourceKey). q.place) (key-is (at_place number hash i) k tied) in
-                  let same : y ≡ x = at.1 ∙ (ap (λ j. get_or xs j y) place ∙ (get_or_default xs k.place y x near.1 ∙ sym here)) in
+                  let index : i ≡ k.index = ap (λ (q : SourceKey). q.index) (key-is (at_index number hash i) k tied) in
+                  let same : y ≡ x = at.1 ∙ (ap (λ j. get_or xs j y) index ∙ (get_or_default xs k.index y x near.1 ∙ sym here)) in
                   absurd (true≢false (sym passes ∙ (ap test same ∙ fails)))
               | false ↦ λ tied there. there
             ] refl (left.ahead i y at passes)
 
     -- the element of the next key passes
     pub walk_takes : test x ≡ true → find test xs ≡ Some x
-    walk_takes passes = find_here test xs k.place x x near.1 here (none_before test xs k.place before) passes
+    walk_takes passes = find_here test xs k.index x x near.1 here (none_before test xs k.index before) passes
       where
-        before : (j : ℕ) (y : X) → IsAt xs j y → j < k.place → test y ≡ false
+        before : (j : ℕ) (y : X) → IsAt xs j y → j < k.index → test y ≡ false
         before j y at less =
             not_true (test y) (λ passes_too.
-            elim (next_or_behind k keys left.sorted (at_place number hash j) (left.ahead j y at passes_too)) [
-              | inl e ↦ let place : j ≡ k.place = ap (λ (q : SourceKey). q.place) e in omega (arith, place, less)
+            elim (next_or_behind k keys left.sorted (at_index number hash j) (left.ahead j y at passes_too)) [
+              | inl e ↦ let index : j ≡ k.index = ap (λ (q : SourceKey). q.index) e in omega (arith, index, less)
               | inr e ↦
-                  let up : k.place < j = place_below number hash j k near.0 e in
+                  let up : k.index < j = index_below number hash j k near.0 e in
                   omega (arith, up, less)
             ])

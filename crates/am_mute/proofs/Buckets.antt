@@ -26,7 +26,7 @@ use Rattle.am_mute.specs.declared.sources.SourceKey.{SourceKey}
 use Rattle.am_seed.specs.Hashing.{opening, write, finish}
 use Rattle.am_seed.specs.declared.hasher.SeededHasher.{SeededHasher}
 use Rattle.am_seed.specs.declared.seed.Seed.{Seed}
-use Rattle.am_mute.proofs.BucketWalk.{AreLeft, at_place, in_bucket, kept_key, of_bucket, place_below}
+use Rattle.am_mute.proofs.BucketWalk.{AreLeft, at_index, in_bucket, kept_key, of_bucket, index_below}
 
 -- ---- label sets that agree have one hash
 
@@ -105,17 +105,17 @@ have_sources number rule known index learnt x ruled targeted i a at passes =
 module _ (seed : Seed) (number : ℕ) (x : TargetData) (alerts : List AlertData) (all : List SourceKey)
     (have : HaveSources seed number x alerts all) (hash : ℕ) (hashed : hash ≡ values_hash seed x.rule.equal x.labels) where
   abbrev first : Bound SourceKey
-  first = Included (at_place number hash 0)
+  first = Included (at_index number hash 0)
 
   abbrev last : Bound SourceKey
-  last = Excluded (at_place number hash (length alerts))
+  last = Excluded (at_index number hash (length alerts))
 
   -- a source has its key in the bucket
   had : (i : ℕ) (a : AlertData) → IsAt alerts i a → is_inhibited_by x.rule x.t x.labels a ≡ true
-      → has_key all (at_place number hash i) ≡ true
+      → has_key all (at_index number hash i) ≡ true
   had i a at passes =
       let same : values_hash seed x.rule.equal a.labels ≡ hash = source_hash x.rule x.t x.labels a passes seed ∙ sym hashed in
-      subst (HasKey all) (λ j. record { rule = number; hash = same j; place = i }) (have i a at passes)
+      subst (HasKey all) (λ j. record { rule = number; hash = same j; index = i }) (have i a at passes)
 
   pub left_first : (keys : List SourceKey) → keys ≡ filter (range_contains key_cmp first last) all
       → All (λ k. IsInRange key_cmp first last k × IsTrue (has_key all k)) keys
@@ -127,9 +127,9 @@ module _ (seed : Seed) (number : ℕ) (x : TargetData) (alerts : List AlertData)
         near = λ j d less.
             let is = in_range j d less in
             let of = of_bucket number hash 0 (length alerts) (get_or keys j d) is.0.0 (ap is_gt is.0.1) in
-            (of, place_below number hash (length alerts) (get_or keys j d) of is.0.1);
+            (of, index_below number hash (length alerts) (get_or keys j d) of is.0.1);
         ahead = λ i a at passes.
-            ap (λ ks. has_key ks (at_place number hash i)) between
-            ∙ kept_key (range_contains key_cmp first last) all (at_place number hash i) (in_bucket number hash (length alerts) i at.0)
+            ap (λ ks. has_key ks (at_index number hash i)) between
+            ∙ kept_key (range_contains key_cmp first last) all (at_index number hash i) (in_bucket number hash (length alerts) i at.0)
             (had i a at passes);
       }

@@ -54,10 +54,10 @@ module _ (labels : List Label) (t : ℕ) (known : List AlertData) where
       (inhibition_from (n + length xs) labels t known ys)
   causes-append n [] ys = ap (λ m. inhibition_from m labels t known ys) (omega arith)
   causes-append n (r ∷ rules) ys =
-      let told = option_map (λ (a : AlertData). Inhibited n a.labels) (source_for r t known labels) in
-      ap (option_or told) (causes-append (n + 1) rules ys
+      let fact = option_map (λ (a : AlertData). Inhibited n a.labels) (source_for r t known labels) in
+      ap (option_or fact) (causes-append (n + 1) rules ys
       ∙ ap (λ m. option_or (inhibition_from (n + 1) labels t known rules) (inhibition_from m labels t known ys)) (omega arith))
-      ∙ sym (or-assoc told (inhibition_from (n + 1) labels t known rules) (inhibition_from (n + length (r ∷ rules)) labels t known ys))
+      ∙ sym (or-assoc fact (inhibition_from (n + 1) labels t known rules) (inhibition_from (n + length (r ∷ rules)) labels t known ys))
 
   module _ (rules : List RuleData) (i : ℕ) (r : RuleData) (within : i < length rules) (here : r ≡ get_or rules i r)
       (none : inhibition_from 0 labels t known (take i rules) ≡ None) where

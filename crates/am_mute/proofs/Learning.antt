@@ -34,10 +34,10 @@ module _ (key : SourceKey) (old : SourceIndex) (all : List SourceKey)
       }
 
 -- an index that has grown has the keys that it had
-pub keeps : (old new : SourceIndex) → Grows old new → (number : ℕ) (rule : RuleData) (place : ℕ) (labels : List Label)
-    → HasKeys number rule place labels old → HasKeys number rule place labels new
-keeps old new grows number rule place labels has =
-    let key : Seed → SourceKey = λ s. key_of s number rule.equal place labels in
+pub keeps : (old new : SourceIndex) → Grows old new → (number : ℕ) (rule : RuleData) (position : ℕ) (labels : List Label)
+    → HasKeys number rule position labels old → HasKeys number rule position labels new
+keeps old new grows number rule position labels has =
+    let key : Seed → SourceKey = λ s. key_of s number rule.equal position labels in
     record {
       all = λ is. subst (λ s. HasKey new.all (key s)) (sym grows.seed) (grows.all (key old.seed) (has.all is));
       one_sided = λ is. subst (λ s. HasKey new.one_sided (key s)) (sym grows.seed) (grows.one_sided (key old.seed) (has.one_sided is));
@@ -58,27 +58,27 @@ grows_twice old new last grows then =
     }
 
 -- an index needs no keys of an alert that isn't a source
-pub has_none : (number : ℕ) (rule : RuleData) (place : ℕ) (labels : List Label) (index : SourceIndex) → match_all rule.source labels ≡ false
-    → HasKeys number rule place labels index
-has_none number rule place labels index none =
+pub has_none : (number : ℕ) (rule : RuleData) (position : ℕ) (labels : List Label) (index : SourceIndex) → match_all rule.source labels ≡ false
+    → HasKeys number rule position labels index
+has_none number rule position labels index none =
     record {
       all = λ is. absurd (true≢false (sym is ∙ none));
       one_sided = λ is. absurd (true≢false (sym (and_parts (match_all rule.source labels) (not (match_all rule.target labels)) is).0 ∙ none));
     }
 
 -- an index that got the key of a source has the keys of that alert
-pub has_source : (number : ℕ) (rule : RuleData) (place : ℕ) (labels : List Label) (index : SourceIndex) (hash : ℕ)
-    → hash ≡ values_hash index.seed rule.equal labels → HasKey index.all (record { rule = number; hash = hash; place = place })
+pub has_source : (number : ℕ) (rule : RuleData) (position : ℕ) (labels : List Label) (index : SourceIndex) (hash : ℕ)
+    → hash ≡ values_hash index.seed rule.equal labels → HasKey index.all (record { rule = number; hash = hash; index = position })
     → (both : Bool) → both ≡ match_all rule.target labels
-    → (not both ≡ true → HasKey index.one_sided (record { rule = number; hash = hash; place = place }))
-    → HasKeys number rule place labels index
-has_source number rule place labels index hash hashed all both told one_sided =
-    let key : ℕ → SourceKey = λ h. record { rule = number; hash = h; place = place } in
+    → (not both ≡ true → HasKey index.one_sided (record { rule = number; hash = hash; index = position }))
+    → HasKeys number rule position labels index
+has_source number rule position labels index hash hashed all both fact one_sided =
+    let key : ℕ → SourceKey = λ h. record { rule = number; hash = h; index = position } in
     record {
       all = λ _. subst (λ h. HasKey index.all (key h)) hashed all;
       one_sided = λ is.
           subst (λ h. HasKey index.one_sided (key h)) hashed
-          (one_sided (ap not told ∙ (and_parts (match_all rule.source labels) (not (match_all rule.target labels)) is).1));
+          (one_sided (ap not fact ∙ (and_parts (match_all rule.source labels) (not (match_all rule.target labels)) is).1));
     }
 
 -- an index that has grown has the keys of those alerts whose keys it had
@@ -139,9 +139,9 @@ module _ (rules : List RuleData) (known : List AlertData) (old new : SourceIndex
   abbrev whole : SourceIndex
   whole = record { all = new.all; one_sided = new.one_sided; learnt = length known; seed = new.seed }
 
-  whole_has : (number : ℕ) (rule : RuleData) (place : ℕ) (labels : List Label)
-      → HasKeys number rule place labels new → HasKeys number rule place labels whole
-  whole_has number rule place labels has = record { all = has.all; one_sided = has.one_sided }
+  whole_has : (number : ℕ) (rule : RuleData) (position : ℕ) (labels : List Label)
+      → HasKeys number rule position labels new → HasKeys number rule position labels whole
+  whole_has number rule position labels has = record { all = has.all; one_sided = has.one_sided }
 
   sources_all : (number : ℕ) (rule : RuleData) → IsAt rules number rule → HasSources number rule known whole
   sources_all number rule at i a is less =

@@ -1,10 +1,10 @@
 -- a silence that asks for a label mutes only label sets that have it, so that it is found by one of their labels
-mod AskedLabels
--- a walk over the keys of one bucket: what the first source among their alerts tells of all known alerts
+mod RequiredLabels
+-- a walk over the keys of one bucket: what the first source among their alerts says of all known alerts
 mod BucketWalk
 -- the keys of one bucket of an index: each source for a target has its own among them
 mod Buckets
--- the first silence that mutes, by walks over places
+-- the first silence that mutes, by walks over indexes
 mod FirstSilences
 -- the first that passes a test is there exactly where one passes
 pub mod Firsts
@@ -12,7 +12,7 @@ pub mod Firsts
 mod FoundSources
 -- an index that learns of alerts, by one rule after the other
 mod Learning
--- the places of silences
+-- the indexes of silences
 mod PlacedSilences
 -- keys of sources: their order, and what an index has after one more
 mod SourceKeys

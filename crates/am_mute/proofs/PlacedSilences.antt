@@ -1,10 +1,10 @@
--- The places of silences.
+-- The indexes of silences.
 use Rattle.std.proofs.Common.{◌≡◌, ℕ, ◌<◌, true, false, eqb, List, length, get_or, refl}
 use Rattle.std.specs.Prelude.{All, nat_eq}
 use Rattle.std.proofs.lemmas.Bool.{eqb-false}
 use Rattle.std.proofs.lemmas.List.Folds.{list_any_at}
 use Rattle.am_mute.specs.Silence.{SilenceData}
-use Rattle.am_mute.specs.SilenceIndex.{ArePlaced, places_at}
+use Rattle.am_mute.specs.SilenceIndex.{ArePlaced, indexes_at}
 use Rattle.am_mute.specs.declared.silence_index.SilenceIndex.{SilenceIndex}
 
 -- a number is itself
@@ -15,9 +15,9 @@ same_number n =
       | false ↦ λ e. absurd (eqb-false n n e refl)
     ] refl
 
--- the places under a key are those of silences
+-- the indexes under a key are those of silences
 pub are_within : (silences : List SilenceData) (index : SilenceIndex) → ArePlaced silences index → (key : ℕ)
-    → All (λ p. p < length silences) (places_at index key)
+    → All (λ p. p < length silences) (indexes_at index key)
 are_within silences index placed key i d less =
-    let place = get_or (places_at index key) i d in
-    placed key place (list_any_at (λ p. nat_eq p place) (places_at index key) i d less (same_number place))
+    let position = get_or (indexes_at index key) i d in
+    placed key position (list_any_at (λ p. nat_eq p position) (indexes_at index key) i d less (same_number position))

@@ -13,7 +13,7 @@ use Rattle.am_mute.specs.declared.sources.SourceKey.{SourceKey}
 pub key_cmp_total : IsTotalOrder key_cmp
 key_cmp_total =
     then_total (on_total (λ (k : SourceKey). k.rule) nat_cmp_total)
-    (then_total (on_total (λ (k : SourceKey). k.hash) nat_cmp_total) (on_total (λ (k : SourceKey). k.place) nat_cmp_total))
+    (then_total (on_total (λ (k : SourceKey). k.hash) nat_cmp_total) (on_total (λ (k : SourceKey). k.index) nat_cmp_total))
 
 -- both orders tie where one after the other does
 tied_both : (o p : Ordering) → is_eq (ordering_then o p) ≡ true → (is_eq o ≡ true) × (is_eq p ≡ true)
@@ -27,12 +27,12 @@ tied_numbers m n tied = eqb-true m n (unsigned_ties m n ∙ tied)
 -- keys that tie are one
 pub key-is : (a b : SourceKey) → is_eq (key_cmp a b) ≡ true → a ≡ b
 key-is a b tied =
-    let parts = tied_both (nat_cmp a.rule b.rule) (ordering_then (nat_cmp a.hash b.hash) (nat_cmp a.place b.place)) tied in
-    let rest = tied_both (nat_cmp a.hash b.hash) (nat_cmp a.place b.place) parts.1 in
+    let parts = tied_both (nat_cmp a.rule b.rule) (ordering_then (nat_cmp a.hash b.hash) (nat_cmp a.index b.index)) tied in
+    let rest = tied_both (nat_cmp a.hash b.hash) (nat_cmp a.index b.index) parts.1 in
     let rule : a.rule ≡ b.rule = tied_numbers a.rule b.rule parts.0 in
     let hash : a.hash ≡ b.hash = tied_numbers a.hash b.hash rest.0 in
-    let place : a.place ≡ b.place = tied_numbers a.place b.place rest.1 in
-    λ i. record { rule = rule i; hash = hash i; place = place i }
+    let index : a.index ≡ b.index = tied_numbers a.index b.index rest.1 in
+    λ i. record { rule = rule i; hash = hash i; index = index i }
 
 -- ---- one key more
 

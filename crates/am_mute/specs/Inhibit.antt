@@ -8,7 +8,7 @@ use Rattle.am_alerts.specs.Labels.{value_in}
 use Rattle.am_alerts.specs.Matcher.{match_all}
 use Rattle.am_alerts.specs.declared.labels.Label.{Label}
 use Rattle.am_alerts.specs.declared.matcher.MatcherParts.{MatcherParts}
-use Rattle.am_alerts.specs.declared.limits.TheConstants.{MAX_MATCHERS, MAX_NAMES}
+use Rattle.am_alerts.specs.declared.limits.TheConstants.{MAX_MATCHERS, MAX_LABEL_NAMES}
 use Rattle.am_mute.specs.declared.inhibit.RuleFault.{RuleFault}
 use Rattle.am_mute.specs.declared.inhibit.RuleFault.TheVariants.{TooManyMatchers, TooManyNames}
 
@@ -26,7 +26,7 @@ rule_of source target equal = record { source = source; target = target; equal =
 abbrev pub rule_fault : RuleData → Option RuleFault
 rule_fault r =
     if nat_lt MAX_MATCHERS (length r.source) || nat_lt MAX_MATCHERS (length r.target) then Some TooManyMatchers
-    else (if nat_lt MAX_NAMES (length r.equal) then Some TooManyNames else None)
+    else (if nat_lt MAX_LABEL_NAMES (length r.equal) then Some TooManyNames else None)
 
 -- whether two label sets agree on a name: both have one value under it, or neither has the label
 abbrev pub agrees_on_name : List ℕ → List Label → List Label → Bool

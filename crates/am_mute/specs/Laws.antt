@@ -7,7 +7,7 @@ use Rattle.am_mute.specs.declared.silence.SilenceFault.TheVariants as silence
 -- law: the numbers of the faults of silences
 abbrev pub SilenceFaultsAre : Type 0
 SilenceFaultsAre =
-    SILENCE_FAULTS ≡ (silence.NoMatchers, 1) ∷ (silence.TooManyMatchers, 2) ∷ (silence.BadMoments, 3) ∷ []
+    SILENCE_FAULTS ≡ (silence.NoMatchers, 1) ∷ (silence.TooManyMatchers, 2) ∷ (silence.BadTimes, 3) ∷ []
 
 -- law: the numbers of the faults of inhibition rules
 abbrev pub RuleFaultsAre : Type 0

@@ -8,7 +8,7 @@ pub mod Matching
 pub mod Mute
 -- silences: when they are active, and what they mute
 pub mod Silence
--- where silences stand in an index, by the labels that they ask for
+-- where silences are in an index, by the labels that they ask for
 pub mod SilenceIndex
 -- silences as they are kept, with room for more
 pub mod Silences

@@ -4,9 +4,9 @@ use Rattle.std.specs.List.{list_any}
 use Rattle.am_alerts.specs.Matcher.{match_all}
 use Rattle.am_alerts.specs.declared.labels.Label.{Label}
 use Rattle.am_alerts.specs.declared.matcher.MatcherParts.{MatcherParts}
-use Rattle.am_alerts.specs.declared.limits.TheConstants.{MAX_MATCHERS, MAX_MOMENT}
+use Rattle.am_alerts.specs.declared.limits.TheConstants.{MAX_MATCHERS, MAX_TIME}
 use Rattle.am_mute.specs.declared.silence.SilenceFault.{SilenceFault}
-use Rattle.am_mute.specs.declared.silence.SilenceFault.TheVariants.{NoMatchers, TooManyMatchers, BadMoments}
+use Rattle.am_mute.specs.declared.silence.SilenceFault.TheVariants.{NoMatchers, TooManyMatchers, BadTimes}
 
 -- a silence as contracts see it: its id, its matchers, its start and its end
 pub record SilenceData : Type 0 where
@@ -15,16 +15,16 @@ pub record SilenceData : Type 0 where
   pub start : ℕ
   pub end : ℕ
 
--- an id, matchers and moments as a silence
+-- an id, matchers and times as a silence
 abbrev pub silence_of : ℕ → List MatcherParts → ℕ → ℕ → SilenceData
 silence_of id matchers start end = record { id = id; matchers = matchers; start = start; end = end }
 
--- why matchers and moments are no silence
+-- why matchers and times are no silence
 abbrev pub silence_fault : SilenceData → Option SilenceFault
 silence_fault s =
     if length s.matchers == 0 then Some NoMatchers
     else (if nat_lt MAX_MATCHERS (length s.matchers) then Some TooManyMatchers
-    else (if nat_lt s.end s.start || nat_lt MAX_MOMENT s.start || nat_lt MAX_MOMENT s.end then Some BadMoments else None))
+    else (if nat_lt s.end s.start || nat_lt MAX_TIME s.start || nat_lt MAX_TIME s.end then Some BadTimes else None))
 
 -- whether a silence is active at t: it has started, and its end hasn't come (Alertmanager's package silence, save that there the end
 -- itself counts)

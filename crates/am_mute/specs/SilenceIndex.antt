@@ -1,4 +1,4 @@
--- Where silences stand, by the labels that they ask for.
+-- Where silences are, by the labels that they ask for.
 use Rattle.std.specs.Prelude.{◌≡◌, ◌<◌, ◌≤◌, ℕ, Bool, true, false, Vec, ◌&&◌, List}
 use Rattle.std.specs.Prelude.{[], length, find, Option, Some, None, IsTrue, fold, nat_eq, nat_lt}
 use Rattle.std.specs.Global.{Global}
@@ -28,8 +28,8 @@ is_equal Like = false
 is_equal NotLike = false
 
 -- whether each label set that a matcher matches has the label of its name and value
-abbrev pub asks_label : MatcherParts → Bool
-asks_label m = is_equal m.op && nat_lt 0 (length m.value)
+abbrev pub requires_label : MatcherParts → Bool
+requires_label m = is_equal m.op && nat_lt 0 (length m.value)
 
 -- what a silence is found by, where this is the first of its matchers that asks for a label
 abbrev pub key_by : Seed → Option MatcherParts → ℕ
@@ -38,41 +38,41 @@ key_by seed (Some m) = label_hash seed m.name m.value
 
 -- what a silence of these matchers is found by
 abbrev pub key_of : Seed → List MatcherParts → ℕ
-key_of seed matchers = key_by seed (find asks_label matchers)
+key_of seed matchers = key_by seed (find requires_label matchers)
 
--- the places among these, if there are any
-abbrev pub places_in : Option (Vec ℕ Global) → List ℕ
-places_in None = []
-places_in (Some places) = places.items
+-- the indexes among these, if there are any
+abbrev pub indexes_in : Option (Vec ℕ Global) → List ℕ
+indexes_in None = []
+indexes_in (Some indexes) = indexes.items
 
--- the places under a key
-abbrev pub places_at : SilenceIndex → ℕ → List ℕ
-places_at index key = places_in (get nat_eq index.places key)
+-- the indexes under a key
+abbrev pub indexes_at : SilenceIndex → ℕ → List ℕ
+indexes_at index key = indexes_in (get nat_eq index.indexes key)
 
--- a place is one of these
+-- an index is one of these
 abbrev pub IsOneOf : List ℕ → ℕ → Type 0
-IsOneOf places place = IsTrue (list_any (λ p. nat_eq p place) places)
+IsOneOf indexes position = IsTrue (list_any (λ p. nat_eq p position) indexes)
 
--- a place stands under a key
-abbrev pub HasPlace : SilenceIndex → ℕ → ℕ → Type 0
-HasPlace index key place = IsOneOf (places_at index key) place
+-- an index is under a key
+abbrev pub HasIndex : SilenceIndex → ℕ → ℕ → Type 0
+HasIndex index key position = IsOneOf (indexes_at index key) position
 
--- each place is one of these silences
+-- each index is one of these silences
 abbrev pub ArePlaced : List SilenceData → SilenceIndex → Type 0
-ArePlaced silences index = (key place : ℕ) → HasPlace index key place → place < length silences
+ArePlaced silences index = (key position : ℕ) → HasIndex index key position → position < length silences
 
--- the index holds of these silences: each of those that count as indexed has its place under what it is found by
+-- the index holds of these silences: each of those that count as indexed has its index under what it is found by
 pub record IsIndexed (silences : List SilenceData) (index : SilenceIndex) : Type 0 where
   pub indexed : index.indexed ≤ length silences
   pub placed : ArePlaced silences index
-  pub found : (i : ℕ) (s : SilenceData) → IsAt silences i s → i < index.indexed → HasPlace index (key_of index.seed s.matchers) i
+  pub found : (i : ℕ) (s : SilenceData) → IsAt silences i s → i < index.indexed → HasIndex index (key_of index.seed s.matchers) i
 
--- none of the silences at these places mutes a label set at t
+-- none of the silences at these indexes mutes a label set at t
 abbrev pub AreUnmuted : (ℕ → Type 0) → List Label → ℕ → List SilenceData → Type 0
 AreUnmuted Here labels t silences =
     (i : ℕ) (s : SilenceData) → Here i → IsAt silences i s → silence_mutes s t labels ≡ false
 
--- of the silences before a bound that stand at such places, the first that mutes a label set at t; the bound, if none does
+-- of the silences before a bound that are at such indexes, the first that mutes a label set at t; the bound, if none does
 pub record IsFirst (Here : ℕ → Type 0) (labels : List Label) (t : ℕ) (silences : List SilenceData) (bound first : ℕ) : Type 0 where
   pub within : first ≤ bound
   pub mutes : (s : SilenceData) → first < bound → IsAt silences first s → silence_mutes s t labels ≡ true

@@ -8,7 +8,7 @@ use Rattle.am_mute.specs.Inhibit.{RuleData}
 use Rattle.am_seed.specs.Hashing.{opening, write, finish}
 use Rattle.am_seed.specs.declared.seed.Seed.{Seed}
 
--- a label set, a rule whose target matchers match it, and a moment
+-- a label set, a rule whose target matchers match it, and a time
 pub record TargetData : Type 0 where
   pub rule : RuleData
   pub labels : List Label

@@ -3,7 +3,7 @@ ghost use Rattle.std.specs.Prelude.{◌≡◌, ◌≤◌, length};
 ghost use Rattle.am_alerts.specs.Fault.{ok_unless};
 ghost use Rattle.am_mute.specs.Inhibit.{rule_fault, rule_of};
 
-use am_alerts::limits::{MAX_MATCHERS, MAX_NAMES};
+use am_alerts::limits::{MAX_LABEL_NAMES, MAX_MATCHERS};
 use am_alerts::matcher::Matcher;
 use am_alerts::sequence::Sequence;
 use am_alerts::text::Text;
@@ -43,7 +43,7 @@ impl Model for InhibitRule {
 
 impl InhibitRule {
     /// An inhibition rule. Refused in this order: `TooManyMatchers` (more than 32 on one side),
-    /// `TooManyNames` (more than 64 in `equal`; one that stands twice counts twice). An empty
+    /// `TooManyNames` (more than 64 in `equal`; one that is twice counts twice). An empty
     /// list of matchers matches every label set. Takes no memory.
     pub fn new(
         source: Vec<Matcher>,
@@ -56,7 +56,7 @@ impl InhibitRule {
         if source.len() > MAX_MATCHERS || target.len() > MAX_MATCHERS {
             return Err(RuleFault::TooManyMatchers);
         }
-        if equal.len() > MAX_NAMES {
+        if equal.len() > MAX_LABEL_NAMES {
             return Err(RuleFault::TooManyNames);
         }
         Ok(InhibitRule {
@@ -85,7 +85,7 @@ impl InhibitRule {
     /// The names of the labels in which the two have to agree: at most 64.
     pub fn equal(&self) -> &[Text]
         ensures equal { result.now ≡ self.now.equal }
-        ensures few { length self.now.equal ≤ MAX_NAMES }
+        ensures few { length self.now.equal ≤ MAX_LABEL_NAMES }
     {
         self.equal.as_slice()
     }

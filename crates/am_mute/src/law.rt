@@ -10,7 +10,7 @@ const SILENCE_FAULTS: [(SilenceFault, u8); 3] = [
         SilenceFault::TooManyMatchers,
         SilenceFault::TooManyMatchers as u8,
     ),
-    (SilenceFault::BadMoments, SilenceFault::BadMoments as u8),
+    (SilenceFault::BadTimes, SilenceFault::BadTimes as u8),
 ];
 
 const RULE_FAULTS: [(RuleFault, u8); 2] = [

@@ -27,7 +27,7 @@ use std::alloc::{AllocError, Global};
 pub enum MuteCause {
     /// By the silence of this id, which mutes until its end, in milliseconds.
     Silenced { id: u64, until: u64 },
-    /// By the rule at this place of the list, on account of a known alert of this label set.
+    /// By the rule at this index of the list, on account of a known alert of this label set.
     Inhibited { rule: usize, by: Labels },
 }
 

@@ -5,14 +5,14 @@ ghost use Rattle.am_mute.specs.Silence.{is_over, silence_fault, silence_of, sile
 ghost use Rattle.am_alerts.specs.Matcher.{compare_texts};
 
 use am_alerts::labels::Labels;
-use am_alerts::limits::{MAX_MATCHERS, MAX_MOMENT};
+use am_alerts::limits::{MAX_MATCHERS, MAX_TIME};
 use am_alerts::matcher::{Matcher, all_match};
 use am_alerts::sequence::Sequence;
 use std::alloc::{AllocError, Global};
 use std::marker::Model;
 use thiserror::Error;
 
-/// Why matchers and moments make no silence.
+/// Why matchers and times make no silence.
 #[derive(Clone, Copy, Debug, PartialEq, Eq, Error)]
 pub enum SilenceFault {
     #[error("a silence needs a matcher")]
@@ -20,11 +20,11 @@ pub enum SilenceFault {
     #[error("there are more than 32 matchers")]
     TooManyMatchers = 2,
     #[error("the silence starts after its end, or a moment is above 10^15")]
-    BadMoments = 3,
+    BadTimes = 3,
 }
 
 /// Mutes the label sets that all its matchers match, from its start up to its end, which is the
-/// first moment at which it mutes no more (milliseconds). Its id tells it from other silences.
+/// first time at which it mutes no more (milliseconds). Its id keeps it from other silences.
 #[derive(Debug, Drop)]
 pub struct Silence {
     id: u64,
@@ -48,7 +48,7 @@ impl Model for Silence {
 
 impl Silence {
     /// A silence of these matchers. Refused in this order: `NoMatchers`, `TooManyMatchers` (more
-    /// than 32), `BadMoments` (the start is after the end, or one of them is above 10^15; an end
+    /// than 32), `BadTimes` (the start is after the end, or one of them is above 10^15; an end
     /// at the start is accepted, and mutes nothing). Takes no memory.
     pub fn new(
         id: u64,
@@ -65,8 +65,8 @@ impl Silence {
         if matchers.len() > MAX_MATCHERS {
             return Err(SilenceFault::TooManyMatchers);
         }
-        if start > end || end > MAX_MOMENT {
-            return Err(SilenceFault::BadMoments);
+        if start > end || end > MAX_TIME {
+            return Err(SilenceFault::BadTimes);
         }
         Ok(Silence {
             id,
@@ -91,7 +91,7 @@ impl Silence {
         self.matchers.as_slice()
     }
 
-    /// The first moment at which the silence mutes, in milliseconds.
+    /// The first time at which the silence mutes, in milliseconds.
     pub fn start(&self) -> u64
         ensures start { result ≡ self.now.start }
         ensures ordered { result ≤ self.now.end }
@@ -99,10 +99,10 @@ impl Silence {
         self.start
     }
 
-    /// The moment from which on the silence mutes no more, in milliseconds.
+    /// The time from which on the silence mutes no more, in milliseconds.
     pub fn end(&self) -> u64
         ensures end { result ≡ self.now.end }
-        ensures bounded { result ≤ MAX_MOMENT }
+        ensures bounded { result ≤ MAX_TIME }
     {
         self.end
     }

@@ -1,20 +1,20 @@
-//! The places of silences by the labels that they need. `silences` keeps one.
+//! The indexes of silences by the labels that they need. `silences` keeps one.
 //!
 //! The first matcher of a silence that is `=` with a value needs a label: a label set without it
-//! isn't muted. The place is under the hash of that label, and an alert looks up each of its
+//! isn't muted. The index is under the hash of that label, and an alert looks up each of its
 //! labels. A silence that needs none (patterns, `!=` and empty values alone) is under a number of
-//! its own, and is tested for each alert. Each silence that is found is tested in full. A place can
+//! its own, and is tested for each alert. Each silence that is found is tested in full. An index can
 //! stay under what its silence needed before; this costs one test, and each replacement adds one at
 //! most.
 //!
-//! Invariant: each place is one of the list, and the silences up to the first whose place lacked
+//! Invariant: each index is one of the list, and the silences up to the first whose index lacked
 //! memory are under what they need. Each alert walks the silences behind it, and the next one that
 //! is set takes them in again.
 ghost use Rattle.std.specs.Prelude.{◌≡◌, ◌⊎◌, ◌<◌, ◌≤◌, ℕ, [], false, true, ⊤, All, List, find, length, option_copied, set};
 ghost use Rattle.std.specs.Prelude.{IfOk, IsOk, IsTrue, OnOk};
 ghost use Rattle.am_mute.specs.Silence.{SilenceData, is_silenced};
-ghost use Rattle.am_mute.specs.SilenceIndex.{ArePlaced, AreUnmuted, HasPlace, IsFirst, IsIndexed, IsOneOf};
-ghost use Rattle.am_mute.specs.SilenceIndex.{asks_label, key_of, label_hash, places_at};
+ghost use Rattle.am_mute.specs.SilenceIndex.{ArePlaced, AreUnmuted, HasIndex, IsFirst, IsIndexed, IsOneOf};
+ghost use Rattle.am_mute.specs.SilenceIndex.{requires_label, key_of, label_hash, indexes_at};
 ghost use Rattle.am_mute.specs.Matching.{silences_compare_texts};
 
 use crate::silence::Silence;
@@ -28,16 +28,16 @@ use std::hash::{BuildHasher, Hash, Hasher};
 /// What silences are found by that ask for no label.
 const NO_LABEL: u64 = 0;
 
-/// The places of silences in a list, by what they are found by: the hash of a label that each label
-/// set has which they mute. A place may stand under what its silence was found by before.
+/// The indexes of silences in a list, by what they are found by: the hash of a label that each label
+/// set has which they mute. An index may be under what its silence was found by before.
 ///
-/// This only saves time: silences whose places aren't here are looked at in turn.
+/// This only saves time: silences whose indexes aren't here are looked at in turn.
 #[derive(Debug, Drop)]
 pub(crate) struct SilenceIndex {
-    places: HashMap<u64, Vec<usize>>,
+    indexes: HashMap<u64, Vec<usize>>,
     /// What the hashes of labels start from.
     seed: Seed,
-    /// How many silences, from the first on, have their places here.
+    /// How many silences, from the first on, have their indexes here.
     indexed: usize,
 }
 
@@ -47,7 +47,7 @@ impl SilenceIndex {
         ensures { (silences : List SilenceData) → IsIndexed silences result }
     {
         SilenceIndex {
-            places: HashMap::new(alloc),
+            indexes: HashMap::new(alloc),
             seed,
             indexed: 0,
         }
@@ -60,7 +60,7 @@ impl SilenceIndex {
         self.seed
     }
 
-    /// Takes the places of these silences in, as far as there is memory for it.
+    /// Takes the indexes of these silences in, as far as there is memory for it.
     pub(crate) fn extend(&mut self, alloc: Global, silences: &[Silence])
         requires { IsIndexed silences.now self.old }
         ensures { IsIndexed silences.now self.new }
@@ -74,44 +74,44 @@ impl SilenceIndex {
         }
     }
 
-    /// A silence is to stand at this place, where another stands.
-    pub(crate) fn change(&mut self, alloc: Global, place: usize, silence: &Silence)
-        ensures { (silences : List SilenceData) → place < length silences → IsIndexed silences self.old
-            → IsIndexed (set silences place silence.now) self.new }
+    /// A silence is to be at this index, where another is.
+    pub(crate) fn change(&mut self, alloc: Global, index: usize, silence: &Silence)
+        ensures { (silences : List SilenceData) → index < length silences → IsIndexed silences self.old
+            → IsIndexed (set silences index silence.now) self.new }
     {
         let key = key_of(self.seed, silence.matchers());
-        if self.put(alloc, key, place).is_err() {
-            self.indexed = self.indexed.min(place);
+        if self.put(alloc, key, index).is_err() {
+            self.indexed = self.indexed.min(index);
         }
     }
 
-    /// Puts a place under what its silence is found by.
-    fn put(&mut self, alloc: Global, key: u64, place: usize) -> Result<(), AllocError>
+    /// Puts an index under what its silence is found by.
+    fn put(&mut self, alloc: Global, key: u64, index: usize) -> Result<(), AllocError>
         ensures indexed { self.new.indexed ≡ self.old.indexed }
         ensures seed { self.new.seed ≡ self.old.seed }
-        ensures has { OnOk result (HasPlace self.new key place) }
-        ensures keeps { (k p : ℕ) → HasPlace self.old k p → HasPlace self.new k p }
-        ensures only { (k p : ℕ) → HasPlace self.new k p → (p ≡ place) ⊎ HasPlace self.old k p }
+        ensures has { OnOk result (HasIndex self.new key index) }
+        ensures keeps { (k p : ℕ) → HasIndex self.old k p → HasIndex self.new k p }
+        ensures only { (k p : ℕ) → HasIndex self.new k p → (p ≡ index) ⊎ HasIndex self.old k p }
     {
-        if self.at(key).contains(&place) {
+        if self.at(key).contains(&index) {
             return Ok(());
         }
-        match self.places.get_mut(&key) {
-            Some(places) => places.push(place)?,
+        match self.indexes.get_mut(&key) {
+            Some(indexes) => indexes.push(index)?,
             None => {
-                let places = vec![in alloc; place]?;
-                self.places.insert(key, places)?;
+                let indexes = vec![in alloc; index]?;
+                self.indexes.insert(key, indexes)?;
             }
         }
         Ok(())
     }
 
-    /// The places of the silences that are found by this.
+    /// The indexes of the silences that are found by this.
     fn at(&self, key: u64) -> &[usize]
-        ensures { result.now ≡ places_at self.now key }
+        ensures { result.now ≡ indexes_at self.now key }
     {
-        match self.places.get(&key) {
-            Some(places) => places.as_slice(),
+        match self.indexes.get(&key) {
+            Some(indexes) => indexes.as_slice(),
             None => &[],
         }
     }
@@ -144,7 +144,7 @@ impl SilenceIndex {
         is_silenced(alloc, &silences[self.indexed..], labels, t)
     }
 
-    /// The place of the first of these silences that mutes a label set at `t`; their number, if none
+    /// The index of the first of these silences that mutes a label set at `t`; their number, if none
     /// does.
     pub(crate) fn first(
         &self,
@@ -166,7 +166,7 @@ impl SilenceIndex {
         first_from(alloc, silences, self.indexed, labels, t, first)
     }
 
-    /// The first place before a bound whose silence is found by this and mutes a label set at `t`; the
+    /// The first index before a bound whose silence is found by this and mutes a label set at `t`; the
     /// bound, if there is none.
     fn first_by(
         &self,
@@ -178,7 +178,7 @@ impl SilenceIndex {
         bound: usize,
     ) -> Result<usize, AllocError>
         requires { ArePlaced silences.now self.now }
-        ensures { IfOk result (λ first. IsFirst (HasPlace self.now key) labels.now t silences.now bound first) }
+        ensures { IfOk result (λ first. IsFirst (HasIndex self.now key) labels.now t silences.now bound first) }
     {
         first_at(alloc, self.at(key), silences, labels, t, bound)
     }
@@ -194,28 +194,28 @@ impl SilenceIndex {
     ) -> Result<bool, AllocError>
         requires { ArePlaced silences.now self.now }
         ensures some { IfOk result (λ silenced. silenced ≡ true → is_silenced labels.now t silences.now ≡ true) }
-        ensures none { IfOk result (λ silenced. silenced ≡ false → AreUnmuted (HasPlace self.now key) labels.now t silences.now) }
+        ensures none { IfOk result (λ silenced. silenced ≡ false → AreUnmuted (HasIndex self.now key) labels.now t silences.now) }
         ensures answers { IsTrue (silences_compare_texts silences.now) → IsOk result }
     {
         is_silenced_at(alloc, self.at(key), silences, labels, t)
     }
 }
 
-/// Whether one of the silences at these places mutes a label set at `t`.
+/// Whether one of the silences at these indexes mutes a label set at `t`.
 fn is_silenced_at(
     alloc: Global,
-    places: &[usize],
+    indexes: &[usize],
     silences: &[Silence],
     labels: &Labels,
     t: u64,
 ) -> Result<bool, AllocError>
-    requires { All (λ p. p < length silences.now) places.now }
+    requires { All (λ p. p < length silences.now) indexes.now }
     ensures some { IfOk result (λ silenced. silenced ≡ true → is_silenced labels.now t silences.now ≡ true) }
-    ensures none { IfOk result (λ silenced. silenced ≡ false → AreUnmuted (IsOneOf places.now) labels.now t silences.now) }
+    ensures none { IfOk result (λ silenced. silenced ≡ false → AreUnmuted (IsOneOf indexes.now) labels.now t silences.now) }
     ensures answers { IsTrue (silences_compare_texts silences.now) → IsOk result }
 {
-    for place in places {
-        if silences[*place].mutes(alloc, labels, t)? {
+    for index in indexes {
+        if silences[*index].mutes(alloc, labels, t)? {
             return Ok(true);
         }
     }
@@ -240,48 +240,48 @@ fn is_silenced(
     Ok(false)
 }
 
-/// The first of these places before a bound whose silence mutes a label set at `t`; the bound, if
+/// The first of these indexes before a bound whose silence mutes a label set at `t`; the bound, if
 /// there is none.
 fn first_at(
     alloc: Global,
-    places: &[usize],
+    indexes: &[usize],
     silences: &[Silence],
     labels: &Labels,
     t: u64,
     bound: usize,
 ) -> Result<usize, AllocError>
-    requires { All (λ p. p < length silences.now) places.now }
-    ensures { IfOk result (λ first. IsFirst (IsOneOf places.now) labels.now t silences.now bound first) }
+    requires { All (λ p. p < length silences.now) indexes.now }
+    ensures { IfOk result (λ first. IsFirst (IsOneOf indexes.now) labels.now t silences.now bound first) }
 {
     let mut first = bound;
-    for place in places {
-        first = earlier(alloc, silences, *place, labels, t, first)?;
+    for index in indexes {
+        first = earlier(alloc, silences, *index, labels, t, first)?;
     }
     Ok(first)
 }
 
-/// A place, if it is before a bound and its silence mutes a label set at `t`; else the bound.
+/// An index, if it is before a bound and its silence mutes a label set at `t`; else the bound.
 fn earlier(
     alloc: Global,
     silences: &[Silence],
-    place: usize,
+    index: usize,
     labels: &Labels,
     t: u64,
     bound: usize,
 ) -> Result<usize, AllocError>
-    requires { place < length silences.now }
-    ensures { IfOk result (λ first. IsFirst (λ i. i ≡ place) labels.now t silences.now bound first) }
+    requires { index < length silences.now }
+    ensures { IfOk result (λ first. IsFirst (λ i. i ≡ index) labels.now t silences.now bound first) }
 {
-    if bound <= place {
+    if bound <= index {
         return Ok(bound);
     }
-    if silences[place].mutes(alloc, labels, t)? {
-        return Ok(place);
+    if silences[index].mutes(alloc, labels, t)? {
+        return Ok(index);
     }
     Ok(bound)
 }
 
-/// The first place from one on, and before a bound, whose silence mutes a label set at `t`; the
+/// The first index from one on, and before a bound, whose silence mutes a label set at `t`; the
 /// bound, if there is none.
 fn first_from(
     alloc: Global,
@@ -294,9 +294,9 @@ fn first_from(
     requires { bound ≤ length silences.now }
     ensures { IfOk result (λ first. IsFirst (λ i. from ≤ i) labels.now t silences.now bound first) }
 {
-    for place in from..bound {
-        if silences[place].mutes(alloc, labels, t)? {
-            return Ok(place);
+    for index in from..bound {
+        if silences[index].mutes(alloc, labels, t)? {
+            return Ok(index);
         }
     }
     Ok(bound)
@@ -317,14 +317,14 @@ fn key_of(seed: Seed, matchers: &[Matcher]) -> u64
 
 /// The first of these matchers that asks for a label.
 fn first_asking(matchers: &[Matcher]) -> Option<&Matcher>
-    ensures { option_copied result ≡ find asks_label matchers.now }
+    ensures { option_copied result ≡ find requires_label matchers.now }
 {
-    matchers.iter().find(|matcher| asks_label(matcher))
+    matchers.iter().find(|matcher| requires_label(matcher))
 }
 
 /// Whether each label set that a matcher matches has the label of its name and value.
-fn asks_label(matcher: &Matcher) -> bool
-    ensures { result ≡ asks_label matcher.now }
+fn requires_label(matcher: &Matcher) -> bool
+    ensures { result ≡ requires_label matcher.now }
 {
     let parts = matcher.parts();
     parts.op == Operator::Equal && !parts.value.as_str().is_empty()

@@ -2,7 +2,7 @@
 //! capacity.
 //!
 //! Cost of `add` and `replace`: one look-up. `is_silenced` stops at the first silence that it finds.
-//! `silence_for` names the first of the list: it compares the places of all that it finds, and
+//! `silence_for` names the first of the list: it compares the indexes of all that it finds, and
 //! tests those before the best so far.
 ghost use Rattle.std.specs.Prelude.{◌≡◌, ◌<◌, ◌≤◌, ◌++◌, ◌==◌, [], ◌∷◌, length, set, is_some, option_copied, IfOk, IfSome, IsOk, IsTrue};
 ghost use Rattle.std.specs.Prelude.{OnOk, count_by, filter, not};
@@ -63,10 +63,10 @@ impl Silences {
         self.silences.as_slice()
     }
 
-    /// The place of the first silence of this id.
+    /// The index of the first silence of this id.
     pub fn find(&self, id: u64) -> Option<usize>
-        ensures place { result ≡ position (λ s. id == s.id) self.now.items }
-        ensures within { IfSome result (λ place. place < length self.now.items) }
+        ensures index { result ≡ position (λ s. id == s.id) self.now.items }
+        ensures within { IfSome result (λ index. index < length self.now.items) }
     {
         self.silences.iter().position(|silence| id == silence.id())
     }
@@ -89,12 +89,12 @@ impl Silences {
     }
 
     /// Puts a silence in place of another.
-    pub fn replace(&mut self, alloc: Global, place: usize, silence: Silence)
-        requires within { place < length self.old.items }
-        ensures items { self.new.items ≡ set self.old.items place silence }
+    pub fn replace(&mut self, alloc: Global, index: usize, silence: Silence)
+        requires within { index < length self.old.items }
+        ensures items { self.new.items ≡ set self.old.items index silence }
     {
-        self.index.change(alloc, place, &silence);
-        self.silences[place] = silence;
+        self.index.change(alloc, index, &silence);
+        self.silences[index] = silence;
         self.index.extend(alloc, self.silences.as_slice());
     }
 

@@ -2,7 +2,7 @@
 //! `Sources`.
 //!
 //! A key has a rule, a hash of the alert's values under the rule's names of `equal`, and the
-//! alert's place. A target looks up the keys of its own hash and tests each alert of these as a
+//! alert's index. A target looks up the keys of its own hash and tests each alert of these as a
 //! walk over all would. Label sets that agree in `equal` have one hash, which is all that is needed
 //! of it. Whoever writes the labels and knows the seed can make them collide: then a look-up walks
 //! those that collide, and no more than all.
@@ -16,7 +16,7 @@
 //! by one rule after the other, of all alerts that are new to it: so what searches for a rule's
 //! pattern is made once a call, however many these are. Where memory is refused, all of them are
 //! left to a later call, and each target walks them. Keys that were put in before do no harm: a
-//! look-up ends before the places that weren't learnt, and the later call puts them in again.
+//! look-up ends before the indexes that weren't learnt, and the later call puts them in again.
 //! Invariant: each of the first alerts that a rule's source matches has its keys.
 ghost use Rattle.std.specs.Prelude.{◌≡◌, ◌≤◌, true, List, cond, length, find, is_some, option_copied, IfOk, IsOk, IsTrue, OnErr, OnOk};
 ghost use Rattle.am_alerts.specs.AlertData.{AlertData};
@@ -35,15 +35,15 @@ use std::collections::BTreeSet;
 use std::marker::Model;
 
 /// That the source matchers of a rule match an alert. Keys are ordered by rule, then by hash, then by
-/// place.
+/// index.
 #[derive(Clone, Copy, Debug, Drop, PartialEq, Eq, PartialOrd, Ord)]
 pub struct SourceKey {
-    /// The place of the rule in the list.
+    /// The index of the rule in the list.
     rule: usize,
     /// The hash of the alert's values under the names of `equal`.
     hash: u64,
-    /// The place of the alert in the list.
-    place: usize,
+    /// The index of the alert in the list.
+    index: usize,
 }
 
 /// The first so many known alerts, as far as they may be sources of rules, found by their values under
@@ -132,7 +132,7 @@ impl Sources {
         Ok(())
     }
 
-    /// Puts in the keys, by the rule at a place, of those known alerts that weren't learnt yet.
+    /// Puts in the keys, by the rule at an index, of those known alerts that weren't learnt yet.
     fn learn_by(
         &mut self,
         alloc: Global,
@@ -146,14 +146,14 @@ impl Sources {
     {
         let mut source = Searchers::new(alloc, rule.source());
         let mut target = Searchers::new(alloc, rule.target());
-        for place in self.learnt..known.len() {
-            let labels = known[place].labels();
+        for index in self.learnt..known.len() {
+            let labels = known[index].labels();
             if source.all_match(alloc, labels)? {
                 let is_one_sided = !target.all_match(alloc, labels)?;
                 let key = SourceKey {
                     rule: number,
                     hash: values_hash(self.seed, rule.equal(), labels),
-                    place,
+                    index,
                 };
                 self.put(key, is_one_sided)?;
             }
@@ -161,7 +161,7 @@ impl Sources {
         Ok(())
     }
 
-    /// Puts in the key of a source, and tells whether the target matchers don't match it.
+    /// Puts in the key of a source, and says whether the target matchers don't match it.
     fn put(&mut self, key: SourceKey, is_one_sided: bool) -> Result<(), AllocError>
         ensures grows { Grows self.old self.new }
         ensures all { OnOk result (HasKey self.new.all key) }
@@ -174,7 +174,7 @@ impl Sources {
         Ok(())
     }
 
-    /// The first of these known alerts on account of which a rule, at this place of the list, mutes a
+    /// The first of these known alerts on account of which a rule, at this index of the list, mutes a
     /// label set at `t`.
     pub(crate) fn source_for<'k>(
         &self,
@@ -221,7 +221,7 @@ impl Sources {
     }
 }
 
-/// The first of these alerts that is a source for a target of the rule at a place, by keys that each
+/// The first of these alerts that is a source for a target of the rule at an index, by keys that each
 /// such source has, with hashes from a seed.
 fn first_among<'k>(
     alloc: Global,
@@ -242,15 +242,15 @@ fn first_among<'k>(
     let first = SourceKey {
         rule: number,
         hash,
-        place: 0,
+        index: 0,
     };
     let last = SourceKey {
         rule: number,
         hash,
-        place: alerts.len(),
+        index: alerts.len(),
     };
     for key in keys.range(first..last) {
-        let alert = &alerts[key.place];
+        let alert = &alerts[key.index];
         if target.is_inhibited_by(alloc, alert)? {
             return Ok(Some(alert));
         }

@@ -14,7 +14,7 @@ use std::alloc::{AllocError, Global};
 use std::hash::{BuildHasher, Hash, Hasher};
 use std::marker::Model;
 
-/// A label set that the target matchers of a rule match, at a moment.
+/// A label set that the target matchers of a rule match, at a time.
 #[derive(Drop)]
 pub(crate) struct Target<'r> {
     rule: &'r InhibitRule,

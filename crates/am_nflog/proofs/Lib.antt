@@ -4,5 +4,5 @@ pub mod CallerLemmas
 pub mod Numbering
 -- one step of the search for the members of one ascending list in another
 mod Subsets
--- a collection that has come as far as a place of the log
+-- a collection that has come as far as an index of the log
 mod Sweeps

@@ -91,9 +91,9 @@ pub opened : {N : Type 0} {eq : N → N → Bool} {cmp : N → N → Ordering} {
     → IsLeft eq cmp some all missing (drop i all) → missing ≡ first ∷ rest → next ≡ get_or all i next → i < length all
     → IsLeft eq cmp some all (first ∷ rest) (next ∷ drop (i + 1) all)
 opened {N} {eq} {cmp} {some} all missing rest i first next here parts at within =
-    let goes_on : drop i all ≡ next ∷ drop (i + 1) all
+    let continues : drop i all ≡ next ∷ drop (i + 1) all
     = drop-cons all i next within ∙ ap (λ x. x ∷ drop (suc i) all) (sym at) ∙ ap (λ n. next ∷ drop n all) (sym (add-one i)) in
-    subst (λ left. IsLeft eq cmp some all (first ∷ rest) left) goes_on (subst (λ xs. IsLeft eq cmp some all xs (drop i all)) parts here)
+    subst (λ left. IsLeft eq cmp some all (first ∷ rest) left) continues (subst (λ xs. IsLeft eq cmp some all xs (drop i all)) parts here)
 
 -- where nothing is left to look through, all was found exactly if nothing is missing
 pub IsLeft-end : {N : Type 0} {eq : N → N → Bool} {cmp : N → N → Ordering} {some : List N} (all missing : List N) (i : ℕ)

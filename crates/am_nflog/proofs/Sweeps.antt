@@ -1,4 +1,4 @@
--- A collection that has come as far as a place of the log.
+-- A collection that has come as far as an index of the log.
 use Rattle.std.proofs.Common.{◌≡◌, ℕ, suc, zero, ◌+◌, ◌≤◌, arith, Bool, true, false, cond, [], ◌∷◌, length, slice_get, Option, None, Some, unwrap_or, refl, sym, ap, subst, add-one, add-zero, ◌∙◌, if◌then◌else◌}
 use Rattle.std.proofs.lemmas.List.Sums.{sum_by-cons}
 use Rattle.std.specs.Map.{values_of}
@@ -12,7 +12,7 @@ at_most_one true = omega arith
 at_most_one false = omega arith
 
 module _ {G N : Type 0} (t : ℕ) where
-  -- the log after its first i places were collected
+  -- the log after its first i indexes were collected
   abbrev pub swept : ℕ → Slots G N → Slots G N
   swept i [] = []
   swept zero (s ∷ ss) = s ∷ ss
@@ -54,7 +54,7 @@ module _ {G N : Type 0} (t : ℕ) where
       let one : cond (is_expired t s.1) 1 0 ≤ 1 = at_most_one (is_expired t s.1) in
       omega arith
 
-  -- what the row at the next place decides
+  -- what the row at the next index decides
   module _ (row : Option (LogRow N)) where
     -- it goes
     pub swept-goes : (i : ℕ) (log : Slots G N) → slice_get (values_of (swept i log)) i ≡ Some row → is_expired t row ≡ true
@@ -89,7 +89,7 @@ module _ {G N : Type 0} (t : ℕ) where
         let rest : swept_count i ss + cond b 1 0 ≡ swept_count (suc i) ss = swept_count-suc i ss b at is in
         omega arith
 
-  -- the entries and the count after the first i places
+  -- the entries and the count after the first i indexes
   pub record IsSwept (i : ℕ) (log entries : Slots G N) (gone : ℕ) : Type 0 where
     pub rows : entries ≡ swept i log
     pub count : gone ≡ swept_count i log
@@ -112,7 +112,7 @@ module _ {G N : Type 0} (t : ℕ) where
     pub IsSwept-distinct : (eq : G → G → Bool) → HasDistinctKeys eq log → i ≡ length log → HasDistinctKeys eq entries
     IsSwept-distinct eq h e = subst (HasDistinctKeys eq) (sym (IsSwept-end e).0) (HasDistinctKeys-collected eq log t h)
 
-    -- one place further
+    -- one index further
     module _ (row : Option (LogRow N)) (at : slice_get (values_of entries) i ≡ Some row) (left : Slots G N) (n : ℕ) where
       there : slice_get (values_of (swept i log)) i ≡ Some row
       there = subst (λ es. slice_get (values_of es) i ≡ Some row) done.rows at

@@ -15,10 +15,10 @@ Slots G N = List (LogKey G × Option (LogRow N))
 abbrev pub key_eq : {G : Type 0} → (G → G → Bool) → LogKey G → LogKey G → Bool
 key_eq eq a b = eq a.group b.group && nat_eq a.integration b.integration
 
--- a row is of a later moment than a key's own, if the key has one
+-- a row is of a later time than a key's own, if the key has one
 abbrev pub is_later : {N : Type 0} → LogRow N → Option (LogRow N) → Bool
 is_later row None = true
-is_later row (Some own) = nat_lt own.moment row.moment
+is_later row (Some own) = nat_lt own.time row.time
 
 module _ {G N : Type 0} (eq : G → G → Bool) where
   -- the key is known
@@ -41,7 +41,7 @@ module _ {G N : Type 0} (eq : G → G → Bool) where
   abbrev pub with_row : Slots G N → LogKey G → LogRow N → Slots G N
   with_row log key row = set_value (key_eq eq key) log (Some row)
 
-  -- the log with this row at the key, known or not, unless the key's own row is of the same moment or a later one (Alertmanager's merge,
+  -- the log with this row at the key, known or not, unless the key's own row is of the same time or a later one (Alertmanager's merge,
   -- past its check of the expiry)
   abbrev pub merged : Slots G N → LogKey G → LogRow N → Slots G N
   merged log key row = if is_later row (row_of log key) then with_row (with_key log key) key row else log

@@ -1,4 +1,4 @@
--- Lists of members that stand for sets.
+-- Lists of members that represent sets.
 use Rattle.std.specs.Prelude.{◌≡◌, Bool, true, false, ◌&&◌, List, [], ◌∷◌}
 use Rattle.std.specs.List.{list_all, list_any}
 use Rattle.std.specs.Ordering.{is_lt}

@@ -39,8 +39,8 @@ update_reason eq (Some row) firing resolved send_resolved repeat t =
     -- resolved alerts are sent, and one is resolved that the row doesn't have as resolved
     else if send_resolved && not (is_subset eq resolved row.resolved) then NewlyResolved
     -- the row is older than the repeat interval
-    else if nat_lt (row.moment + repeat) t then Repeat
-    else NotYet row.moment
+    else if nat_lt (row.time + repeat) t then Repeat
+    else NotYet row.time
 
 -- an update is needed: there is a reason for it
 abbrev pub needed : {N : Type 0} → (N → N → Bool) → Option (LogRow N) → List N → List N → Bool → ℕ → ℕ → Bool
@@ -61,13 +61,13 @@ module _ {M N : Type 0} (same : M → M → Bool) (equal : N → N → Bool) whe
   abbrev pub AreNumbersOf : (M → N) → List M → List N → Type 0
   AreNumbersOf number xs ys = AreSameSet equal ys (map number xs)
 
-  -- no row for none, and else a row of the same moment with the numbers of the members
+  -- no row for none, and else a row of the same time with the numbers of the members
   abbrev pub IsNumberedRow : (M → N) → Option (LogRow M) → Option (LogRow N) → Type 0
   IsNumberedRow number None None = Unit {0}
   IsNumberedRow number None (Some numbered) = ⊥
   IsNumberedRow number (Some row) None = ⊥
   IsNumberedRow number (Some row) (Some numbered) =
-      (numbered.moment ≡ row.moment) × AreNumbersOf number row.firing numbered.firing × AreNumbersOf number row.resolved numbered.resolved
+      (numbered.time ≡ row.time) × AreNumbersOf number row.firing numbered.firing × AreNumbersOf number row.resolved numbered.resolved
 
   -- Under a one-to-one numbering of the members an update is needed at the numbers exactly where it is at the members.
   abbrev pub NumberingKeepsNeeded : Type 0

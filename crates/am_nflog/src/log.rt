@@ -1,7 +1,7 @@
 //! `NfLog`: the table of rows by group and integration. `am_board` keeps one.
 //!
 //! A known key stays known, also when its row was collected, so a row that is put again keeps its
-//! place. `forget` alone drops keys. Invariant: the keys differ. `get`, `put` and `reserve` cost one
+//! index. `forget` alone drops keys. Invariant: the keys differ. `get`, `put` and `reserve` cost one
 //! look-up by hash, and `merge` two.
 //! `NfLog::new` can't fail today; it returns a `Result` as all that is made on an allocator does.
 //! Hashes start from a seed (`am_seed`), on which no row depends.
@@ -76,7 +76,7 @@ impl<G: Eq + Hash, N: Ord> NfLog<G, N> {
         self.slots.get(key)?.as_ref()
     }
 
-    /// The known key at place `i`, with its row. Keys stand in the order in which they came.
+    /// The known key at index `i`, with its row. Keys are in the order in which they came.
     pub fn row(&self, i: usize) -> (&LogKey<G>, Option<&LogRow<N>>)
         requires { i < length self.now }
         ensures { slice_get self.now i ≡ Some (result.0.now, option_copied result.1) }
@@ -113,7 +113,7 @@ impl<G: Eq + Hash + Drop, N: Ord + Drop> NfLog<G, N> {
         *slot = Some(row);
     }
 
-    /// Puts a row at a key, known or not, unless the key has a row of the same moment or a later one. Answers whether it did.
+    /// Puts a row at a key, known or not, unless the key has a row of the same time or a later one. Answers whether it did.
     ///
     /// It is how Alertmanager's log takes a row of another log (`nflog.Log.Merge`), past its check of the expiry. It takes memory only
     /// for a new key. On an error the log is as it was.
@@ -162,12 +162,12 @@ impl<G: Eq + Hash + Drop, N: Ord + Drop> NfLog<G, N> {
     }
 }
 
-// Whether a row is of a later moment than a key's own, if the key has one.
+// Whether a row is of a later time than a key's own, if the key has one.
 fn is_later<N: Ord>(row: &LogRow<N>, own: Option<&LogRow<N>>) -> bool
     ensures { result ≡ is_later row.now (option_copied own.entry) }
 {
     match own {
-        Some(own) => own.moment < row.moment,
+        Some(own) => own.time < row.time,
         None => true,
     }
 }

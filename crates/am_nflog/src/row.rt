@@ -2,15 +2,15 @@
 
 use crate::members::Members;
 
-/// What an integration was last told of a group, and when. Each success puts such a row in place of the one before.
+/// What an integration was last notified of a group, and when. Each success puts such a row in place of the one before.
 #[derive(Debug, Drop)]
 pub struct LogRow<N: Ord> {
     /// When the notice succeeded, in milliseconds.
-    pub moment: u64,
+    pub time: u64,
     /// The alerts that fired in it.
     pub firing: Members<N>,
     /// The alerts that were resolved in it.
     pub resolved: Members<N>,
-    /// From this moment on a collection removes the row, in milliseconds.
+    /// From this time on a collection removes the row, in milliseconds.
     pub expiry: u64,
 }

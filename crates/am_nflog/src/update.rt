@@ -24,7 +24,7 @@ pub enum UpdateReason {
     Repeat,
     /// No update is needed: no alert fires, and no row has any as firing.
     NothingFiring,
-    /// No update is needed: nothing is new, and the row, of this moment, isn't older than the repeat interval.
+    /// No update is needed: nothing is new, and the row, of this time, isn't older than the repeat interval.
     NotYet { since: u64 },
 }
 
@@ -47,11 +47,11 @@ impl UpdateReason {
 /// Why an integration needs an update or why not, given the row that was logged for it, the alerts that fire now and those that
 /// are resolved now, both strictly ascending.
 ///
-/// `repeat` is the route's repeat interval and `t` the moment of the call, in milliseconds. It is the first case that applies, as
+/// `repeat` is the route's repeat interval and `t` the time of the call, in milliseconds. It is the first case that applies, as
 /// `needsUpdate` of Alertmanager's DedupStage has them: without a row `NothingFiring` or `FirstNotice`, and else `NewAlert`,
 /// `NothingFiring`, `AllResolved`, `NewlyResolved`, `Repeat` or `NotYet`.
 ///
-/// A sum of moment and interval above `u64::MAX` is later than every `t`.
+/// A sum of time and interval above `u64::MAX` is later than every `t`.
 pub fn update_reason<N: Ord, F: Lends<N>>(
     logged: Option<&LogRow<N>>,
     firing: &[F],
@@ -77,9 +77,9 @@ pub fn update_reason<N: Ord, F: Lends<N>>(
     if send_resolved && !is_subset(resolved, row.resolved.as_slice()) {
         return UpdateReason::NewlyResolved;
     }
-    match row.moment.checked_add(repeat) {
+    match row.time.checked_add(repeat) {
         Some(due) if due < t => UpdateReason::Repeat,
-        _ => UpdateReason::NotYet { since: row.moment },
+        _ => UpdateReason::NotYet { since: row.time },
     }
 }
 

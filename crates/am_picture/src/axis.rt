@@ -1,7 +1,7 @@
-//! `Axis`: the place of each time, and the round times along it. The modules that draw call it.
+//! `Axis`: the offset of each time, and the round times along it. The modules that draw call it.
 ghost use Rattle.std.specs.Prelude.{◌≤◌, ◌^◌};
 
-use crate::pen::{LEFT, WIDTH, push_place};
+use crate::pen::{LEFT, WIDTH, push_offset};
 use crate::scene::Scene;
 use crate::ticks::Ticks;
 use am_model::record::Call;
@@ -37,12 +37,12 @@ impl Axis {
         self.end
     }
 
-    /// Returns the place of a time, in tenths of a pixel. A time after the end has the place of the end.
-    pub(crate) fn place(&self, at: u64) -> u64 {
+    /// Returns the offset of a time, in tenths of a pixel. A time after the end has the offset of the end.
+    pub(crate) fn offset(&self, at: u64) -> u64 {
         LEFT + self.tenths(at)
     }
 
-    /// Returns how far the place of a time is from that of the start, in tenths of a pixel, at most `WIDTH`.
+    /// Returns how far the offset of a time is from that of the start, in tenths of a pixel, at most `WIDTH`.
     pub(crate) fn tenths(&self, at: u64) -> u64
         ensures { result ≤ 9600 }
     {
@@ -110,15 +110,15 @@ fn push_grid(axis: &Axis, ticks: &Ticks, out: &mut String) -> Result<(), AllocEr
     out.push_str("<svg xmlns=\"http://www.w3.org/2000/svg\" class=\"grid\" width=\"1290\">")?;
     for position in 0..ticks.count() {
         if let Some(at) = ticks.at(position) {
-            push_line(axis.place(at), out)?;
+            push_line(axis.offset(at), out)?;
         }
     }
     out.push_str("</svg>\n")
 }
 
-fn push_line(place: u64, out: &mut String) -> Result<(), AllocError> {
-    push_place("<line y2=\"100%\" x1=\"", place, out)?;
-    push_place("\" x2=\"", place, out)?;
+fn push_line(offset: u64, out: &mut String) -> Result<(), AllocError> {
+    push_offset("<line y2=\"100%\" x1=\"", offset, out)?;
+    push_offset("\" x2=\"", offset, out)?;
     out.push_str("\"/>")
 }
 
@@ -155,22 +155,22 @@ fn push_time<C: TimeFormat>(
     is_first: bool,
     out: &mut String,
 ) -> Result<(), AllocError> {
-    let text = moment_text(alloc, clock, at)?;
+    let text = time_text(alloc, clock, at)?;
     let (date, time) = parts_of(text.as_str());
-    let place = axis.place(at);
-    push_at(place, "14", without_seconds(calendar, step, time), out)?;
+    let offset = axis.offset(at);
+    push_at(offset, "14", without_seconds(calendar, step, time), out)?;
     if calendar.is_dated && (is_first || is_new_day(calendar, step, at)) {
-        return push_at(place, "29", date, out);
+        return push_at(offset, "29", date, out);
     }
     if !calendar.is_dated && at % DAY == 0 && at > 0 {
-        return push_days(place, at / DAY, out);
+        return push_days(offset, at / DAY, out);
     }
     Ok(())
 }
 
-/// Adds a text that is centered at a place.
-fn push_at(place: u64, bottom: &str, text: &str, out: &mut String) -> Result<(), AllocError> {
-    push_place("<text x=\"", place, out)?;
+/// Adds a text that is centered at a offset.
+fn push_at(offset: u64, bottom: &str, text: &str, out: &mut String) -> Result<(), AllocError> {
+    push_offset("<text x=\"", offset, out)?;
     out.push_str("\" y=\"")?;
     out.push_str(bottom)?;
     out.push_str("\">")?;
@@ -179,8 +179,8 @@ fn push_at(place: u64, bottom: &str, text: &str, out: &mut String) -> Result<(),
 }
 
 /// Adds a number of days.
-fn push_days(place: u64, days: u64, out: &mut String) -> Result<(), AllocError> {
-    push_place("<text y=\"29\" x=\"", place, out)?;
+fn push_days(offset: u64, days: u64, out: &mut String) -> Result<(), AllocError> {
+    push_offset("<text y=\"29\" x=\"", offset, out)?;
     write!(out, "\">{days} d</text>")
 }
 
@@ -198,9 +198,9 @@ fn without_seconds(calendar: Calendar, step: u64, time: &str) -> &str {
     time
 }
 
-fn moment_text<C: TimeFormat>(alloc: Global, clock: &C, at: u64) -> Result<String, AllocError> {
+fn time_text<C: TimeFormat>(alloc: Global, clock: &C, at: u64) -> Result<String, AllocError> {
     let mut text = String::new(alloc);
-    clock.push_moment(at, &mut text)?;
+    clock.push_time(at, &mut text)?;
     Ok(text)
 }
 
@@ -214,7 +214,7 @@ fn parts_of(text: &str) -> (&str, &str) {
 
 /// How a clock shows times, by what it shows for the start.
 fn calendar_of<C: TimeFormat>(alloc: Global, clock: &C) -> Result<Calendar, AllocError> {
-    let text = moment_text(alloc, clock, 0)?;
+    let text = time_text(alloc, clock, 0)?;
     let (date, time) = parts_of(text.as_str());
     let is_dated = !date.is_empty();
     let behind = if is_dated { milliseconds_of(time) } else { 0 };

@@ -30,8 +30,8 @@ pub(crate) fn push_rows<C: TimeFormat>(
     lane: &Lane,
     out: &mut String,
 ) -> Result<(), AllocError> {
-    for (place, row) in lane.rows.as_slice().iter().enumerate() {
-        let top = below(0, place, ROW);
+    for (index, row) in lane.rows.as_slice().iter().enumerate() {
+        let top = below(0, index, ROW);
         push_row_name(alloc, lane, row, top, out)?;
         push_spans(alloc, axis, clock, row, top, out)?;
         push_muted(alloc, scene, axis, clock, row, top, out)?;
@@ -63,7 +63,7 @@ fn push_spans<C: TimeFormat>(
 ) -> Result<(), AllocError> {
     let mut drawn: u64 = 0;
     for span in row.spans.as_slice() {
-        let to = end_place(axis, span);
+        let to = end_offset(axis, span);
         if to >= drawn.saturating_add(PIXEL) {
             push_span(alloc, axis, clock, row, span, top, out)?;
             drawn = to;
@@ -81,8 +81,15 @@ fn push_span<C: TimeFormat>(
     top: u64,
     out: &mut String,
 ) -> Result<(), AllocError> {
-    let from = axis.place(span.from);
-    push_bar("a", from, end_place(axis, span), below(top, 1, 2), BAR, out)?;
+    let from = axis.offset(span.from);
+    push_bar(
+        "a",
+        from,
+        end_offset(axis, span),
+        below(top, 1, 2),
+        BAR,
+        out,
+    )?;
     let text = span_text(alloc, clock, row, span)?;
     push_hint(text.as_str(), out)?;
     out.push_str("</rect>")
@@ -97,7 +104,7 @@ fn span_text<C: TimeFormat>(
 ) -> Result<String, AllocError> {
     let mut text = String::new(alloc);
     text.push_str("fires from ")?;
-    clock.push_moment(span.from, &mut text)?;
+    clock.push_time(span.from, &mut text)?;
     push_end(clock, span.to, &mut text)?;
     row.labels.push_text(&mut text)?;
     Ok(text)
@@ -108,15 +115,15 @@ fn push_end<C: TimeFormat>(clock: &C, to: Option<u64>, out: &mut String) -> Resu
         return out.push_str(", and isn't resolved\n");
     };
     out.push_str(" to ")?;
-    clock.push_moment(to, out)?;
+    clock.push_time(to, out)?;
     out.push_str("\n")
 }
 
 /// Where a span ends, in tenths of a pixel: behind the end of the axis where it hasn't ended.
-fn end_place(axis: &Axis, span: &Span) -> u64 {
+fn end_offset(axis: &Axis, span: &Span) -> u64 {
     match span.to {
         None => LEFT + WIDTH + BEHIND,
-        Some(to) => axis.place(to),
+        Some(to) => axis.offset(to),
     }
 }
 
@@ -130,11 +137,11 @@ fn push_muted<C: TimeFormat>(
     top: u64,
     out: &mut String,
 ) -> Result<(), AllocError> {
-    let last = last_place(axis, row);
+    let last = last_offset(axis, row);
     let mut drawn: u64 = 0;
     for span in row.muted.as_slice() {
-        let to = end_place(axis, span).min(last);
-        if to >= drawn.saturating_add(PIXEL) && to > axis.place(span.from) {
+        let to = end_offset(axis, span).min(last);
+        if to >= drawn.saturating_add(PIXEL) && to > axis.offset(span.from) {
             push_hatch(alloc, scene, axis, clock, span, to, top, out)?;
             drawn = to;
         }
@@ -143,10 +150,10 @@ fn push_muted<C: TimeFormat>(
 }
 
 /// Where the last bar of an alert ends.
-fn last_place(axis: &Axis, row: &Row) -> u64 {
+fn last_offset(axis: &Axis, row: &Row) -> u64 {
     match row.spans.as_slice().last() {
         None => 0,
-        Some(span) => end_place(axis, span),
+        Some(span) => end_offset(axis, span),
     }
 }
 
@@ -160,7 +167,7 @@ fn push_hatch<C: TimeFormat>(
     top: u64,
     out: &mut String,
 ) -> Result<(), AllocError> {
-    push_bar("m", axis.place(span.from), to, below(top, 1, 2), BAR, out)?;
+    push_bar("m", axis.offset(span.from), to, below(top, 1, 2), BAR, out)?;
     let text = scene.lines_at(alloc, clock, span.event)?;
     push_hint(text.as_str(), out)?;
     out.push_str("</rect>")

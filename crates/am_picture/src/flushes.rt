@@ -90,8 +90,8 @@ fn push_stroke<C: TimeFormat>(
     top: u64,
     out: &mut String,
 ) -> Result<(), AllocError> {
-    let from = axis.place(stroke.first.at);
-    let to = axis.place(stroke.last.at);
+    let from = axis.offset(stroke.first.at);
+    let to = axis.offset(stroke.last.at);
     push_bar("f", from, to, below(top, 1, 2), 9, out)?;
     let text = if stroke.count == 1 {
         flush_text(alloc, scene, clock, stroke.first)?
@@ -113,13 +113,13 @@ fn flush_text<C: TimeFormat>(
     if !lines.is_empty() {
         return Ok(lines);
     }
-    moment_text(alloc, clock, flush.at)
+    time_text(alloc, clock, flush.at)
 }
 
-fn moment_text<C: TimeFormat>(alloc: Global, clock: &C, at: u64) -> Result<String, AllocError> {
+fn time_text<C: TimeFormat>(alloc: Global, clock: &C, at: u64) -> Result<String, AllocError> {
     let mut text = String::new(alloc);
     text.push_str("flush at ")?;
-    clock.push_moment(at, &mut text)?;
+    clock.push_time(at, &mut text)?;
     Ok(text)
 }
 
@@ -131,8 +131,8 @@ fn stroke_text<C: TimeFormat>(
 ) -> Result<String, AllocError> {
     let count = stroke.count;
     let mut text = format!(in alloc; "{count} flushes from ")?;
-    clock.push_moment(stroke.first.at, &mut text)?;
+    clock.push_time(stroke.first.at, &mut text)?;
     text.push_str(" to ")?;
-    clock.push_moment(stroke.last.at, &mut text)?;
+    clock.push_time(stroke.last.at, &mut text)?;
     Ok(text)
 }

@@ -65,9 +65,9 @@ fn push_totals<C: TimeFormat>(
 
 fn push_times<C: TimeFormat>(axis: &Axis, clock: &C, out: &mut String) -> Result<(), AllocError> {
     out.push_str(", from ")?;
-    clock.push_moment(0, out)?;
+    clock.push_time(0, out)?;
     out.push_str(" to ")?;
-    clock.push_moment(axis.end(), out)?;
+    clock.push_time(axis.end(), out)?;
     out.push_str(". Point at a mark to read about it.</p>\n")
 }
 

@@ -48,7 +48,7 @@ pub(crate) struct Others {
 #[derive(Clone, Copy)]
 pub(crate) struct Flush {
     pub(crate) at: u64,
-    /// The place of its event.
+    /// The index of its event.
     pub(crate) event: usize,
 }
 
@@ -62,7 +62,7 @@ pub(crate) struct Mark {
     pub(crate) since: u64,
     /// When its sending ended.
     pub(crate) at: u64,
-    /// The place of its event.
+    /// The index of its event.
     pub(crate) event: usize,
 }
 
@@ -122,13 +122,13 @@ impl Lane {
         alloc: Global,
         labels: &Labels,
     ) -> Result<Option<usize>, AllocError> {
-        let place = self.rows.len();
-        if place >= MOST_ROWS {
+        let index = self.rows.len();
+        if index >= MOST_ROWS {
             self.others.count = self.others.count.saturating_add(1);
             return Ok(None);
         }
         self.rows.push(Row::new(alloc, labels.copy(alloc)?))?;
-        Ok(Some(place))
+        Ok(Some(index))
     }
 
     /// Adds that an alert fires, or when it was resolved, to its row.
@@ -148,7 +148,7 @@ impl Lane {
         preview: &SharedPreview,
         event: usize,
     ) -> Result<(), AllocError> {
-        let at = preview.moment();
+        let at = preview.time();
         self.flushes.push(Flush { at, event })?;
         let is_route_muted = is_route_muted(preview.reasons());
         for row in self.rows.iter_mut() {

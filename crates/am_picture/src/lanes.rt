@@ -27,13 +27,13 @@ pub(crate) struct Lanes {
     lanes: Vec<Lane>,
     /// The lane of each group.
     by_group: HashMap<GroupName, usize, Seed>,
-    /// The places of each alert.
-    by_alert: HashMap<Labels, Vec<Place>, Seed>,
+    /// The indexes of each alert.
+    by_alert: HashMap<Labels, Vec<RowRef>, Seed>,
 }
 
-/// The place of an alert: a lane, and its row there, if it has one of its own.
+/// The index of an alert: a lane, and its row there, if it has one of its own.
 #[derive(Clone, Copy)]
-struct Place {
+struct RowRef {
     lane: usize,
     row: Option<usize>,
 }
@@ -102,42 +102,42 @@ impl Lanes {
 
     fn insert(&mut self, config: &Config, alert: &Alert) -> Result<(), AllocError> {
         if !self.by_alert.contains_key(alert.labels()) {
-            self.place(config, alert.labels())?;
+            self.locate(config, alert.labels())?;
         }
         match self.by_alert.get(alert.labels()) {
             None => Ok(()),
-            Some(places) => add_spans(&mut self.lanes, places.as_slice(), alert),
+            Some(row_refs) => add_spans(&mut self.lanes, row_refs.as_slice(), alert),
         }
     }
 
-    /// Gives an alert a place in the lane of each of its groups.
-    fn place(&mut self, config: &Config, labels: &Labels) -> Result<(), AllocError> {
-        let places = self.places_for(config, labels)?;
+    /// Gives an alert an index in the lane of each of its groups.
+    fn locate(&mut self, config: &Config, labels: &Labels) -> Result<(), AllocError> {
+        let row_refs = self.rows_for(config, labels)?;
         let labels = labels.copy(self.alloc)?;
-        self.by_alert.insert(labels, places)?;
+        self.by_alert.insert(labels, row_refs)?;
         Ok(())
     }
 
-    fn places_for(&mut self, config: &Config, labels: &Labels) -> Result<Vec<Place>, AllocError> {
+    fn rows_for(&mut self, config: &Config, labels: &Labels) -> Result<Vec<RowRef>, AllocError> {
         let routes = config.routes.of(self.alloc, labels)?;
-        let mut places = Vec::new(self.alloc);
-        self.add_places(config, labels, routes.as_slice(), &mut places)?;
-        Ok(places)
+        let mut row_refs = Vec::new(self.alloc);
+        self.add_rows(config, labels, routes.as_slice(), &mut row_refs)?;
+        Ok(row_refs)
     }
 
-    /// Adds the places of an alert in the groups of these routes.
-    fn add_places(
+    /// Adds the indexes of an alert in the groups of these routes.
+    fn add_rows(
         &mut self,
         config: &Config,
         labels: &Labels,
         routes: &[u32],
-        places: &mut Vec<Place>,
+        row_refs: &mut Vec<RowRef>,
     ) -> Result<(), AllocError> {
         for route in routes {
             if *route <= config.routes.last() {
                 let lane = self.lane_for(config, labels, *route)?;
                 let row = self.row_for(lane, labels)?;
-                places.push(Place { lane, row })?;
+                row_refs.push(RowRef { lane, row })?;
             }
         }
         Ok(())
@@ -161,11 +161,11 @@ impl Lanes {
         if let Some(lane) = self.by_group.get(&group) {
             return Ok(*lane);
         }
-        let place = self.lanes.len();
+        let index = self.lanes.len();
         let name = group.copy(self.alloc)?;
-        self.by_group.insert(name, place)?;
+        self.by_group.insert(name, index)?;
         self.lanes.push(Lane::new(self.alloc, group))?;
-        Ok(place)
+        Ok(index)
     }
 
     fn row_for(&mut self, lane: usize, labels: &Labels) -> Result<Option<usize>, AllocError> {
@@ -178,8 +178,8 @@ impl Lanes {
 
     /// Adds the events of a rehearsal.
     fn add_events<C: TimeFormat>(&mut self, scene: &Scene, clock: &C) -> Result<(), AllocError> {
-        for (place, event) in scene.events.iter().enumerate() {
-            self.add_event(scene, clock, place, event)?;
+        for (index, event) in scene.events.iter().enumerate() {
+            self.add_event(scene, clock, index, event)?;
         }
         Ok(())
     }
@@ -188,27 +188,27 @@ impl Lanes {
         &mut self,
         scene: &Scene,
         clock: &C,
-        place: usize,
+        index: usize,
         event: &Event,
     ) -> Result<(), AllocError> {
         match event {
             Event::Begun { begin } => match scene.begins().get(*begin as usize) {
                 None => Ok(()),
-                Some(begin) => self.add_flush(begin, place),
+                Some(begin) => self.add_flush(begin, index),
             },
             Event::Sent { begin, report } => match scene.begins().get(*begin as usize) {
                 None => Ok(()),
-                Some(begin) => self.add_sent(scene, clock, place, begin, report.get()),
+                Some(begin) => self.add_sent(scene, clock, index, begin, report.get()),
             },
         }
     }
 
-    fn add_flush(&mut self, begin: &PreviewedBegin, place: usize) -> Result<(), AllocError> {
+    fn add_flush(&mut self, begin: &PreviewedBegin, index: usize) -> Result<(), AllocError> {
         let group = begin.preview.group().copy(self.alloc)?;
         let lane = self.lane_of(group)?;
         match self.lanes.get_mut(lane) {
             None => Ok(()),
-            Some(lane) => lane.add_flush(&begin.preview, place),
+            Some(lane) => lane.add_flush(&begin.preview, index),
         }
     }
 
@@ -217,11 +217,11 @@ impl Lanes {
         &mut self,
         scene: &Scene,
         clock: &C,
-        place: usize,
+        index: usize,
         begin: &PreviewedBegin,
         report: &Report,
     ) -> Result<(), AllocError> {
-        let kind = if scene.is_delivered_at(self.alloc, clock, place)? {
+        let kind = if scene.is_delivered_at(self.alloc, clock, index)? {
             kind_of(begin, report.integration)
         } else {
             Kind::Failed
@@ -229,9 +229,9 @@ impl Lanes {
         let mark = Mark {
             kind,
             integration: report.integration,
-            since: begin.preview.moment(),
+            since: begin.preview.time(),
             at: report.ended,
-            event: place,
+            event: index,
         };
         let group = begin.preview.group().copy(self.alloc)?;
         self.add_mark(group, mark)
@@ -253,11 +253,11 @@ fn failures_in(marks: &[Mark]) -> usize {
         .count()
 }
 
-/// Adds that an alert fires, or when it was resolved, at each of its places.
-fn add_spans(lanes: &mut Vec<Lane>, places: &[Place], alert: &Alert) -> Result<(), AllocError> {
-    for place in places {
-        if let Some(lane) = lanes.get_mut(place.lane) {
-            lane.add_span(place.row, alert)?;
+/// Adds that an alert fires, or when it was resolved, at each of its indexes.
+fn add_spans(lanes: &mut Vec<Lane>, row_refs: &[RowRef], alert: &Alert) -> Result<(), AllocError> {
+    for at in row_refs {
+        if let Some(lane) = lanes.get_mut(at.lane) {
+            lane.add_span(at.row, alert)?;
         }
     }
     Ok(())

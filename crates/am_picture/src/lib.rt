@@ -6,7 +6,7 @@
 //! page's own goes through `escape` of `am_timeline`, and texts on events are lines of the timeline. What is drawn
 //! of a group is bounded, except for its notices: each has a mark of its own.
 //!
-//! Times are in milliseconds from the start, places on the page in tenths of a pixel.
+//! Times are in milliseconds from the start, offsets on the page in tenths of a pixel.
 #![tactic(auto)]
 
 mod axis;

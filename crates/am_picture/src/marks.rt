@@ -4,7 +4,7 @@
 use crate::axis::Axis;
 use crate::lane::{Kind, Lane, Mark};
 use crate::names::{push_hint, push_name};
-use crate::pen::{below, push_count, push_field, push_place};
+use crate::pen::{below, push_count, push_field, push_offset};
 use crate::scene::Scene;
 use am_terms::clock::TimeFormat;
 use std::alloc::{AllocError, Global};
@@ -61,8 +61,8 @@ fn push_sendings(
     out: &mut String,
 ) -> Result<(), AllocError> {
     for mark in marks {
-        let from = axis.place(mark.since);
-        let to = axis.place(mark.at);
+        let from = axis.offset(mark.since);
+        let to = axis.offset(mark.at);
         if to > from.saturating_add(20) {
             push_sending(from, to, middle(top, mark.integration as usize), out)?;
         }
@@ -71,9 +71,9 @@ fn push_sendings(
 }
 
 fn push_sending(from: u64, to: u64, middle: u64, out: &mut String) -> Result<(), AllocError> {
-    push_place("<path class=\"s\" d=\"M", from, out)?;
+    push_offset("<path class=\"s\" d=\"M", from, out)?;
     push_count(" ", middle, out)?;
-    push_place("H", to, out)?;
+    push_offset("H", to, out)?;
     out.push_str("\"/>")
 }
 
@@ -92,7 +92,7 @@ fn push_marks<C: TimeFormat>(
         push_shape(
             mark.kind,
             class(mark.kind),
-            axis.place(mark.at),
+            axis.offset(mark.at),
             middle,
             out,
         )?;
@@ -114,16 +114,16 @@ fn push_line<C: TimeFormat>(
     push_hint(line.as_str(), out)
 }
 
-/// Adds the shape of a mark around a place, without its end.
+/// Adds the shape of a mark around a offset, without its end.
 pub(crate) fn push_shape(
     kind: Kind,
     class: &str,
-    place: u64,
+    offset: u64,
     middle: u64,
     out: &mut String,
 ) -> Result<(), AllocError> {
     push_field("<path class=\"", class, out)?;
-    push_place("\" d=\"M", place, out)?;
+    push_offset("\" d=\"M", offset, out)?;
     push_count(" ", middle, out)?;
     push_field(shape(kind), "\">", out)
 }

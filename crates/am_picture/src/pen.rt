@@ -1,10 +1,10 @@
 //! Numbers and shapes, written as SVG. The modules that draw call it.
 use std::alloc::AllocError;
 
-/// How many places there are from the left edge to time 0, in tenths of a pixel.
+/// How many offsets there are from the left edge to time 0, in tenths of a pixel.
 pub(crate) const LEFT: u64 = 2_900;
 
-/// How many places there are from time 0 to the end, in tenths of a pixel.
+/// How many offsets there are from time 0 to the end, in tenths of a pixel.
 pub(crate) const WIDTH: u64 = 9_600;
 
 /// Adds a number.
@@ -22,7 +22,7 @@ pub(crate) fn push_tenths(tenths: u64, out: &mut String) -> Result<(), AllocErro
     push_number(tenths % 10, out)
 }
 
-/// Adds the front of a rectangle of a class, with its place, from one place to another, which is a
+/// Adds the front of a rectangle of a class, with its offset, from one offset to another, which is a
 /// pixel away at least.
 pub(crate) fn push_bar(
     class: &str,
@@ -33,8 +33,8 @@ pub(crate) fn push_bar(
     out: &mut String,
 ) -> Result<(), AllocError> {
     push_field("<rect class=\"", class, out)?;
-    push_place("\" x=\"", from, out)?;
-    push_place("\" width=\"", to.saturating_sub(from).max(10), out)?;
+    push_offset("\" x=\"", from, out)?;
+    push_offset("\" width=\"", to.saturating_sub(from).max(10), out)?;
     push_count("\" y=\"", top, out)?;
     push_count("\" height=\"", height, out)?;
     out.push_str("\">")
@@ -47,7 +47,7 @@ pub(crate) fn push_field(front: &str, word: &str, out: &mut String) -> Result<()
 }
 
 /// Adds a text and then a number of tenths.
-pub(crate) fn push_place(front: &str, tenths: u64, out: &mut String) -> Result<(), AllocError> {
+pub(crate) fn push_offset(front: &str, tenths: u64, out: &mut String) -> Result<(), AllocError> {
     out.push_str(front)?;
     push_tenths(tenths, out)
 }
@@ -58,7 +58,7 @@ pub(crate) fn push_count(front: &str, number: u64, out: &mut String) -> Result<(
     push_number(number, out)
 }
 
-/// Returns the place that is a number of rows below another.
+/// Returns the offset that is a number of rows below another.
 pub(crate) fn below(top: u64, rows: usize, height: u64) -> u64 {
     top.saturating_add((rows as u64).saturating_mul(height))
 }

@@ -35,37 +35,37 @@ impl<'s> Scene<'s> {
         self.log.begins()
     }
 
-    /// Returns the lines of the timeline on the event at a place.
+    /// Returns the lines of the timeline on the event at an index.
     pub(crate) fn lines_at<C: TimeFormat>(
         &self,
         alloc: Global,
         clock: &C,
-        place: usize,
+        index: usize,
     ) -> Result<String, AllocError> {
-        timeline_text(alloc, &self.only(place), clock)
+        timeline_text(alloc, &self.only(index), clock)
     }
 
-    /// Returns whether the event at a place is a delivered notice.
+    /// Returns whether the event at an index is a delivered notice.
     pub(crate) fn is_delivered_at<C: TimeFormat>(
         &self,
         alloc: Global,
         clock: &C,
-        place: usize,
+        index: usize,
     ) -> Result<bool, AllocError> {
-        let line = notices_text(alloc, &self.only(place), clock, false)?;
+        let line = notices_text(alloc, &self.only(index), clock, false)?;
         Ok(!line.is_empty())
     }
 
-    /// The rehearsal with the event at a place alone.
-    fn only(&self, place: usize) -> Playback<'s> {
-        self.playback().with_events(one_of(self.events, place))
+    /// The rehearsal with the event at an index alone.
+    fn only(&self, index: usize) -> Playback<'s> {
+        self.playback().with_events(one_of(self.events, index))
     }
 }
 
-/// The event at a place, or none where there is no such place.
-fn one_of(events: &[Event], place: usize) -> &[Event] {
-    if place < events.len() {
-        &events[place..place + 1]
+/// The event at an index, or none where there is no such index.
+fn one_of(events: &[Event], index: usize) -> &[Event] {
+    if index < events.len() {
+        &events[index..index + 1]
     } else {
         &[]
     }

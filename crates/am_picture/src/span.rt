@@ -7,7 +7,7 @@ pub(crate) struct Span {
     pub(crate) from: u64,
     /// The first time after it; none where it hasn't ended.
     pub(crate) to: Option<u64>,
-    /// The place of the event that it comes from; 0 where it comes from an alert.
+    /// The index of the event that it comes from; 0 where it comes from an alert.
     pub(crate) event: usize,
 }
 

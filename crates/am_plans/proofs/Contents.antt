@@ -1,4 +1,4 @@
--- The members of an expectation tell one target and one content at most.
+-- The members of an expectation say one target and one content at most.
 use Rattle.std.proofs.Common.{◌≡◌, ◌∙◌, ◌++◌, ◌&&◌, ℕ, suc, Bool, not, List, [], ◌∷◌, Option, Some, None, MatchOption, codes, refl, sym, ap, subst, arith}
 use Rattle.std.specs.List.{list_any}
 use Rattle.std.specs.Prelude.{IsSomeAnd, IsTrue}
@@ -10,7 +10,7 @@ use Rattle.am_alerts.specs.declared.matcher.MatcherParts.{MatcherParts}
 use Rattle.am_cli.proofs.Once.{one_list, one_matcher}
 use Rattle.am_cli.specs.Configured.{DecodesToLabels, DecodesToMatcher}
 use Rattle.am_cli.specs.Read.{has_only, number_in}
-use Rattle.am_cli.specs.declared.reader.Dialect.{Dialect}
+use Rattle.am_cli.specs.declared.reader.Mode.{Mode}
 use Rattle.am_model.specs.declared.config.Config.{Config}
 use Rattle.am_model.specs.declared.config.Receiver.{Receiver}
 use Rattle.am_plans.proofs.Decodings.{same_some}
@@ -23,7 +23,7 @@ use Rattle.am_terms.specs.declared.rehearsal.TimedAction.{TimedAction}
 
 -- ---- targets
 
--- what stands before the first `/`, and behind it
+-- what is before the first `/`, and behind it
 one_slash : (k l v w : List ℕ) → k ++ 47 ∷ v ≡ l ++ 47 ∷ w → HasNoSlash k → HasNoSlash l → (k ≡ l) × (v ≡ w)
 one_slash [] [] v w same k_free l_free = (refl, cc)
 one_slash [] (b ∷ l) v w same k_free l_free = absurd (l_free 0 (omega arith) (cc))
@@ -73,66 +73,66 @@ one_target (Some member) k l p q is also = one_target_of member k l p q is also
 
 -- ---- contents
 
-same_matchers : (dialect : Dialect) (found : Option Data) (a b : Option (List MatcherParts)) → AreMatchersIn dialect found a → AreMatchersIn dialect found b → a ≡ b
-same_matchers dialect None a b is also = is ∙ sym also
-same_matchers dialect (Some value) None b is also = absurd is
-same_matchers dialect (Some value) (Some a) None is also = absurd also
-same_matchers dialect (Some value) (Some a) (Some b) is also =
-    ap Some (one_list (DecodesToMatcher dialect) (one_matcher dialect) value a b is.listed also.listed)
+same_matchers : (mode : Mode) (found : Option Data) (a b : Option (List MatcherParts)) → AreMatchersIn mode found a → AreMatchersIn mode found b → a ≡ b
+same_matchers mode None a b is also = is ∙ sym also
+same_matchers mode (Some value) None b is also = absurd is
+same_matchers mode (Some value) (Some a) None is also = absurd also
+same_matchers mode (Some value) (Some a) (Some b) is also =
+    ap Some (one_list (DecodesToMatcher mode) (one_matcher mode) value a b is.listed also.listed)
 
-same_sets : (dialect : Dialect) (found : Option Data) (a b : Option (List (List Label))) → AreSetsIn dialect found a → AreSetsIn dialect found b → a ≡ b
-same_sets dialect None a b is also = is ∙ sym also
-same_sets dialect (Some value) None b is also = absurd is
-same_sets dialect (Some value) (Some a) None is also = absurd also
-same_sets dialect (Some value) (Some a) (Some b) is also =
-    ap Some (one_list (DecodesToLabels dialect) (one_labels dialect) value a b is also)
+same_sets : (mode : Mode) (found : Option Data) (a b : Option (List (List Label))) → AreSetsIn mode found a → AreSetsIn mode found b → a ≡ b
+same_sets mode None a b is also = is ∙ sym also
+same_sets mode (Some value) None b is also = absurd is
+same_sets mode (Some value) (Some a) None is also = absurd also
+same_sets mode (Some value) (Some a) (Some b) is also =
+    ap Some (one_list (DecodesToLabels mode) (one_labels mode) value a b is also)
 
-same_resolved : (dialect : Dialect) (exactly found : Option Data) (a b : Option (List (List Label)))
-    → MatchOption exactly (AreSetsIn dialect found a) (λ _. a ≡ Some []) → MatchOption exactly (AreSetsIn dialect found b) (λ _. b ≡ Some []) → a ≡ b
-same_resolved dialect None found a b is also = same_sets dialect found a b is also
-same_resolved dialect (Some value) found a b is also = is ∙ sym also
+same_resolved : (mode : Mode) (exactly found : Option Data) (a b : Option (List (List Label)))
+    → MatchOption exactly (AreSetsIn mode found a) (λ _. a ≡ Some []) → MatchOption exactly (AreSetsIn mode found b) (λ _. b ≡ Some []) → a ≡ b
+same_resolved mode None found a b is also = same_sets mode found a b is also
+same_resolved mode (Some value) found a b is also = is ∙ sym also
 
-pub one_content : (dialect : Dialect) (members : Members) (a b : Content) → HasContentIn dialect members a → HasContentIn dialect members b → a ≡ b
-one_content dialect members a b is also =
+pub one_content : (mode : Mode) (members : Members) (a b : Content) → HasContentIn mode members a → HasContentIn mode members b → a ≡ b
+one_content mode members a b is also =
     let resolves : is.resolves ≡ also.resolves = same_some is.when also.when in
-    let has = same_matchers dialect (said_or_of (not also.resolves) (codes "has") members) a.has b.has
-    (subst (λ (r : Bool). AreMatchersIn dialect (said_or_of (not r) (codes "has") members) a.has) resolves is.has) also.has in
-    let has_resolved = same_matchers dialect (said_or_of also.resolves (codes "has_resolved") members) a.has_resolved b.has_resolved
-    (subst (λ (r : Bool). AreMatchersIn dialect (said_or_of r (codes "has_resolved") members) a.has_resolved) resolves is.has_resolved) also.has_resolved in
-    let firing = same_sets dialect (option_or (get_member (codes "exactly") members) (get_member (codes "firing") members)) a.firing b.firing is.firing also.firing in
-    let resolved = same_resolved dialect (get_member (codes "exactly") members) (get_member (codes "resolved") members) a.resolved b.resolved is.resolved also.resolved in
+    let has = same_matchers mode (said_or_of (not also.resolves) (codes "has") members) a.has b.has
+    (subst (λ (r : Bool). AreMatchersIn mode (said_or_of (not r) (codes "has") members) a.has) resolves is.has) also.has in
+    let has_resolved = same_matchers mode (said_or_of also.resolves (codes "has_resolved") members) a.has_resolved b.has_resolved
+    (subst (λ (r : Bool). AreMatchersIn mode (said_or_of r (codes "has_resolved") members) a.has_resolved) resolves is.has_resolved) also.has_resolved in
+    let firing = same_sets mode (option_or (get_member (codes "exactly") members) (get_member (codes "firing") members)) a.firing b.firing is.firing also.firing in
+    let resolved = same_resolved mode (get_member (codes "exactly") members) (get_member (codes "resolved") members) a.resolved b.resolved is.resolved also.resolved in
     let reason = same_some is.reason also.reason in
     λ i. record { has = has i; has_resolved = has_resolved i; firing = firing i; resolved = resolved i; reason = reason i }
 
 -- ---- the whole
 
--- what two expectations have alike that these members tell
+-- what two expectations have alike that these members say
 pub record AreAlike (x y : Expectation) : Type 0 where
   pub receiver : x.receiver ≡ y.receiver
   pub kind : x.kind ≡ y.kind
   pub integration : x.integration ≡ y.integration
   pub content : x.content ≡ y.content
 
-alike_in : (dialect : Dialect) (until last : ℕ) (plans : List TimedAction) (members : Members) (x y : Expectation)
-    → IsExpectedOf dialect until last plans members x → IsExpectedOf dialect until last plans members y → AreAlike x y
-alike_in dialect until last plans members x y is also =
+alike_in : (mode : Mode) (until last : ℕ) (plans : List TimedAction) (members : Members) (x y : Expectation)
+    → IsExpectedOf mode until last plans members x → IsExpectedOf mode until last plans members y → AreAlike x y
+alike_in mode until last plans members x y is also =
     let target = one_target (get_member (codes "integration") members) x.kind y.kind x.integration y.integration is.integration also.integration in
     record {
       receiver = same_some is.receiver also.receiver;
       kind = target.0;
       integration = target.1;
-      content = one_content dialect members x.content y.content is.content also.content;
+      content = one_content mode members x.content y.content is.content also.content;
     }
 
-alike_by : (dialect : Dialect) (until last : ℕ) (plans : List TimedAction) (object : Option Members) (x y : Expectation)
-    → IsSomeAnd object (λ ms. IsExpectedOf dialect until last plans ms x × IsTrue (has_only dialect field_names ms))
-    → IsSomeAnd object (λ ms. IsExpectedOf dialect until last plans ms y × IsTrue (has_only dialect field_names ms)) → AreAlike x y
-alike_by dialect until last plans None x y is also = absurd is
-alike_by dialect until last plans (Some members) x y is also = alike_in dialect until last plans members x y is.0 also.0
+alike_by : (mode : Mode) (until last : ℕ) (plans : List TimedAction) (object : Option Members) (x y : Expectation)
+    → IsSomeAnd object (λ ms. IsExpectedOf mode until last plans ms x × IsTrue (has_only mode field_names ms))
+    → IsSomeAnd object (λ ms. IsExpectedOf mode until last plans ms y × IsTrue (has_only mode field_names ms)) → AreAlike x y
+alike_by mode until last plans None x y is also = absurd is
+alike_by mode until last plans (Some members) x y is also = alike_in mode until last plans members x y is.0 also.0
 
-pub are_alike : (dialect : Dialect) (until last : ℕ) (plans : List TimedAction) (value : Data) (x y : Expectation)
-    → IsExpectedIn dialect until last plans value x → IsExpectedIn dialect until last plans value y → AreAlike x y
-are_alike dialect until last plans value x y is also = alike_by dialect until last plans (as_object value) x y is also
+pub are_alike : (mode : Mode) (until last : ℕ) (plans : List TimedAction) (value : Data) (x y : Expectation)
+    → IsExpectedIn mode until last plans value x → IsExpectedIn mode until last plans value y → AreAlike x y
+are_alike mode until last plans value x y is also = alike_by mode until last plans (as_object value) x y is also
 
 same_target_in : (x y : Expectation) → AreAlike x y → (config : Config) → has_target config x ≡ has_target config y
 same_target_in x y same config =

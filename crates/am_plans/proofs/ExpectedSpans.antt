@@ -1,4 +1,4 @@
--- Spans of expectations: what is told beside `within`, and the matchers of `of`.
+-- Spans of expectations: what is given beside `within`, and the matchers of `of`.
 use Rattle.std.proofs.Common.{◌≡◌, ◌≤◌, ◌+◌, ◌^◌, ℕ, List, Option, Some, None, MatchOption, codes, arith}
 use Rattle.std.specs.Prelude.{IsSomeAnd}
 use Rattle.serde_json.specs.Data.{Data, Members}
@@ -8,42 +8,42 @@ use Rattle.am_cli.proofs.Decoding.{found}
 use Rattle.am_cli.proofs.Once.{one_list, one_matcher}
 use Rattle.am_cli.specs.Configured.{DecodesToMatcher}
 use Rattle.am_cli.specs.Decoding.{HasNone, IsList}
-use Rattle.am_cli.specs.declared.reader.Dialect.{Dialect}
+use Rattle.am_cli.specs.declared.reader.Mode.{Mode}
 use Rattle.am_plans.specs.Expected.{AreMatchersOf, IsEndOf, IsOwnSpan, IsSpanIn, IsSpanWithin, HasNoRegexAt}
 use Rattle.am_terms.specs.declared.rehearsal.TimedAction.{TimedAction}
 
 -- what is never refused of a span
-abbrev pub TellsSpan : Dialect → ℕ → ℕ → List TimedAction → Members → ℕ × ℕ → Type 0
-TellsSpan dialect until last plans members span = IsSpanIn dialect until last plans members span.0 span.1 × HasNoRegexAt dialect (codes "of") members
+abbrev pub DecodesSpan : Mode → ℕ → ℕ → List TimedAction → Members → ℕ × ℕ → Type 0
+DecodesSpan mode until last plans members span = IsSpanIn mode until last plans members span.0 span.1 × HasNoRegexAt mode (codes "of") members
 
 -- the same with `within`
-abbrev pub TellsWithin : Dialect → ℕ → List TimedAction → Members → Data → ℕ × ℕ → Type 0
-TellsWithin dialect last plans members within span =
-    IsSpanWithin dialect last plans members within span.0 span.1 × HasNoRegexAt dialect (codes "of") members
+abbrev pub DecodesWithin : Mode → ℕ → List TimedAction → Members → Data → ℕ × ℕ → Type 0
+DecodesWithin mode last plans members within span =
+    IsSpanWithin mode last plans members within span.0 span.1 × HasNoRegexAt mode (codes "of") members
 
--- what is told where `within` is there
-pub beside_within : (dialect : Dialect) (until last : ℕ) (plans : List TimedAction) (members : Members) (within : Data) (from to : ℕ)
-    → Some within ≡ get_member (codes "within") members → IsSpanIn dialect until last plans members from to
-    → HasNone (codes "at") members × HasNone (codes "from") members × HasNone (codes "to") members × IsSpanWithin dialect last plans members within from to
-beside_within dialect until last plans members within from to is told =
+-- what is given where `within` is there
+pub beside_within : (mode : Mode) (until last : ℕ) (plans : List TimedAction) (members : Members) (within : Data) (from to : ℕ)
+    → Some within ≡ get_member (codes "within") members → IsSpanIn mode until last plans members from to
+    → HasNone (codes "at") members × HasNone (codes "from") members × HasNone (codes "to") members × IsSpanWithin mode last plans members within from to
+beside_within mode until last plans members within from to is decoded =
     found (IsOwnSpan until last members from to)
-    (λ w. HasNone (codes "at") members × HasNone (codes "from") members × HasNone (codes "to") members × IsSpanWithin dialect last plans members w from to)
-    within (get_member (codes "within") members) is told
+    (λ w. HasNone (codes "at") members × HasNone (codes "from") members × HasNone (codes "to") members × IsSpanWithin mode last plans members w from to)
+    within (get_member (codes "within") members) is decoded
 
 -- the matchers of a member are those that it lists
-pub are_listed : (dialect : Dialect) (o : Option Data) (ms : List MatcherParts) → MatchOption o ⊥ (λ value. AreMatchersOf dialect value ms)
-    → MatchOption o ⊥ (λ value. IsList (DecodesToMatcher dialect) value ms)
-are_listed dialect None ms told = told
-are_listed dialect (Some value) ms told = told.listed
+pub are_listed : (mode : Mode) (o : Option Data) (ms : List MatcherParts) → MatchOption o ⊥ (λ value. AreMatchersOf mode value ms)
+    → MatchOption o ⊥ (λ value. IsList (DecodesToMatcher mode) value ms)
+are_listed mode None ms decoded = decoded
+are_listed mode (Some value) ms decoded = decoded.listed
 
-pub one_of : (dialect : Dialect) (o : Option Data) (ms ns : List MatcherParts) → MatchOption o ⊥ (λ value. AreMatchersOf dialect value ms)
-    → MatchOption o ⊥ (λ value. AreMatchersOf dialect value ns) → ms ≡ ns
-one_of dialect None ms ns is also = absurd is
-one_of dialect (Some value) ms ns is also = one_list (DecodesToMatcher dialect) (one_matcher dialect) value ms ns is.listed also.listed
+pub one_of : (mode : Mode) (o : Option Data) (ms ns : List MatcherParts) → MatchOption o ⊥ (λ value. AreMatchersOf mode value ms)
+    → MatchOption o ⊥ (λ value. AreMatchersOf mode value ns) → ms ≡ ns
+one_of mode None ms ns is also = absurd is
+one_of mode (Some value) ms ns is also = one_list (DecodesToMatcher mode) (one_matcher mode) value ms ns is.listed also.listed
 
 -- an end that is none
 pub no_end_of : (o : Option ℕ) (from to length : ℕ) → Some length ≡ o → 2 ^ 64 ≤ from + length → IsSomeAnd o (IsEndOf from to) → ⊥
-no_end_of None from to length is long told = told
-no_end_of (Some n) from to length is long told =
+no_end_of None from to length is long decoded = decoded
+no_end_of (Some n) from to length is long decoded =
     let same : length ≡ n = cc in
-    absurd (omega (arith, told.0, told.1, same))
+    absurd (omega (arith, decoded.0, decoded.1, same))

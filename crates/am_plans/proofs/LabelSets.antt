@@ -1,4 +1,4 @@
--- A JSON value tells one label set at most.
+-- A JSON value says one label set at most.
 use Rattle.std.proofs.Common.{◌≡◌, ◌∙◌, true, false, cond, List, [], ◌∷◌, Ordering, IsPermutation, refl, sym, ap, subst}
 use Rattle.std.specs.declared.cmp.Ordering.TheVariants.{Less, Equal, Greater}
 use Rattle.std.specs.List.{AllByRecursion, IsDistinct, list_all}
@@ -10,7 +10,7 @@ use Rattle.am_alerts.specs.Labels.{IsReadOf, has_rising_names, labels_in, text_c
 use Rattle.am_alerts.specs.declared.labels.Label.{Label}
 use Rattle.am_cli.proofs.Once.{IsOne, one_pairs}
 use Rattle.am_cli.specs.Configured.{DecodesToLabels}
-use Rattle.am_cli.specs.declared.reader.Dialect.{Dialect}
+use Rattle.am_cli.specs.declared.reader.Mode.{Mode}
 use Rattle.am_model.proofs.lists.InOrder.{in_order-permutation}
 use Rattle.am_model.specs.Lists.{in_order, put_in_order}
 
@@ -63,7 +63,7 @@ one_set ps ls ms is also =
     ∙ in_order-permutation by_name (on_total (λ (l : Label). l.name) nat_list_cmp_total) ls ms moved (rising_apart ls is.label_set.rising)
     ∙ rising_in_order ms also.label_set.rising
 
-pub one_labels : (dialect : Dialect) → IsOne (DecodesToLabels dialect)
-one_labels dialect value l m is also =
-    let same = one_pairs dialect value is.pairs also.pairs is.written also.written in
+pub one_labels : (mode : Mode) → IsOne (DecodesToLabels mode)
+one_labels mode value l m is also =
+    let same = one_pairs mode value is.pairs also.pairs is.written also.written in
     one_set (labels_in also.pairs) l m (subst (λ (ps : List Label). IsReadOf ps l) same is.read) also.read

@@ -4,21 +4,21 @@ pub mod Lists
 pub mod Plans
 -- members that are read, and lists of what is made of what was read
 pub mod Decodings
--- a JSON value tells one span at most
+-- a JSON value says one span at most
 pub mod Spans
--- a JSON value tells one label set at most
+-- a JSON value says one label set at most
 pub mod LabelSets
--- the members of an expectation tell one target and one content at most
+-- the members of an expectation say one target and one content at most
 pub mod Contents
--- what is told of alerts and silences may be planned
+-- what is given of alerts and silences may be planned
 pub mod Makes
 -- spans of expectations
 pub mod ExpectedSpans
 -- expectations whose matchers need no regex
 pub mod NoRegex
--- a JSON value tells one outage at most
+-- a JSON value says one outage at most
 pub mod Outages
--- what reloads and restarts may follow, what a JSON value tells of them, and their order
-pub mod Handovers
+-- what reloads and restarts may follow, what a JSON value says of them, and their order
+pub mod DispatcherChanges
 -- what one of some configurations has
 pub mod SomeHave

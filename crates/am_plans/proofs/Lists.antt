@@ -5,7 +5,7 @@ use Rattle.serde_json.specs.Data.{Data}
 use Rattle.serde_json.specs.View.{items_view, view}
 use Rattle.serde_json.specs.declared.value.Value.{Value}
 use Rattle.am_cli.specs.Decoding.{DecodeEach}
-use Rattle.am_cli.proofs.Members.{tell_more}
+use Rattle.am_cli.proofs.Members.{decode_more}
 
 -- the next value, and what it is read as
 pub decode_next : {X : Type 0} (decodes_to : Data → X → Type 0) (values : List Value) (i : ℕ) (value : Value) (x : X) (xs ys : List X)
@@ -16,4 +16,4 @@ decode_next decodes_to values i value x xs ys here is so_far read pushed =
     take_more values i value here ∙ ap (λ (v : Value). take i values ++ v ∷ []) (sym is) in
     subst (λ zs. DecodeEach decodes_to (items_view (take (i + 1) values)) zs) (sym pushed)
     (subst (λ (vs : List Value). DecodeEach decodes_to (items_view vs) (xs ++ x ∷ [])) (sym taken)
-    (tell_more decodes_to (take i values) xs value x so_far read))
+    (decode_more decodes_to (take i values) xs value x so_far read))

@@ -40,14 +40,14 @@ range_more a (suc n) =
     ap (λ l. a ∷ l) (range_more (a + 1) n ∙ ap (λ m. range_with_len (a + 1) n ++ m ∷ []) e)
 
 pub adds_one : (ps qs : List Planned) (p : Planned) → qs ≡ ps ++ p ∷ [] → p.number ≡ length ps → AddsPlans ps qs (p.plan ∷ [])
-adds_one ps qs p is place = record {
+adds_one ps qs p is pointer = record {
   plans_are = ap (map (λ (q : Planned). q.plan)) is ∙ map-append (λ (q : Planned). q.plan) ps (p ∷ []);
   numbered = λ (h : IsNumbered ps).
       let longer : suc (length ps) ≡ length qs = omega (arith, ap length is, length_push ps p) in
       let count : length ps ≡ 0 + length ps = omega arith in
       ap (map (λ (q : Planned). q.number)) is
       ∙ map-append (λ (q : Planned). q.number) ps (p ∷ [])
-      ∙ (λ i. h i ++ place i ∷ [])
+      ∙ (λ i. h i ++ pointer i ∷ [])
       ∙ ap (λ m. range_with_len 0 (length ps) ++ m ∷ []) count
       ∙ sym (range_more 0 (length ps))
       ∙ ap (range_with_len 0) longer;
@@ -78,10 +78,10 @@ sets_more id (x ∷ ss) s =
     let e : (id + 1) + length ss ≡ id + suc (length ss) = omega arith in
     ap (λ l. set_of id x ∷ l) (sets_more (id + 1) ss s ∙ ap (λ n. sets_from (id + 1) ss ++ set_of n s ∷ []) e)
 
--- one more silence, at the place of its number
+-- one more silence, at the pointer of its number
 pub adds_set : (ps qs rs : List Planned) (all : List SilenceItem) (n m k : ℕ) (s : SilenceItem) → m ≡ n + 1 → n < length all → k ≡ n → s ≡ get_or all n s
     → AddsPlans ps qs (sets_from 1 (take n all)) → AddsPlans qs rs (set_of (k + 1) s ∷ []) → AddsPlans ps rs (sets_from 1 (take m all))
-adds_set ps qs rs all n m k s next here place is first then =
+adds_set ps qs rs all n m k s next here pointer is first then =
     let taken : take (n + 1) all ≡ take n all ++ s ∷ [] = take_more all n s here ∙ ap (λ x. take n all ++ x ∷ []) (sym is) in
     let id : 1 + length (take n all) ≡ k + 1 = omega (arith, length-take-le n all (omega arith)) in
     let e : sets_from 1 (take m all) ≡ sets_from 1 (take n all) ++ set_of (k + 1) s ∷ [] =

@@ -1,4 +1,4 @@
--- A JSON value tells one span at most.
+-- A JSON value says one span at most.
 use Rattle.std.proofs.Common.{◌≡◌, Option, Some, None, MatchOption, codes}
 use Rattle.std.specs.Prelude.{IsSomeAnd}
 use Rattle.serde_json.specs.Data.{Data, Members}
@@ -6,7 +6,7 @@ use Rattle.serde_json.specs.Find.{get_member}
 use Rattle.am_cli.proofs.Once.{IsOne, one_object, one_or, one_read}
 use Rattle.am_cli.specs.Decoding.{IsDuration}
 use Rattle.am_cli.specs.Read.{duration_in}
-use Rattle.am_cli.specs.declared.reader.Dialect.{Dialect}
+use Rattle.am_cli.specs.declared.reader.Mode.{Mode}
 use Rattle.am_plans.specs.Decoding.{DecodesToSpan, HasSpan, IsSpan}
 use Rattle.am_plans.specs.declared.span.Span.{Span}
 
@@ -23,8 +23,8 @@ one_span_of members s t is also =
     let to = one_if duration_in (get_member (codes "to") members) s.to t.to is.to also.to in
     λ i. record { from = from i; to = to i }
 
-has_one : (dialect : Dialect) (members : Members) (s t : Span) → HasSpan dialect members s → HasSpan dialect members t → s ≡ t
-has_one dialect members s t is also = one_span_of members s t is.told also.told
+has_one : (mode : Mode) (members : Members) (s t : Span) → HasSpan mode members s → HasSpan mode members t → s ≡ t
+has_one mode members s t is also = one_span_of members s t is.decoded also.decoded
 
-pub one_span : (dialect : Dialect) → IsOne (IsSpan dialect)
-one_span dialect = one_object (HasSpan dialect) (has_one dialect)
+pub one_span : (mode : Mode) → IsOne (IsSpan mode)
+one_span mode = one_object (HasSpan mode) (has_one mode)

@@ -17,7 +17,7 @@ use Rattle.am_alerts.specs.declared.matcher.MatcherParts.{MatcherParts}
 use Rattle.am_cli.specs.Configured.{DecodesToLabels, DecodesToMatcher}
 use Rattle.am_cli.specs.Decoding.{Has, HasNone, HasOr, IsFlag, IsList}
 use Rattle.am_cli.specs.Read.{duration_in, has_only, number_in}
-use Rattle.am_cli.specs.declared.reader.Dialect.{Dialect}
+use Rattle.am_cli.specs.declared.reader.Mode.{Mode}
 use Rattle.am_plans.specs.declared.expectation.TheConstants.{MAX_EXPECTATIONS}
 use Rattle.am_model.specs.declared.config.Config.{Config}
 use Rattle.am_model.specs.declared.config.Integration.{Integration}
@@ -77,8 +77,8 @@ first_insert last resolves matchers plans =
     option_map (λ p. p.at) (find (λ p. nat_le p.at last && inserts resolves matchers p.act) plans)
 
 -- a member lists these matchers: one at least, and no more than a silence may have
-pub record AreMatchersOf (dialect : Dialect) (member : Data) (matchers : List MatcherParts) : Type 0 where
-  pub listed : IsList (DecodesToMatcher dialect) member matchers
+pub record AreMatchersOf (mode : Mode) (member : Data) (matchers : List MatcherParts) : Type 0 where
+  pub listed : IsList (DecodesToMatcher mode) member matchers
   pub some : 0 < length matchers
   pub few : length matchers ≤ MAX_MATCHERS
 
@@ -87,12 +87,12 @@ abbrev pub IsEndOf : ℕ → ℕ → ℕ → Type 0
 IsEndOf from to length = (to ≡ from + length) × (to < 2 ^ 64)
 
 -- from the time at which an alert that `of` matches fires first, or is resolved, and for so long as `within` says
-pub record IsSpanWithin (dialect : Dialect) (latest : ℕ) (plans : List TimedAction) (members : Members) (within : Data)
+pub record IsSpanWithin (mode : Mode) (latest : ℕ) (plans : List TimedAction) (members : Members) (within : Data)
     (from to : ℕ) : Type 0 where
   pub resolves : Bool
   pub when : resolves_in members ≡ Some resolves
   pub matchers : List MatcherParts
-  pub of : Has (AreMatchersOf dialect) (codes "of") members matchers
+  pub of : Has (AreMatchersOf mode) (codes "of") members matchers
   pub first : first_insert latest resolves matchers plans ≡ Some from
   pub last : IsSomeAnd (duration_in within) (IsEndOf from to)
 
@@ -120,11 +120,11 @@ IsOwnSpan until last members from to =
     HasNone (codes "of") members × HasNone (codes "when") members × IsSpanFrom until last members from to
 
 -- the span of an expectation; beside `within` none of its times is said
-abbrev pub IsSpanIn : Dialect → ℕ → ℕ → List TimedAction → Members → ℕ → ℕ → Type 0
-IsSpanIn dialect until last plans members from to =
+abbrev pub IsSpanIn : Mode → ℕ → ℕ → List TimedAction → Members → ℕ → ℕ → Type 0
+IsSpanIn mode until last plans members from to =
     MatchOption (get_member (codes "within") members) (IsOwnSpan until last members from to)
     (λ within. HasNone (codes "at") members × HasNone (codes "from") members × HasNone (codes "to") members
-    × IsSpanWithin dialect last plans members within from to)
+    × IsSpanWithin mode last plans members within from to)
 
 -- the position, below 8, that a text writes: its digit
 abbrev pub position_named : List ℕ → Option ℕ
@@ -163,29 +163,29 @@ IsTargetIn None kind position = (kind ≡ None) × (position ≡ None)
 IsTargetIn (Some member) kind position = IsTargetOf member kind position
 
 -- the label sets that a member lists, if it is there
-abbrev pub AreSetsIn : Dialect → Option Data → Option (List (List Label)) → Type 0
-AreSetsIn dialect None sets = sets ≡ None
-AreSetsIn dialect (Some member) sets = IsSomeAnd sets (λ s. IsList (DecodesToLabels dialect) member s)
+abbrev pub AreSetsIn : Mode → Option Data → Option (List (List Label)) → Type 0
+AreSetsIn mode None sets = sets ≡ None
+AreSetsIn mode (Some member) sets = IsSomeAnd sets (λ s. IsList (DecodesToLabels mode) member s)
 
 -- the matchers that a member lists, if it is there
-abbrev pub AreMatchersIn : Dialect → Option Data → Option (List MatcherParts) → Type 0
-AreMatchersIn dialect None matchers = matchers ≡ None
-AreMatchersIn dialect (Some member) matchers = IsSomeAnd matchers (AreMatchersOf dialect member)
+abbrev pub AreMatchersIn : Mode → Option Data → Option (List MatcherParts) → Type 0
+AreMatchersIn mode None matchers = matchers ≡ None
+AreMatchersIn mode (Some member) matchers = IsSomeAnd matchers (AreMatchersOf mode member)
 
--- a member, or else `of` if that stands for it
+-- a member, or else `of` if that represents it
 abbrev pub said_or_of : Bool → List ℕ → Members → Option Data
 said_or_of or_of name members =
     option_or (get_member name members) (if or_of then get_member (codes "of") members else None)
 
 -- the label sets that fire: those of `exactly`, or else of `firing`
-abbrev pub AreFiringIn : Dialect → Members → Option (List (List Label)) → Type 0
-AreFiringIn dialect members sets =
-    AreSetsIn dialect (option_or (get_member (codes "exactly") members) (get_member (codes "firing") members)) sets
+abbrev pub AreFiringIn : Mode → Members → Option (List (List Label)) → Type 0
+AreFiringIn mode members sets =
+    AreSetsIn mode (option_or (get_member (codes "exactly") members) (get_member (codes "firing") members)) sets
 
 -- the label sets that are resolved: none with `exactly`, or else those of `resolved`
-abbrev pub AreResolvedIn : Dialect → Members → Option (List (List Label)) → Type 0
-AreResolvedIn dialect members sets =
-    MatchOption (get_member (codes "exactly") members) (AreSetsIn dialect (get_member (codes "resolved") members) sets)
+abbrev pub AreResolvedIn : Mode → Members → Option (List (List Label)) → Type 0
+AreResolvedIn mode members sets =
+    MatchOption (get_member (codes "exactly") members) (AreSetsIn mode (get_member (codes "resolved") members) sets)
     (λ _. sets ≡ Some [])
 
 -- the reason that a text names
@@ -198,13 +198,13 @@ SaysExactly members = MatchOption (get_member (codes "exactly") members) ⊤
     (λ _. HasNone (codes "firing") members × HasNone (codes "resolved") members)
 
 -- what a notice has to say
-pub record HasContentIn (dialect : Dialect) (members : Members) (content : Content) : Type 0 where
+pub record HasContentIn (mode : Mode) (members : Members) (content : Content) : Type 0 where
   pub resolves : Bool
   pub when : resolves_in members ≡ Some resolves
-  pub has : AreMatchersIn dialect (said_or_of (not resolves) (codes "has") members) content.has
-  pub has_resolved : AreMatchersIn dialect (said_or_of resolves (codes "has_resolved") members) content.has_resolved
-  pub firing : AreFiringIn dialect members content.firing
-  pub resolved : AreResolvedIn dialect members content.resolved
+  pub has : AreMatchersIn mode (said_or_of (not resolves) (codes "has") members) content.has
+  pub has_resolved : AreMatchersIn mode (said_or_of resolves (codes "has_resolved") members) content.has_resolved
+  pub firing : AreFiringIn mode members content.firing
+  pub resolved : AreResolvedIn mode members content.resolved
   pub exactly : SaysExactly members
   pub reason : member_if reason_in (get_member (codes "reason") members) ≡ Some content.reason
 
@@ -241,12 +241,12 @@ pub record IsAmountIn (members : Members) (amount : Amount) : Type 0 where
   pub once : (is_none && is_never) ≡ false
 
 -- what these members say is expected of a rehearsal that ends at `until`, and of a story that ends at `last`, with these planned actions
-pub record IsExpectedOf (dialect : Dialect) (until last : ℕ) (plans : List TimedAction) (members : Members) (x : Expectation) : Type 0 where
+pub record IsExpectedOf (mode : Mode) (until last : ℕ) (plans : List TimedAction) (members : Members) (x : Expectation) : Type 0 where
   pub name : member_if as_str (get_member (codes "name") members) ≡ Some x.name
-  pub span : IsSpanIn dialect until last plans members x.from x.to
+  pub span : IsSpanIn mode until last plans members x.from x.to
   pub receiver : member_if as_str (get_member (codes "receiver") members) ≡ Some x.receiver
   pub integration : IsTargetIn (get_member (codes "integration") members) x.kind x.integration
-  pub content : HasContentIn dialect members x.content
+  pub content : HasContentIn mode members x.content
   pub amount : IsAmountIn members x.amount
 
 -- the names of the fields of an expectation
@@ -257,9 +257,9 @@ field_names =
     ∷ codes "none" ∷ codes "never" ∷ codes "count" ∷ codes "at_most" ∷ []
 
 -- what a JSON value says is expected
-abbrev pub IsExpectedIn : Dialect → ℕ → ℕ → List TimedAction → Data → Expectation → Type 0
-IsExpectedIn dialect until last plans value x =
-    IsSomeAnd (as_object value) (λ members. IsExpectedOf dialect until last plans members x × IsTrue (has_only dialect field_names members))
+abbrev pub IsExpectedIn : Mode → ℕ → ℕ → List TimedAction → Data → Expectation → Type 0
+IsExpectedIn mode until last plans value x =
+    IsSomeAnd (as_object value) (λ members. IsExpectedOf mode until last plans members x × IsTrue (has_only mode field_names members))
 
 -- whether one of these integrations has a kind
 abbrev pub has_kind : List ℕ → List Integration → Bool
@@ -323,38 +323,38 @@ has_alerts last plans wanted =
     && are_inserted last plans false wanted.firing && are_inserted last plans true wanted.resolved
 
 -- the same, where the target is one of the configurations, and the alerts are some of the story
-pub record IsKnownIn (dialect : Dialect) (configs : List Config) (until last : ℕ) (plans : List TimedAction) (value : Data)
+pub record IsKnownIn (mode : Mode) (configs : List Config) (until last : ℕ) (plans : List TimedAction) (value : Data)
     (x : Expectation) : Type 0 where
-  pub says : IsExpectedIn dialect until last plans value x
+  pub says : IsExpectedIn mode until last plans value x
   pub target : some_has_target configs x ≡ true
   pub alerts : has_alerts last plans x.content ≡ true
 
 -- what a member lists as expected, one for one, and no more than a story may have; nothing, where it isn't there
-abbrev pub AreExpectedIn : Dialect → List Config → ℕ → ℕ → List TimedAction → Option Data → List Expectation → Type 0
-AreExpectedIn dialect configs until last plans member expectations =
+abbrev pub AreExpectedIn : Mode → List Config → ℕ → ℕ → List TimedAction → Option Data → List Expectation → Type 0
+AreExpectedIn mode configs until last plans member expectations =
     MatchOption member (expectations ≡ [])
-    (λ value. IsList (IsKnownIn dialect configs until last plans) value expectations × (length expectations ≤ MAX_EXPECTATIONS))
+    (λ value. IsList (IsKnownIn mode configs until last plans) value expectations × (length expectations ≤ MAX_EXPECTATIONS))
 
 -- the matchers that the member of this name lists need no regex
-abbrev pub HasNoRegexAt : Dialect → List ℕ → Members → Type 0
-HasNoRegexAt dialect name members =
-    (matchers : List MatcherParts) → Has (IsList (DecodesToMatcher dialect)) name members matchers → IsTrue (compare_texts matchers)
+abbrev pub HasNoRegexAt : Mode → List ℕ → Members → Type 0
+HasNoRegexAt mode name members =
+    (matchers : List MatcherParts) → Has (IsList (DecodesToMatcher mode)) name members matchers → IsTrue (compare_texts matchers)
 
 -- no matcher of an expectation needs a regex
-pub record HasNoRegex (dialect : Dialect) (members : Members) : Type 0 where
-  pub of : HasNoRegexAt dialect (codes "of") members
-  pub has : HasNoRegexAt dialect (codes "has") members
-  pub has_resolved : HasNoRegexAt dialect (codes "has_resolved") members
+pub record HasNoRegex (mode : Mode) (members : Members) : Type 0 where
+  pub of : HasNoRegexAt mode (codes "of") members
+  pub has : HasNoRegexAt mode (codes "has") members
+  pub has_resolved : HasNoRegexAt mode (codes "has_resolved") members
 
 -- the same of a value
-abbrev pub HasNoRegexIn : Dialect → Data → Type 0
-HasNoRegexIn dialect value = MatchOption (as_object value) ⊤ (HasNoRegex dialect)
+abbrev pub HasNoRegexIn : Mode → Data → Type 0
+HasNoRegexIn mode value = MatchOption (as_object value) ⊤ (HasNoRegex mode)
 
 -- the same of each value in an array
-abbrev pub HaveNoRegex : Dialect → Items → Type 0
-HaveNoRegex dialect no_items = ⊤
-HaveNoRegex dialect (item value values) = HasNoRegexIn dialect value × HaveNoRegex dialect values
+abbrev pub HaveNoRegex : Mode → Items → Type 0
+HaveNoRegex mode no_items = ⊤
+HaveNoRegex mode (item value values) = HasNoRegexIn mode value × HaveNoRegex mode values
 
 -- the same of what a member lists
-abbrev pub HaveNoRegexIn : Dialect → Option Data → Type 0
-HaveNoRegexIn dialect member = MatchOption member ⊤ (λ value. MatchOption (as_array value) ⊤ (HaveNoRegex dialect))
+abbrev pub HaveNoRegexIn : Mode → Option Data → Type 0
+HaveNoRegexIn mode member = MatchOption member ⊤ (λ value. MatchOption (as_array value) ⊤ (HaveNoRegex mode))

@@ -1,10 +1,10 @@
 -- what the members of an expectation say
 pub mod Expected
--- what the JSON values of a story's alerts, silences and outages tell
+-- what the JSON values of a story's alerts, silences and outages say
 pub mod Decoding
 -- the configurations under which a story is played
 pub mod Configs
 -- when a story reloads and restarts the dispatcher
-pub mod Handover
+pub mod DispatcherChange
 -- what the alerts and the silences of a story plan
 pub mod Planned

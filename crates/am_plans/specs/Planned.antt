@@ -9,7 +9,7 @@ use Rattle.am_alerts.specs.AlertData.{alert_fault, alert_of}
 use Rattle.am_alerts.specs.Matcher.{compare_texts}
 use Rattle.am_alerts.specs.declared.labels.Label.{Label}
 use Rattle.am_cli.specs.Decoding.{IsList, HasOr}
-use Rattle.am_cli.specs.declared.reader.Dialect.{Dialect}
+use Rattle.am_cli.specs.declared.reader.Mode.{Mode}
 use Rattle.am_plans.specs.Decoding.{DecodesToAlert, DecodesToSilence}
 use Rattle.am_plans.specs.declared.alert.AlertItem.{AlertItem}
 use Rattle.am_plans.specs.declared.planned.Planned.{Planned}
@@ -52,14 +52,14 @@ abbrev pub plans_of : List AlertItem → List SilenceItem → List TimedAction
 plans_of alerts silences = in_order time_cmp (flat_map inserts_of alerts ++ sets_from 1 silences)
 
 -- the actions are those that the members `alerts` and `silences` plan
-pub record ArePlannedIn (dialect : Dialect) (members : Members) (plans : List TimedAction) : Type 0 where
+pub record ArePlannedIn (mode : Mode) (members : Members) (plans : List TimedAction) : Type 0 where
   pub alerts : List AlertItem
   pub silences : List SilenceItem
-  pub alerts_are : HasOr (IsList (DecodesToAlert dialect)) [] (codes "alerts") members alerts
-  pub silences_are : HasOr (IsList (DecodesToSilence dialect)) [] (codes "silences") members silences
+  pub alerts_are : HasOr (IsList (DecodesToAlert mode)) [] (codes "alerts") members alerts
+  pub silences_are : HasOr (IsList (DecodesToSilence mode)) [] (codes "silences") members silences
   pub is : plans ≡ plans_of alerts silences
 
--- whether an alert may have these labels and moments
+-- whether an alert may have these labels and times
 abbrev pub may_insert : List Label → ℕ → Option ℕ → Bool
 may_insert labels starts ends = is_none (alert_fault (alert_of labels starts ends))
 
@@ -71,7 +71,7 @@ may_insert_in labels span = may_insert labels span.from None && may_insert label
 abbrev pub may_insert_all : AlertItem → Bool
 may_insert_all alert = list_all (may_insert_in alert.labels) alert.spans.items
 
--- whether a silence may have these matchers and moments
+-- whether a silence may have these matchers and times
 abbrev pub may_set : SilenceItem → Bool
 may_set s = is_none (silence_fault (silence_of 1 s.matchers.items s.from s.to))
 
@@ -80,10 +80,10 @@ abbrev pub have_no_regex : List SilenceItem → Bool
 have_no_regex silences = list_all (λ s. compare_texts s.matchers.items) silences
 
 -- the actions are those that the members plan, whose silences need no regex
-abbrev pub ArePlannedWithoutRegexes : Dialect → Members → List TimedAction → Type 0
-ArePlannedWithoutRegexes dialect members plans = (planned : ArePlannedIn dialect members plans) × IsTrue (have_no_regex planned.silences)
+abbrev pub ArePlannedWithoutRegexes : Mode → Members → List TimedAction → Type 0
+ArePlannedWithoutRegexes mode members plans = (planned : ArePlannedIn mode members plans) × IsTrue (have_no_regex planned.silences)
 
--- each planned action has its place as its number
+-- each planned action has its pointer as its number
 abbrev pub IsNumbered : List Planned → Type 0
 IsNumbered planned = map (λ p. p.number) planned ≡ range_with_len 0 (length planned)
 

@@ -20,7 +20,7 @@ pub struct AlertItem {
     pub labels: Labels,
     /// One after the other.
     pub spans: Vec<Span>,
-    /// Whether they stand in a list.
+    /// Whether they are in a list.
     pub is_listed: bool,
 }
 
@@ -28,7 +28,7 @@ impl<'v> FromJson<'v> for AlertItem {
     ghost use Rattle.std.specs.Prelude.{true};
     ghost use Rattle.am_plans.specs.Decoding.{DecodesToAlert};
 
-    ghost decodes_to = { λ dialect value alert. DecodesToAlert dialect value alert };
+    ghost decodes_to = { λ mode value alert. DecodesToAlert mode value alert };
 
     ghost never_refused = { λ _. true };
 
@@ -45,10 +45,10 @@ impl<'v> FromJson<'v> for AlertItem {
     }
 }
 
-/// The spans of an alert, and whether they stand in a list.
+/// The spans of an alert, and whether they are in a list.
 fn read_spans(alert: &Object<'_, '_>) -> Result<(Vec<Span>, bool), InputFault>
-    ensures told { IfOk result (λ read. AreSpansIn alert.now.dialect (members_view alert.now.members) read.0.items) }
-    ensures refused { IfErr result (Excludes (AreSpansIn alert.now.dialect (members_view alert.now.members))) }
+    ensures decoded { IfOk result (λ read. AreSpansIn alert.now.mode (members_view alert.now.members) read.0.items) }
+    ensures refused { IfErr result (Excludes (AreSpansIn alert.now.mode (members_view alert.now.members))) }
 {
     let Some(listed) = alert.optional("spans") else {
         let mut spans = Vec::new(alert.alloc());

@@ -74,13 +74,13 @@ pub fn read_expectations(
     until: u64,
     plans: &[TimedAction],
 ) -> Result<Vec<Expectation>, InputFault>
-    ensures told { IfOk result (λ expectations. AreExpectedIn top.now.dialect (configs_in configs.now) until
+    ensures decoded { IfOk result (λ expectations. AreExpectedIn top.now.mode (configs_in configs.now) until
         (last_end until (members_view top.now.members)) plans.now
         (get_member (codes "expect") (members_view top.now.members)) expectations.items) }
-    ensures refused { IfErr result (Excludes (λ expectations. AreExpectedIn top.now.dialect (configs_in configs.now) until
+    ensures refused { IfErr result (Excludes (λ expectations. AreExpectedIn top.now.mode (configs_in configs.now) until
         (last_end until (members_view top.now.members)) plans.now
         (get_member (codes "expect") (members_view top.now.members)) expectations
-        × HaveNoRegexIn top.now.dialect (get_member (codes "expect") (members_view top.now.members)))) }
+        × HaveNoRegexIn top.now.mode (get_member (codes "expect") (members_view top.now.members)))) }
 {
     let last = last_end(top, until);
     match top.optional("expect") {
@@ -116,11 +116,11 @@ fn read_list(
     last: u64,
     plans: &[TimedAction],
 ) -> Result<Vec<Expectation>, InputFault>
-    ensures told { IfOk result (λ expectations.
-        AreExpectedIn member.now.dialect (configs_in configs.now) until last plans.now (Some (view member.now.value)) expectations.items) }
+    ensures decoded { IfOk result (λ expectations.
+        AreExpectedIn member.now.mode (configs_in configs.now) until last plans.now (Some (view member.now.value)) expectations.items) }
     ensures refused { IfErr result (Excludes (λ expectations.
-        AreExpectedIn member.now.dialect (configs_in configs.now) until last plans.now (Some (view member.now.value)) expectations
-        × HaveNoRegexIn member.now.dialect (Some (view member.now.value)))) }
+        AreExpectedIn member.now.mode (configs_in configs.now) until last plans.now (Some (view member.now.value)) expectations
+        × HaveNoRegexIn member.now.mode (Some (view member.now.value)))) }
 {
     let mut expectations = Vec::new(member.alloc());
     let values = member.array()?;
@@ -184,7 +184,7 @@ fn fault_of(
 ) -> Result<(), InputFault> {
     let expectation = read_expectation(reader, until, last, plans.unwrap_or(&[]))?;
     if let Some(configs) = configs {
-        check_target(reader.alloc(), configs, &expectation, reader.place())?;
+        check_target(reader.alloc(), configs, &expectation, reader.pointer())?;
     }
     match plans {
         None => Ok(()),
@@ -200,13 +200,13 @@ fn read_known(
     last: u64,
     plans: &[TimedAction],
 ) -> Result<Expectation, InputFault>
-    ensures told { IfOk result (IsKnownIn reader.now.dialect (configs_in configs.now) until last plans.now (view reader.now.value)) }
+    ensures decoded { IfOk result (IsKnownIn reader.now.mode (configs_in configs.now) until last plans.now (view reader.now.value)) }
     ensures refused { IfErr result (Excludes (λ x.
-        IsKnownIn reader.now.dialect (configs_in configs.now) until last plans.now (view reader.now.value) x
-        × HasNoRegexIn reader.now.dialect (view reader.now.value))) }
+        IsKnownIn reader.now.mode (configs_in configs.now) until last plans.now (view reader.now.value) x
+        × HasNoRegexIn reader.now.mode (view reader.now.value))) }
 {
     let expectation = read_expectation(reader, until, last, plans)?;
-    check_target(reader.alloc(), configs, &expectation, reader.place())?;
+    check_target(reader.alloc(), configs, &expectation, reader.pointer())?;
     check_content(reader, last, plans, &expectation)?;
     Ok(expectation)
 }
@@ -222,7 +222,7 @@ fn check_content(
         IfErr result (Denies (has_alerts last plans.now expectation.now.content)) }
 {
     let item = reader.object()?;
-    check_alerts(&item, last, plans, &expectation.content, reader.place())
+    check_alerts(&item, last, plans, &expectation.content, reader.pointer())
 }
 
 /// What is expected of a span, up to `until` where no end is said, for a receiver and an integration,
@@ -233,9 +233,9 @@ fn read_expectation(
     last: u64,
     plans: &[TimedAction],
 ) -> Result<Expectation, InputFault>
-    ensures told { IfOk result (IsExpectedIn reader.now.dialect until last plans.now (view reader.now.value)) }
-    ensures refused { IfErr result (Excludes (λ x. IsExpectedIn reader.now.dialect until last plans.now (view reader.now.value) x
-        × HasNoRegexIn reader.now.dialect (view reader.now.value))) }
+    ensures decoded { IfOk result (IsExpectedIn reader.now.mode until last plans.now (view reader.now.value)) }
+    ensures refused { IfErr result (Excludes (λ x. IsExpectedIn reader.now.mode until last plans.now (view reader.now.value) x
+        × HasNoRegexIn reader.now.mode (view reader.now.value))) }
 {
     let item = reader.object()?;
     item.only(&MEMBERS)?;
@@ -248,10 +248,10 @@ fn read_members(
     last: u64,
     plans: &[TimedAction],
 ) -> Result<Expectation, InputFault>
-    ensures told { IfOk result (IsExpectedOf item.now.dialect until last plans.now (members_view item.now.members)) }
+    ensures decoded { IfOk result (IsExpectedOf item.now.mode until last plans.now (members_view item.now.members)) }
     ensures refused { IfErr result (Excludes (λ x.
-        IsExpectedOf item.now.dialect until last plans.now (members_view item.now.members) x
-        × HasNoRegex item.now.dialect (members_view item.now.members))) }
+        IsExpectedOf item.now.mode until last plans.now (members_view item.now.members) x
+        × HasNoRegex item.now.mode (members_view item.now.members))) }
 {
     let name = read_name(item, "name")?;
     let (from, to) = read_span(item, until, last, plans)?;
@@ -273,7 +273,7 @@ fn read_members(
 
 /// A text, if the member of this name is there.
 fn read_name(item: &Object<'_, '_>, member: &str) -> Result<Option<Text>, InputFault>
-    ensures told { IfOk result (λ name.
+    ensures decoded { IfOk result (λ name.
         member_if as_str (get_member member.now (members_view item.now.members)) ≡ Some name) }
     ensures refused { IfErr result (Excludes (λ (name : Option (List ℕ)).
         member_if as_str (get_member member.now (members_view item.now.members)) ≡ Some name)) }

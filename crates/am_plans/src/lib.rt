@@ -7,8 +7,8 @@
 pub mod alert;
 pub mod causes;
 pub mod configs;
+pub mod dispatcher_change;
 pub mod expectation;
-pub mod handover;
 pub mod law;
 pub mod origin;
 pub mod outage;

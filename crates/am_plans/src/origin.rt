@@ -2,10 +2,10 @@
 ghost use Rattle.am_cli.specs.Read.{IsRefusedBy};
 
 use am_cli::fault::{FaultKind, InputFault};
-use am_cli::place::JsonPointer;
+use am_cli::pointer::JsonPointer;
 use std::alloc::Global;
 
-/// Where a plan stands in the input: the number of its item, and of its span, if the item lists them.
+/// Where a plan is in the input: the number of its item, and of its span, if the item lists them.
 #[derive(Clone, Copy, PartialEq, Eq)]
 pub enum Origin {
     Alert { item: usize, span: Option<usize> },

@@ -4,7 +4,7 @@ ghost use Rattle.serde_json.specs.View.{members_view};
 ghost use Rattle.am_cli.specs.Decoding.{HasOr, IsAnswer, IsList};
 ghost use Rattle.am_cli.specs.Read.{Excludes};
 ghost use Rattle.am_plans.specs.Configs.{configs_in};
-ghost use Rattle.am_plans.specs.Decoding.{DecodesToOutage, have_places};
+ghost use Rattle.am_plans.specs.Decoding.{DecodesToOutage, have_targets};
 ghost use Rattle.am_terms.specs.declared.rehearsal.Outage.{Outage};
 
 use crate::configs::Configs;
@@ -12,7 +12,7 @@ use crate::span::Span;
 use crate::target::{check, position};
 use am_cli::duration::duration_or;
 use am_cli::fault::InputFault;
-use am_cli::place::JsonPointer;
+use am_cli::pointer::JsonPointer;
 use am_cli::reader::{FromJson, Object, Reader};
 use am_retry::Answer;
 use am_terms::rehearsal::Outage;
@@ -27,7 +27,7 @@ pub struct OutageItem {
 impl<'v> FromJson<'v> for OutageItem {
     ghost use Rattle.std.specs.Prelude.{true};
 
-    ghost decodes_to = { λ dialect value item. DecodesToOutage dialect value item.outage };
+    ghost decodes_to = { λ mode value item. DecodesToOutage mode value item.outage };
 
     ghost never_refused = { λ _. true };
 
@@ -54,7 +54,7 @@ impl<'v> FromJson<'v> for OutageItem {
 
 /// What is answered; `again`, where it isn't said.
 fn read_answer(outage: &Object<'_, '_>) -> Result<Answer, InputFault>
-    ensures told { IfOk result (HasOr IsAnswer Answer.Again (codes "answer") (members_view outage.now.members)) }
+    ensures decoded { IfOk result (HasOr IsAnswer Answer.Again (codes "answer") (members_view outage.now.members)) }
     ensures refused { IfErr result (Excludes (HasOr IsAnswer Answer.Again (codes "answer") (members_view outage.now.members))) }
 {
     match outage.optional("answer") {
@@ -65,12 +65,12 @@ fn read_answer(outage: &Object<'_, '_>) -> Result<Answer, InputFault>
 
 /// Reads the outages of a story, whose receivers and integrations one of the configurations has.
 pub fn read_outages(top: &Object<'_, '_>, configs: &Configs<'_>) -> Result<Vec<Outage>, InputFault>
-    ensures told { IfOk result (λ outages.
-        HasOr (IsList (DecodesToOutage top.now.dialect)) [] (codes "outages") (members_view top.now.members) outages.items) }
-    ensures places { IfOk result (λ outages. IsTrue (have_places (configs_in configs.now) outages.items)) }
+    ensures decoded { IfOk result (λ outages.
+        HasOr (IsList (DecodesToOutage top.now.mode)) [] (codes "outages") (members_view top.now.members) outages.items) }
+    ensures targets { IfOk result (λ outages. IsTrue (have_targets (configs_in configs.now) outages.items)) }
     ensures refused { IfErr result (Excludes (λ (outages : List Outage).
-        HasOr (IsList (DecodesToOutage top.now.dialect)) [] (codes "outages") (members_view top.now.members) outages
-        × IsTrue (have_places (configs_in configs.now) outages))) }
+        HasOr (IsList (DecodesToOutage top.now.mode)) [] (codes "outages") (members_view top.now.members) outages
+        × IsTrue (have_targets (configs_in configs.now) outages))) }
 {
     let items = top.list_or_none::<OutageItem>("outages")?;
     let outages = outages_of(top.alloc(), items)?;
@@ -80,17 +80,17 @@ pub fn read_outages(top: &Object<'_, '_>, configs: &Configs<'_>) -> Result<Vec<O
 
 /// Refuses the first outage whose receiver or integration no configuration has.
 fn check_outages(alloc: Global, configs: &Configs<'_>, outages: &[Outage]) -> Result<(), InputFault>
-    ensures places { OnOk result (have_places (configs_in configs.now) outages.now ≡ true) }
-    ensures refused { IfErr result (λ _. have_places (configs_in configs.now) outages.now ≡ false) }
+    ensures targets { OnOk result (have_targets (configs_in configs.now) outages.now ≡ true) }
+    ensures refused { IfErr result (λ _. have_targets (configs_in configs.now) outages.now ≡ false) }
 {
     for (index, outage) in outages.iter().enumerate() {
-        let place = JsonPointer::Root;
+        let pointer = JsonPointer::Root;
         check(
             alloc,
             configs,
             outage.receiver.as_str(),
             outage.integration,
-            place.member("outages").item(index),
+            pointer.member("outages").item(index),
         )?;
     }
     Ok(())

@@ -23,7 +23,7 @@ use am_mute::silence::Silence;
 use am_terms::rehearsal::{Action, TimedAction};
 use std::alloc::Global;
 
-/// A plan, and where it stands in the input.
+/// A plan, and where it is in the input.
 #[derive(Drop)]
 struct Planned {
     plan: TimedAction,
@@ -34,16 +34,16 @@ struct Planned {
 
 /// Reads the planned actions of a story, in the order of their times, and where each is in the input.
 pub fn read_plans(top: &Object<'_, '_>) -> Result<(Vec<TimedAction>, Vec<Origin>), InputFault>
-    ensures told { IfOk result (λ read. ArePlannedIn top.now.dialect (members_view top.now.members) read.0.items) }
-    ensures refused { IfErr result (Excludes (ArePlannedWithoutRegexes top.now.dialect (members_view top.now.members))) }
+    ensures decoded { IfOk result (λ read. ArePlannedIn top.now.mode (members_view top.now.members) read.0.items) }
+    ensures refused { IfErr result (Excludes (ArePlannedWithoutRegexes top.now.mode (members_view top.now.members))) }
 {
     let alerts = top.list_or_none::<AlertItem>("alerts")?;
     let silences = top.list_or_none::<SilenceItem>("silences")?;
     Ok(in_order(top.alloc(), alerts, silences)?)
 }
 
-/// The plans that these alerts and silences make, in the order of their moments, those of one moment
-/// in the order of the input; and where each stands there.
+/// The plans that these alerts and silences make, in the order of their times, those of one time
+/// in the order of the input; and where each is there.
 fn in_order(
     alloc: Global,
     alerts: Vec<AlertItem>,
@@ -59,7 +59,7 @@ fn in_order(
     Ok(split(alloc, planned)?)
 }
 
-/// The plans, and where they stand in the input.
+/// The plans, and where they are in the input.
 fn split(
     alloc: Global,
     planned: Vec<Planned>,
@@ -115,7 +115,7 @@ fn add_alert(
     Ok(())
 }
 
-/// Where a span of an alert stands.
+/// Where a span of an alert is.
 fn origin_of(item: usize, number: usize, is_listed: bool) -> Origin {
     Origin::Alert {
         item,
@@ -176,7 +176,7 @@ fn add_silences(
     Ok(())
 }
 
-/// Adds a silence. Its id is its place in the input, from 1.
+/// Adds a silence. Its id is its pointer in the input, from 1.
 fn add_silence(
     alloc: Global,
     item: usize,

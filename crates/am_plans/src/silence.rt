@@ -26,7 +26,7 @@ impl<'v> FromJson<'v> for SilenceItem {
     ghost use Rattle.am_alerts.specs.Matcher.{compare_texts};
     ghost use Rattle.am_plans.specs.Decoding.{DecodesToSilence};
 
-    ghost decodes_to = { λ dialect value silence. DecodesToSilence dialect value silence };
+    ghost decodes_to = { λ mode value silence. DecodesToSilence mode value silence };
 
     ghost never_refused = { λ silence. compare_texts silence.matchers.items };
 
@@ -49,7 +49,7 @@ impl<'v> FromJson<'v> for SilenceItem {
     }
 }
 
-/// The first moment of a silence, and its end.
+/// The first time of a silence, and its end.
 fn read_span(silence: &Object<'_, '_>) -> Result<(u64, u64), InputFault>
     ensures from { IfOk result (λ span. HasOr IsDuration 0 (codes "from") (members_view silence.now.members) span.0) }
     ensures to { IfOk result (λ span. Has IsDuration (codes "to") (members_view silence.now.members) span.1) }

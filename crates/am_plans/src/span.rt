@@ -8,7 +8,7 @@ use am_cli::duration::{duration, duration_or};
 use am_cli::fault::{FaultKind, InputFault};
 use am_cli::reader::{FromJson, Object, Reader};
 
-/// From a moment on, and before another, if there is another (milliseconds from the start).
+/// From a time on, and before another, if there is another (milliseconds from the start).
 #[derive(Clone, Copy)]
 pub struct Span {
     pub from: u64,
@@ -20,7 +20,7 @@ impl Span {
 
     /// Reads the members `from`, the start where it isn't there, and `to` of an object. It isn't empty.
     pub fn of(object: &Object<'_, '_>) -> Result<Span, InputFault>
-        ensures told { IfOk result (DecodesToSpan (members_view object.now.members)) }
+        ensures decoded { IfOk result (DecodesToSpan (members_view object.now.members)) }
         ensures refused { IfErr result (Excludes (DecodesToSpan (members_view object.now.members))) }
     {
         let from = duration_or(object, "from", 0)?;
@@ -29,7 +29,7 @@ impl Span {
     }
 }
 
-/// The end of a span that begins at `from`, if it has one: a later moment.
+/// The end of a span that begins at `from`, if it has one: a later time.
 fn read_end(object: &Object<'_, '_>, from: u64) -> Result<Option<u64>, InputFault>
     ensures to { IfOk result (HasIf IsDuration (codes "to") (members_view object.now.members)) }
     ensures later { IfOk result (λ to. IfSome to (λ to. from < to)) }
@@ -50,7 +50,7 @@ impl<'v> FromJson<'v> for Span {
     ghost use Rattle.std.specs.Prelude.{true};
     ghost use Rattle.am_plans.specs.Decoding.{IsSpan};
 
-    ghost decodes_to = { λ dialect value span. IsSpan dialect value span };
+    ghost decodes_to = { λ mode value span. IsSpan mode value span };
 
     ghost never_refused = { λ _. true };
 

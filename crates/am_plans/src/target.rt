@@ -4,12 +4,12 @@ ghost use Rattle.serde_json.specs.Find.{get_member};
 ghost use Rattle.serde_json.specs.View.{members_view};
 ghost use Rattle.am_cli.specs.Read.{number_in};
 ghost use Rattle.am_plans.specs.Configs.{configs_in};
-ghost use Rattle.am_plans.specs.Decoding.{some_has_place};
+ghost use Rattle.am_plans.specs.Decoding.{some_has_target};
 ghost use Rattle.am_plans.specs.Expected.{member_if};
 
 use crate::configs::Configs;
 use am_cli::fault::{FaultKind, InputFault};
-use am_cli::place::JsonPointer;
+use am_cli::pointer::JsonPointer;
 use am_cli::reader::Object;
 use am_model::config::MAX_INTEGRATIONS;
 use std::alloc::Global;
@@ -19,7 +19,7 @@ pub(crate) const LAST_POSITION: u64 = MAX_INTEGRATIONS as u64 - 1;
 
 /// The position of an integration in its receiver, which is the member `integration`, if it is there.
 pub fn position(object: &Object<'_, '_>) -> Result<Option<u32>, InputFault>
-    ensures told { IfOk result (λ position.
+    ensures decoded { IfOk result (λ position.
         member_if number_in (get_member (codes "integration") (members_view object.now.members)) ≡ Some position) }
     ensures bound { IfOk result (λ position. IfSome position (λ position. position < MAX_INTEGRATIONS)) }
     ensures refused { IfErr result (λ _. (position : Option ℕ) → IfSome position (λ position. position < MAX_INTEGRATIONS)
@@ -32,18 +32,18 @@ pub fn position(object: &Object<'_, '_>) -> Result<Option<u32>, InputFault>
 }
 
 /// Refuses a receiver that no configuration has, and a position that the receiver hasn't in any, at
-/// their members of what stands at this place.
+/// their members of what is at this pointer.
 pub fn check(
     alloc: Global,
     configs: &Configs<'_>,
     receiver: &str,
     position: Option<u32>,
-    place: JsonPointer<'_>,
+    pointer: JsonPointer<'_>,
 ) -> Result<(), InputFault>
-    ensures there { OnOk result (some_has_place (configs_in configs.now) receiver.now position ≡ true) }
-    ensures refused { IfErr result (λ _. some_has_place (configs_in configs.now) receiver.now position ≡ false) }
+    ensures there { OnOk result (some_has_target (configs_in configs.now) receiver.now position ≡ true) }
+    ensures refused { IfErr result (λ _. some_has_target (configs_in configs.now) receiver.now position ≡ false) }
 {
-    if configs.have_place(receiver, position) {
+    if configs.have_target(receiver, position) {
         return Ok(());
     }
     let wrong = if configs.have_receiver(receiver) {
@@ -51,5 +51,5 @@ pub fn check(
     } else {
         "receiver"
     };
-    Err(place.member(wrong).refuse(alloc, FaultKind::BadValue))
+    Err(pointer.member(wrong).refuse(alloc, FaultKind::BadValue))
 }

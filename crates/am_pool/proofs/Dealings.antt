@@ -7,7 +7,7 @@ use Rattle.crossbeam_queue.specs.Fifo.{Pushes, Pops, Forks, Merges, Learns}
 use Rattle.crossbeam_queue.proofs.Lists.{at_set, at_snoc}
 use Rattle.am_pool.specs.declared.limits.TheConstants.{ALL_PARTS}
 use Rattle.am_pool.specs.declared.queue.Hand.{Hand}
-use Rattle.am_pool.specs.Dealt.{hand, weigh, total, numbers, Dealt, IsTake, Told, DealsEachOnce}
+use Rattle.am_pool.specs.Dealt.{hand, weigh, total, numbers, Dealt, IsTake, IsDrained, DealsEachOnce}
 use Rattle.am_pool.proofs.Weights.{weigh-append, weigh-one, numbers-length, numbers-snoc, weigh_next, total_set, total-snoc, total_at}
 use Rattle.am_pool.proofs.Weights.{total_two, total_alone, weigh-pieces, times-numbers}
 
@@ -100,7 +100,7 @@ takes port v more x items views d at =
       (refl, omega (arith, here, first), omega (arith, here, few)),
     )
 
-pub learns : (port : ℕ) (v : Hand) → Learns Dealt port v (Told v)
+pub learns : (port : ℕ) (v : Hand) → Learns Dealt port v (IsDrained v)
 learns port v items views d at empty all h =
     let here : v.put ≡ d.gone + length items = d.put port v at (omega (arith, all)) in
     let alone : total (λ u. weigh h u.taken) views ≡ weigh h v.taken =

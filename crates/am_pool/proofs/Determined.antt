@@ -126,11 +126,11 @@ module _ (answer : ℕ → ℕ → ℕ → ℕ → Sent) (start : ℕ) (notice :
       let outcome = never_both start notice.deadline first.responses one.outcome other.outcome first.has (subst (λ (ts : List Response). Has ts other.outcome) (sym same) second.has) in
       let attempts = first.attempts_are ∙ (ap (λ (ts : List Response). length ts) same ∙ sym second.attempts_are) in
       let ended = first.end_is ∙ (ap (λ (ts : List Response). end_after start ts) same ∙ sym second.end_is) in
-      let desk = first.names.0 ∙ sym second.names.0 in
+      let board_id = first.names.0 ∙ sym second.names.0 in
       let ticket = first.names.1 ∙ sym second.names.1 in
       let integration = first.names.2 ∙ sym second.names.2 in
       λ i. record {
-        desk = desk i;
+        board_id = board_id i;
         ticket = ticket i;
         integration = integration i;
         outcome = outcome i;

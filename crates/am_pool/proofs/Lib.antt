@@ -8,7 +8,7 @@ pub mod Dealings
 pub mod Working
 -- workers brought together, the last first
 pub mod Gatherings
--- reports put into their places, where each number stands once
+-- reports put into their places, where each number is once
 pub mod Placing
 -- what was sent, from what each worker did
 pub mod Sending

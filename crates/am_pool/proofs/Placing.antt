@@ -1,4 +1,4 @@
--- Reports put into their places, where each number stands once.
+-- Reports put into their places, where each number is once.
 use Rattle.std.proofs.Common.{◌≡◌, ◌≢◌, ℕ, zero, suc, ◌+◌, ◌<◌, ◌≤◌, Some, List, [], ◌∷◌, length, set, refl, sym, ap, ◌∙◌, subst, arith}
 use Rattle.std.specs.Prelude.{slice_get}
 use Rattle.std.specs.List.{AllByRecursion}
@@ -35,14 +35,14 @@ pub length_placed : (rs : List Report) (runs : List Run) → length (placed rs r
 length_placed rs [] = refl
 length_placed rs (run ∷ runs) = length_placed (set rs run.0 run.1) runs ∙ length_set rs run.0 run.1
 
--- a place whose number doesn't stand among the runs keeps its report
+-- an index whose number isn't among the runs keeps its report
 kept : (rs : List Report) (runs : List Run) (k : ℕ) → times k (numbers_of runs) ≡ 0 → slice_get (placed rs runs) k ≡ slice_get rs k
 kept rs [] k none = refl
 kept rs (run ∷ runs) k none =
     let n = not_there k run.0 (numbers_of runs) none in
     kept (set rs run.0 run.1) runs k n.1 ∙ get_set_other rs run.0 k run.1 n.0
 
--- the report beside each number stands in its place, where no number stands twice
+-- the report beside each number is in its place, where no number is twice
 pub placed_once : (rs : List Report) (runs : List Run) (all : List Report) → all ≡ placed rs runs
     → ((k : ℕ) → times k (numbers_of runs) ≤ 1) → AllByRecursion (λ (run : Run). run.0 < length rs) runs
     → AllByRecursion (λ (run : Run). slice_get all run.0 ≡ Some run.1) runs
@@ -57,7 +57,7 @@ placed_once rs (run ∷ runs) all e once below =
           (subst (λ (n : ℕ). AllByRecursion (λ (run : Run). run.0 < n) runs) (sym same) below.1),
     )
 
--- a number that stands there is that of a run
+-- a number that is there is that of a run
 pub found : (P : Run → Type 0) (k : ℕ) (runs : List Run) → AllByRecursion P runs → 0 < times k (numbers_of runs)
     → (run : Run) × (run.0 ≡ k) × P run
 found P k [] all there = absurd (omega (arith, there))

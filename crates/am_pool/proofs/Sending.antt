@@ -85,7 +85,7 @@ module _ (h : ℕ → ℕ) where
   weigh_more (r ∷ rs) more =
       omega (arith, weigh-runs (r ++ more) (all_runs rs), weigh-runs r more, weigh-runs r (all_runs rs))
 
--- 1 for a report that tells Starved
+-- 1 for a report that says Starved
 abbrev pub one_starved : Report → ℕ
 one_starved r = cond (is_starved r.outcome) 1 0
 
@@ -243,7 +243,7 @@ module _ {E : Type 0} (jobs : List Job) (tries : E → List Tried) (refusals : E
   are_reports reports old new s =
       record {
         count = s.count;
-        each = λ k job report is told.
+        each = λ k job report is reported.
             let all = all_runs s.runs in
             let below = slice_get_within jobs k job is in
             let once : times k (numbers_of all) ≡ once_below (length jobs) k =
@@ -251,15 +251,15 @@ module _ {E : Type 0} (jobs : List Job) (tries : E → List Tried) (refusals : E
             let there : 0 < times k (numbers_of all) = grind (arith, once, below) in
             let both = each_both (IsOfJob jobs) (IsBeside reports) all (ran_of_jobs s.runs old new s.ran) s.beside in
             let here = found (λ run. IsOfJob jobs run × IsBeside reports run) k all both there in
-            same_report k job report is told here.0 here.1 here.2.0 here.2.1;
+            same_report k job report is reported here.0 here.1 here.2.0 here.2.1;
       }
     where
       same_report : (k : ℕ) (job : Job) (report : Report)
           → slice_get jobs k ≡ Some job → slice_get reports k ≡ Some report
           → (run : Run) → run.0 ≡ k → IsOfJob jobs run → IsBeside reports run → IsReportOf job report
-      same_report k job report is told run e of_job beside =
+      same_report k job report is reported run e of_job beside =
           let same_job : of_job.0 ≡ job = cc (ap (slice_get jobs) e, of_job.1, is) in
-          let same_report : run.1 ≡ report = cc (ap (slice_get reports) e, beside, told) in
+          let same_report : run.1 ≡ report = cc (ap (slice_get reports) e, beside, reported) in
           subst (λ (j : Job). IsReportOf j report) same_job (subst (IsReportOf of_job.0) same_report of_job.2)
 
   pub refused : (reports : List Report) (old new : List E) → Shared jobs tries refusals reports old new

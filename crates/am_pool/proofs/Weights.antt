@@ -46,7 +46,7 @@ weigh-pieces h from (suc m) n =
     let whole = ap (λ (k : ℕ). weigh h (numbers from k)) e in
     omega (arith, whole, weigh-pieces h (from + 1) m n, ap (λ (k : ℕ). weigh h (numbers k n)) f)
 
--- among the numbers below one, each of these stands once, and no other
+-- among the numbers below one, each of these is once, and no other
 pub times-numbers : (k n : ℕ) → times k (numbers 0 n) ≡ once_below n k
 times-numbers k zero = grind (arith, nat_tests)
 times-numbers k (suc n) =

@@ -23,7 +23,7 @@ abbrev pub numbers : ℕ → ℕ → List ℕ
 numbers from zero = []
 numbers from (suc n) = from ∷ numbers (from + 1) n
 
--- how often a number stands in a list
+-- how often a number is in a list
 abbrev pub times : ℕ → List ℕ → ℕ
 times x xs = weigh (λ y. if y == x then 1 else 0) xs
 
@@ -50,10 +50,10 @@ abbrev pub IsAll : Hand → Type 0
 IsAll v = v.parts ≡ ALL_PARTS → (h : ℕ → ℕ) → weigh h v.taken ≡ weigh h (numbers 0 v.put)
 
 -- the same, where nothing is left
-abbrev pub Told : Hand → List ℕ → Type 0
-Told v items = length items ≡ 0 → IsAll v
+abbrev pub IsDrained : Hand → List ℕ → Type 0
+IsDrained v items = length items ≡ 0 → IsAll v
 
--- under the rule, each number that was put stands once in what all hands took and what is left, and no other stands there
+-- under the rule, each number that was put is once in what all hands took and what is left, and no other is there
 abbrev pub DealsEachOnce : Type 0
 DealsEachOnce =
     (items : List ℕ) (views : List Hand) → Dealt items views

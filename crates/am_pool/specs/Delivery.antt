@@ -19,14 +19,14 @@ is_starved Starved = true
 -- a report names the desk, the flush and the integration of a notice
 abbrev pub IsReportOn : NoticeData → Report → Type 0
 IsReportOn notice report =
-    (report.desk ≡ notice.desk) × (report.ticket ≡ notice.ticket) × (report.integration ≡ notice.integration)
+    (report.board_id ≡ notice.board_id) × (report.ticket ≡ notice.ticket) × (report.integration ≡ notice.integration)
 
 -- a notice with this deadline in place of its own
 abbrev pub with_deadline : ℕ → NoticeData → NoticeData
 with_deadline deadline notice = record notice { deadline = deadline }
 
 -- from a start on, a notice was sent by a courier that had made these tries and refusals, and has made those since: there are answers
--- whose tries, as those of the notice, are just the ones that were appended, and whose outcome, number and end the report tells; the
+-- whose tries, as those of the notice, are just the ones that were appended, and whose outcome, number and end the report says; the
 -- courier refused one more attempt exactly where the outcome is Starved, which says that an attempt was due
 pub record IsDelivery (notice : NoticeData) (start : ℕ) (tries : List Tried) (refusals : ℕ)
     (tries_since : List Tried) (refusals_since : ℕ) (report : Report) : Type 0 where

@@ -9,7 +9,7 @@ use Rattle.am_pool.specs.Work.{Run, RanAll, DidWork, numbers_of}
 use Rattle.am_pool.specs.declared.worker.Job.{Job}
 use Rattle.am_pool.specs.declared.worker.Worker.{Worker}
 
--- each worker worked with the courier at its place
+-- each worker worked with the courier at its index
 abbrev pub AllWorked : {E : Type 0} → List Job → (E → List Tried) → (E → ℕ) → List Worker → List Worker → List E → List E → Type 0
 AllWorked jobs tries refusals [] [] [] [] = ⊤
 AllWorked jobs tries refusals (s ∷ ss) (t ∷ ts) (c ∷ cs) (d ∷ ds) =
@@ -61,7 +61,7 @@ all_runs (r ∷ rs) = r ++ all_runs rs
 abbrev pub IsBeside : List Report → Run → Type 0
 IsBeside reports run = slice_get reports run.0 ≡ Some run.1
 
--- each courier ran the jobs of the runs at its place, one after the other, and nothing else
+-- each courier ran the jobs of the runs at its index, one after the other, and nothing else
 abbrev pub AllRan : {E : Type 0} → List Job → (E → List Tried) → (E → ℕ) → List (List Run) → List E → List E → Type 0
 AllRan jobs tries refusals [] [] [] = ⊤
 AllRan jobs tries refusals (r ∷ rs) (c ∷ cs) (d ∷ ds) =
@@ -71,7 +71,7 @@ AllRan jobs tries refusals [] [] (d ∷ ds) = ⊥
 AllRan jobs tries refusals (r ∷ rs) [] ds = ⊥
 AllRan jobs tries refusals (r ∷ rs) (c ∷ cs) [] = ⊥
 
--- the runs of all couriers are those of the jobs, each once, and each report stands in the place of its job
+-- the runs of all couriers are those of the jobs, each once, and each report is in the place of its job
 pub record Shared {E : Type 0} (jobs : List Job) (tries : E → List Tried) (refusals : E → ℕ)
     (reports : List Report) (old new : List E) : Type 0 where
   pub runs : List (List Run)

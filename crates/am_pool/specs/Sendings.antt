@@ -13,7 +13,7 @@ use Rattle.am_pool.specs.declared.courier.Sent.{Sent}
 use Rattle.am_pool.specs.declared.courier.Tried.{Tried}
 use Rattle.am_pool.specs.declared.worker.Job.{Job}
 
--- so many milliseconds after a moment, or the last moment that 64 bits tell
+-- so many milliseconds after a time, or the last time that 64 bits say
 abbrev pub later : ℕ → ℕ → ℕ
 later at milliseconds = min (at + milliseconds) (2 ^ 64 - 1)
 
@@ -21,11 +21,11 @@ later at milliseconds = min (at + milliseconds) (2 ^ 64 - 1)
 abbrev pub sent_in : Tried → Sent
 sent_in t = record { answer = t.answer; ended = t.ended }
 
--- a try went as this function says, of its flush, its integration, its number and its moment
+-- a try went as this function says, of its flush, its integration, its number and its time
 abbrev pub IsAnsweredBy : (ℕ → ℕ → ℕ → ℕ → Sent) → Tried → Type 0
 IsAnsweredBy answer t = sent_in t ≡ answer t.ticket t.integration t.attempt t.at
 
--- a report on a notice that was sent from this moment on, in tries that are answered so: it names the notice, and tells the outcome,
+-- a report on a notice that was sent from this time on, in tries that are answered so: it names the notice, and says the outcome,
 -- the number and the end that the retry rules give for these answers
 pub record IsSending (Answers : Tried → Type 0) (start : ℕ) (notice : NoticeData) (report : Report) : Type 0 where
   pub names : IsReportOn notice report
@@ -47,11 +47,11 @@ IsSentFrom Answers start notice report = IsSending Answers start notice report �
 abbrev pub IsSendingOf : (Tried → Type 0) → Job → Report → Type 0
 IsSendingOf Answers job report = IsSending Answers job.start job.notice.now report
 
--- when the sending of an integration's notice was over, which began at this moment
+-- when the sending of an integration's notice was over, which began at this time
 abbrev pub end_on : ℕ → Option Report → ℕ
 end_on at None = at
 end_on at (Some r) = r.ended
 
--- the note of a notice of a ticket, at this moment and with what is recorded
+-- the note of a notice of a ticket, at this time and with what is recorded
 abbrev pub note_at : ℕ → TicketData → NoticeData → Call
 note_at now t n = call.Note now t.number n.integration (outcome_of t.outcomes n.integration)

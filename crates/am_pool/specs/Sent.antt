@@ -12,7 +12,7 @@ use Rattle.am_pool.specs.declared.fault.PoolFault.{PoolFault}
 use Rattle.am_pool.specs.declared.fault.PoolFault.TheVariants.{NoMemory, TooManyJobs, BadWorkers}
 use Rattle.am_pool.specs.declared.worker.Job.{Job}
 
--- a report of a job: it names the desk, the flush and the integration of the job's notice, and tells the outcome,
+-- a report of a job: it names the desk, the flush and the integration of the job's notice, and says the outcome,
 -- the number and the end of answers to its attempts
 pub record IsReportOf (job : Job) (report : Report) : Type 0 where
   pub names : IsReportOn job.notice.now report
@@ -27,7 +27,7 @@ pub record AreReportsOf (jobs : List Job) (reports : List Report) : Type 0 where
   pub each : (k : ℕ) (job : Job) (report : Report) → slice_get jobs k ≡ Some job → slice_get reports k ≡ Some report
       → IsReportOf job report
 
--- a courier ran job k, and came from these tries and refusals to those; how it went, report k tells
+-- a courier ran job k, and came from these tries and refusals to those; how it went, report k says
 pub record IsRun (jobs : List Job) (reports : List Report) (k : ℕ) (tries : List Tried) (refusals : ℕ)
     (tries_since : List Tried) (refusals_since : ℕ) : Type 0 where
   pub job : Job
@@ -43,7 +43,7 @@ AreRuns jobs reports (k ∷ ks) tries refusals tries_since refusals_since =
     (between : List Tried) × (refused : ℕ) × IsRun jobs reports k tries refusals between refused
     × AreRuns jobs reports ks between refused tries_since refusals_since
 
--- each courier ran the jobs of the numbers at its place, and nothing else
+-- each courier ran the jobs of the numbers at its index, and nothing else
 abbrev pub EachRan : {E : Type 0} → List Job → List Report → (E → List Tried) → (E → ℕ) → List (List ℕ) → List E → List E → Type 0
 EachRan jobs reports tries refusals [] [] [] = ⊤
 EachRan jobs reports tries refusals (ks ∷ kss) (c ∷ cs) (d ∷ ds) =
@@ -53,12 +53,12 @@ EachRan jobs reports tries refusals [] [] (d ∷ ds) = ⊥
 EachRan jobs reports tries refusals (ks ∷ kss) [] ds = ⊥
 EachRan jobs reports tries refusals (ks ∷ kss) (c ∷ cs) [] = ⊥
 
--- how often a number stands in lists
+-- how often a number is in lists
 abbrev pub times_in : ℕ → List (List ℕ) → ℕ
 times_in k [] = 0
 times_in k (ks ∷ kss) = times k ks + times_in k kss
 
--- the couriers shared the jobs: each ran those of its numbers, and over all couriers the number of each job stands once, and no other
+-- the couriers shared the jobs: each ran those of its numbers, and over all couriers the number of each job is once, and no other
 pub record AreSent {E : Type 0} (jobs : List Job) (reports : List Report) (tries : E → List Tried) (refusals : E → ℕ)
     (old new : List E) : Type 0 where
   pub took : List (List ℕ)
@@ -69,7 +69,7 @@ pub record AreSent {E : Type 0} (jobs : List Job) (reports : List Report) (tries
 abbrev pub all_refusals : {E : Type 0} → (E → ℕ) → List E → ℕ
 all_refusals refusals cs = sum_by refusals cs
 
--- how many reports tell Starved
+-- how many reports say Starved
 abbrev pub count_starved : List Report → ℕ
 count_starved reports = count_by (λ r. is_starved r.outcome) reports
 

@@ -5,15 +5,15 @@ use Rattle.am_retry.specs.Attempts.{Try}
 use Rattle.am_pool.specs.declared.courier.Sent.{Sent}
 use Rattle.am_pool.specs.declared.courier.Tried.{Tried}
 
--- what a trace tells of its courier: its tries, and how many attempts it refused
+-- what a trace says of its courier: its tries, and how many attempts it refused
 pub record AttemptTraceData : Type 0 where
   pub tries : List Tried
   pub refusals : ℕ
 
--- an attempt of this number to send a notice, at a moment, and how it went
+-- an attempt of this number to send a notice, at a time, and how it went
 abbrev pub tried : NoticeData → ℕ → ℕ → Sent → Tried
 tried notice attempt at sent = record {
-  desk = notice.desk;
+  board_id = notice.board_id;
   ticket = notice.ticket;
   integration = notice.integration;
   attempt = attempt;

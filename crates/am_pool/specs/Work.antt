@@ -1,7 +1,7 @@
 -- Work: what a worker and its courier did.
 use Rattle.std.specs.Prelude.{◌≡◌, ◌<◌, ◌≤◌, ℕ, false, List, [], ◌∷◌, ◌++◌, length, map, Some, slice_get, vec_len, vec_capacity}
 use Rattle.atomic_table.specs.Seated.{TableId}
-use Rattle.am_alerts.specs.declared.limits.TheConstants.{MAX_MOMENT}
+use Rattle.am_alerts.specs.declared.limits.TheConstants.{MAX_TIME}
 use Rattle.am_model.specs.declared.notice.Report.{Report}
 use Rattle.am_model.specs.Notice.{is_nothing}
 use Rattle.am_pool.specs.Delivery.{IsDelivery, IsReportOn}
@@ -11,9 +11,9 @@ use Rattle.am_pool.specs.Dealt.{hand, IsAll}
 use Rattle.am_pool.specs.declared.worker.Job.{Job}
 use Rattle.am_pool.specs.declared.worker.Worker.{Worker}
 
--- a job that may be sent: it has something to send, and starts at a moment
+-- a job that may be sent: it has something to send, and starts at a time
 abbrev pub IsReady : Job → Type 0
-IsReady j = (is_nothing j.notice.now ≡ false) × (j.start ≤ MAX_MOMENT)
+IsReady j = (is_nothing j.notice.now ≡ false) × (j.start ≤ MAX_TIME)
 
 -- the number of a job that was run, and its report
 abbrev pub Run : Type 0

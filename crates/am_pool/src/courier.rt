@@ -19,7 +19,7 @@ pub struct Sent {
 #[derive(Clone, Copy, Debug, PartialEq, Eq)]
 pub struct Tried {
     /// The id of the notice's board or desk.
-    pub desk: u64,
+    pub board_id: u64,
     /// The number of the notice's flush.
     pub ticket: u64,
     /// The position of the notice's integration in its receiver.
@@ -29,7 +29,7 @@ pub struct Tried {
     /// Its time, in milliseconds.
     pub at: u64,
     pub answer: Answer,
-    /// The end that the courier told.
+    /// The end that the courier reported.
     pub ended: u64,
 }
 
@@ -60,7 +60,7 @@ impl Tried {
         ensures { result ≡ tried notice.now attempt at sent.now }
     {
         Tried {
-            desk: notice.desk,
+            board_id: notice.board_id,
             ticket: notice.ticket,
             integration: notice.integration,
             attempt,

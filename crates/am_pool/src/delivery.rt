@@ -1,7 +1,7 @@
 //! The delivery of one notice. Embedders and the pool's workers call `deliver`, and `am_rehearsal`
 //! calls `deliver_by`.
 ghost use Rattle.std.specs.Prelude.{◌≡◌, ◌≤◌, false};
-ghost use Rattle.am_alerts.specs.declared.limits.TheConstants.{MAX_MOMENT};
+ghost use Rattle.am_alerts.specs.declared.limits.TheConstants.{MAX_TIME};
 ghost use Rattle.am_model.specs.Notice.{is_nothing};
 ghost use Rattle.am_model.specs.declared.notice.TheConstants.{MAX_DEADLINE};
 ghost use Rattle.am_pool.specs.Delivery.{IsDelivery, IsReportOn, with_deadline};
@@ -19,7 +19,7 @@ use am_retry::{Outcome, Retry, Step};
 /// Never allocates itself. Cost: the attempts, at most one for each half second up to the deadline.
 pub fn deliver<C: Courier>(courier: &mut C, notice: &Notice, start: u64) -> Report
     requires something { is_nothing notice.now ≡ false }
-    requires start { start ≤ MAX_MOMENT }
+    requires start { start ≤ MAX_TIME }
     ensures of_notice { IsReportOn notice.now result }
     ensures delivery { IsDelivery notice.now start (C.tries courier.old) (C.refusals courier.old)
         (C.tries courier.new) (C.refusals courier.new) result }
@@ -36,7 +36,7 @@ pub fn deliver<C: Courier>(courier: &mut C, notice: &Notice, start: u64) -> Repo
 pub fn deliver_by<C: Courier>(courier: &mut C, notice: &Notice, deadline: u64, start: u64) -> Report
     requires something { is_nothing notice.now ≡ false }
     requires deadline { deadline ≤ MAX_DEADLINE }
-    requires start { start ≤ MAX_MOMENT }
+    requires start { start ≤ MAX_TIME }
     ensures of_notice { IsReportOn notice.now result }
     ensures delivery { IsDelivery (with_deadline deadline notice.now) start (C.tries courier.old) (C.refusals courier.old)
         (C.tries courier.new) (C.refusals courier.new) result }
@@ -61,7 +61,7 @@ fn report(notice: &Notice, retry: &Retry, outcome: Outcome) -> Report
     ensures ended { result.ended ≡ retry.now.ended }
 {
     Report {
-        desk: notice.desk,
+        board_id: notice.board_id,
         ticket: notice.ticket,
         integration: notice.integration,
         outcome,

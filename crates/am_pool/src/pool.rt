@@ -9,7 +9,7 @@
 //!
 //! The pass that has all parts works once more, with the first courier. It finds no number, and
 //! only a take of its own can prove that each was taken once. So no branch is needed for a job
-//! without a report. The places hold Starved reports from the start, and that none of these is left
+//! without a report. The indexes hold Starved reports from the start, and that none of these is left
 //! follows as well. `DidWork` says what each courier did, by its worker's list. `Shared` says that
 //! each job was run once and has its report in its place.
 ghost use Rattle.std.specs.Prelude.{◌≡◌, ◌<◌, ◌≤◌, ◌+◌, ◌-◌, ℕ, [], None, All, IfOk, OnOk, IfErr, OnErr, length, vec_capacity};
@@ -99,11 +99,11 @@ fn send_all<R: Threads + Wait + Sync, C: Courier + Send>(
     // Every part is in one pass now, and so its worker learns that no number is left.
     let mut last = Worker { pass: whole, done };
     work_first(rt, &queue, jobs, &mut last, couriers);
-    place(&mut reports, last.done.as_slice());
+    put_reports(&mut reports, last.done.as_slice());
     Ok(reports)
 }
 
-/// Each worker works with the courier at its place.
+/// Each worker works with the courier at its index.
 fn work_staff<R: Threads + Wait + Sync, C: Courier + Send>(
     rt: &R,
     queue: &JobQueue,
@@ -142,7 +142,7 @@ fn work_first<R: Wait, C: Courier>(
     work(rt, queue, jobs, worker, courier);
 }
 
-/// Returns the reports that fill the places until the real ones come.
+/// Returns the reports that fill the indexes until the real ones come.
 fn unsent(alloc: Global, jobs: &[Job<'_>]) -> Result<Vec<Report>, AllocError>
     ensures { IfOk result (λ reports. length reports.items ≡ length jobs.now) }
 {
@@ -150,7 +150,7 @@ fn unsent(alloc: Global, jobs: &[Job<'_>]) -> Result<Vec<Report>, AllocError>
     for job in jobs {
         let notice = job.notice;
         reports.push(Report {
-            desk: notice.desk,
+            board_id: notice.board_id,
             ticket: notice.ticket,
             integration: notice.integration,
             outcome: Outcome::Starved,
@@ -233,12 +233,12 @@ fn gather(
     while let Some(worker) = workers.pop() {
         let Worker { pass, done } = worker;
         absorb(queue, whole, pass);
-        place(reports, done.as_slice());
+        put_reports(reports, done.as_slice());
     }
 }
 
 /// Puts reports into their places.
-fn place(reports: &mut Vec<Report>, done: &[(usize, Report)])
+fn put_reports(reports: &mut Vec<Report>, done: &[(usize, Report)])
     requires numbers { AreBelow (length reports.old.items) done.now }
     ensures count { length reports.new.items ≡ length reports.old.items }
     ensures placed { reports.new.items ≡ placed reports.old.items done.now }
@@ -248,7 +248,7 @@ fn place(reports: &mut Vec<Report>, done: &[(usize, Report)])
     }
 }
 
-/// Each worker works with the courier at its place, in a thread of its own where one can be made.
+/// Each worker works with the courier at its index, in a thread of its own where one can be made.
 fn work_all<R: Threads + Wait + Sync, C: Courier + Send>(
     rt: &R,
     queue: &JobQueue,

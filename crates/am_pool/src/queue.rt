@@ -85,9 +85,9 @@ impl Outcome<usize, Hand> for Takes {
 }
 
 impl Lesson<usize, Hand> for Takes {
-    ghost use Rattle.am_pool.specs.Dealt.{Told};
+    ghost use Rattle.am_pool.specs.Dealt.{IsDrained};
 
-    ghost fact = { Told };
+    ghost fact = { IsDrained };
 }
 
 /// The numbers of the jobs that no worker has taken.

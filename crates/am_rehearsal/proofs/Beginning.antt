@@ -11,15 +11,15 @@ use Rattle.am_rehearsal.proofs.Scenes.{same_scene, scene_of}
 use Rattle.am_rehearsal.specs.EventOrder.{begin_indices}
 use Rattle.am_rehearsal.specs.Scene.{Scene, SendingData, Setting}
 use Rattle.am_rehearsal.specs.Steps.{IsBegun, IsDone, IsReplied, IsSendingAdded, after_taking}
-use Rattle.am_rehearsal.specs.Taking.{IsBeginBy, IsTaken, why_not}
+use Rattle.am_rehearsal.specs.Taking.{IsBeginBy, IsTaken, cause_of_none}
 use Rattle.am_terms.specs.declared.event.Event.{Event}
 use Rattle.am_rehearsal.specs.declared.next.Step.TheVariants as step
 use Rattle.am_rehearsal.specs.declared.taken.Taken.TheVariants.{Flush, Nothing, Quiet}
 
 module _ (r : Setting) (c : Scene) (at : ℕ) where
   -- a begin with this reply is done
-  done_by : (d : Scene) (b : BoardData) (es : List Event) (told : Reply) → IsBeginBy c.board c.events at b es told → IsReplied r c at d told → IsDone r c at d step.Begin
-  done_by d b es told by replied =
+  done_by : (d : Scene) (b : BoardData) (es : List Event) (returned : Reply) → IsBeginBy c.board c.events at b es returned → IsReplied r c at d returned → IsDone r c at d step.Begin
+  done_by d b es returned by replied =
       subst (IsBegun r c at d) (sym by.allowed) (subst (IsReplied r c at d) (sym by.replied) replied)
 
   module _ (b : BoardData) (es : List Event) (ss : List SendingData) (in_flight : ss ≡ c.sendings) where
@@ -37,11 +37,11 @@ module _ (r : Setting) (c : Scene) (at : ℕ) where
     pub begin_flush : (t : TicketData) (begin : ℕ) (d : Scene) → IsTaken c.board c.events at b es (Flush t) → begin ≡ length (begin_indices c.events)
         → IsSendingAdded r at t begin (scene_of b es c.plans ss at c.maintenance true c.blocked) d → IsDone r c at d step.Begin
     begin_flush t begin d flush count added =
-        let told : Reply = flush_reply t.number t.group t.deadline t.notices in
-        let fresh : TicketData = record { desk = c.board.id; number = t.number; group = t.group; deadline = t.deadline; notices = t.notices; outcomes = [] } in
+        let returned : Reply = flush_reply t.number t.group t.deadline t.notices in
+        let fresh : TicketData = record { board_id = c.board.id; number = t.number; group = t.group; deadline = t.deadline; notices = t.notices; outcomes = [] } in
         let is : t ≡ fresh =
         λ i. record {
-          desk = flush.0 i;
+          board_id = flush.0 i;
           number = t.number;
           group = t.group;
           deadline = t.deadline;
@@ -49,15 +49,15 @@ module _ (r : Setting) (c : Scene) (at : ℕ) where
           outcomes = flush.1 i;
         }
         in
-        let scene : scene_of b es c.plans ss at c.maintenance true c.blocked ≡ after_taking c at told =
+        let scene : scene_of b es c.plans ss at c.maintenance true c.blocked ≡ after_taking c at returned =
         same_scene c.plans at c.maintenance true c.blocked flush.2.board flush.2.events_are in_flight
         in
-        done_by d b es told flush.2
+        done_by d b es returned flush.2
         (subst (λ (x : Scene). IsSendingAdded r at fresh (length (begin_indices c.events)) x d) scene
         (subst (λ (n : ℕ). IsSendingAdded r at fresh n (scene_of b es c.plans ss at c.maintenance true c.blocked) d) count
         (subst (λ (u : TicketData). IsSendingAdded r at u begin (scene_of b es c.plans ss at c.maintenance true c.blocked) d) is added)))
 
-    pub begin_refused : why_not c.board at ≡ Some TooManyOpen → b ≡ c.board → es ≡ c.events
+    pub begin_refused : cause_of_none c.board at ≡ Some TooManyOpen → b ≡ c.board → es ≡ c.events
         → IsDone r c at (scene_of b es c.plans ss at c.maintenance false true) step.Begin
     begin_refused why board events =
         subst (IsBegun r c at (scene_of b es c.plans ss at c.maintenance false true)) (sym why)

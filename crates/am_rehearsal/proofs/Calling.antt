@@ -8,19 +8,19 @@ use Rattle.am_board.specs.declared.begin.Begun.{Begun as Answer}
 use Rattle.am_board.specs.declared.begin.Begun.TheVariants as answer
 use Rattle.am_model.specs.declared.config.Integration.{Integration}
 use Rattle.am_model.specs.declared.fault.Fault.{Fault}
-use Rattle.am_model.specs.declared.fault.Fault.TheVariants.{NoMemory, TooManyNames, TooManyGroups, TooManySilences, TooManyOpen, HistoryFull}
+use Rattle.am_model.specs.declared.fault.Fault.TheVariants.{NoMemory, TooManyAlerts, TooManyGroups, TooManySilences, TooManyOpen, HistoryFull}
 use Rattle.am_model.specs.declared.fault.NoteFault.{NoteFault}
 use Rattle.am_model.specs.declared.fault.NoteFault.TheVariants as note
 use Rattle.am_model.specs.declared.preview.Preview.{Preview}
 use Rattle.am_model.specs.declared.record.Call.{Call}
 use Rattle.am_model.specs.declared.record.Record.{Record}
 use Rattle.am_model.specs.declared.record.Reply.{Reply}
-use Rattle.am_model.specs.Begin.{asked_of, begun, reply_asking, reply_taking, taken}
+use Rattle.am_model.specs.Begin.{notified_of, begun, reply_notifying, reply_taking, taken}
 use Rattle.am_model.specs.Causes.{note_cause}
 use Rattle.am_model.specs.Notice.{NoticeData}
 use Rattle.am_model.specs.Records.{IsNoteOf, entry}
 use Rattle.am_model.specs.Replay.{reply}
-use Rattle.am_model.specs.State.{GroupState, moment}
+use Rattle.am_model.specs.State.{GroupState, time}
 use Rattle.am_model.specs.Ticket.{TicketData}
 use Rattle.am_model.specs.look_back.Past.{past_of}
 use Rattle.am_model.specs.look_back.Preview.{preview, preview_on}
@@ -33,43 +33,43 @@ use Rattle.am_terms.specs.declared.event.Event.{Event}
 use Rattle.am_rehearsal.specs.declared.taken.Taken.{Taken}
 use Rattle.am_rehearsal.specs.declared.taken.Taken.TheVariants.{Flush}
 
--- a call was told its reply
-pub called_is : (old new : BoardData) (c : Call) (told : Reply) → IsReplyAt old c told → new ≡ with_record old (entry 0 c told) → new ≡ with_call old c
-called_is old new c told is recorded =
+-- a call returned its reply
+pub called_is : (old new : BoardData) (c : Call) (returned : Reply) → IsReplyAt old c returned → new ≡ with_record old (entry 0 c returned) → new ≡ with_call old c
+called_is old new c returned is recorded =
     recorded ∙ sym (ap (λ (o : Option Reply). option_map_or (λ t. with_record old (entry 0 c t)) o old) is)
 
 -- a call that is no legal one changes nothing
 pub uncalled_is : (old new : BoardData) (c : Call) → reply old.config old.id (state_at old) c ≡ None → new ≡ old → new ≡ with_call old c
 uncalled_is old new c none same = same ∙ sym (ap (λ (o : Option Reply). option_map_or (λ t. with_record old (entry 0 c t)) o old) none)
 
-module _ (at : ℕ) (t : TicketData) (place : ℕ) (old new : BoardData) where
+module _ (at : ℕ) (t : TicketData) (index : ℕ) (old new : BoardData) where
   abbrev cause : Option NoteFault
-  cause = note_cause old.config old.id (records_at old) (state_at old) t place
+  cause = note_cause old.config old.id (records_at old) (state_at old) t index
 
   -- a board with the note of this notice, where this is the cause against it
   abbrev noted_if : Option NoteFault → Option NoticeData → BoardData
   noted_if why n = if is_none why then option_map_or (λ n. with_call old (note_at at t n)) n old else old
 
   -- a note that was taken
-  pub noted_is : cause ≡ None → (r : Record) × IsNoteOf 0 at t place r × (new ≡ with_record old r) × IsReplyAt old r.call r.reply → new ≡ with_note at t place old
+  pub noted_is : cause ≡ None → (r : Record) × IsNoteOf 0 at t index r × (new ≡ with_record old r) × IsReplyAt old r.call r.reply → new ≡ with_note at t index old
   noted_is free noted =
       let r : Record = noted.0 in
       let n : NoticeData = noted.1.0 in
       let call : Call = note_at at t n in
-      let is : r ≡ entry 0 call r.reply = noted.1.2 ∙ ap (λ (told : Reply). entry 0 call told) (sym (ap (λ (q : Record). q.reply) noted.1.2)) in
-      let told : IsReplyAt old call r.reply = subst (λ (c : Call). IsReplyAt old c r.reply) (ap (λ (q : Record). q.call) noted.1.2) noted.3 in
-      called_is old new call r.reply told (noted.2 ∙ ap (with_record old) is)
+      let is : r ≡ entry 0 call r.reply = noted.1.2 ∙ ap (λ (returned : Reply). entry 0 call returned) (sym (ap (λ (q : Record). q.reply) noted.1.2)) in
+      let returned : IsReplyAt old call r.reply = subst (λ (c : Call). IsReplyAt old c r.reply) (ap (λ (q : Record). q.call) noted.1.2) noted.3 in
+      called_is old new call r.reply returned (noted.2 ∙ ap (with_record old) is)
       ∙ sym (ap (λ (o : Option NoticeData). noted_if None o) noted.1.1)
-      ∙ sym (ap (λ (o : Option NoteFault). noted_if o (slice_get t.notices place)) free)
+      ∙ sym (ap (λ (o : Option NoteFault). noted_if o (slice_get t.notices index)) free)
 
   -- a note that wasn't
-  pub unnoted_is : (fault : NoteFault) → cause ≡ Some fault → new ≡ old → new ≡ with_note at t place old
-  unnoted_is fault is same = same ∙ sym (ap (λ (o : Option NoteFault). noted_if o (slice_get t.notices place)) is)
+  pub unnoted_is : (fault : NoteFault) → cause ≡ Some fault → new ≡ old → new ≡ with_note at t index old
+  unnoted_is fault is same = same ∙ sym (ap (λ (o : Option NoteFault). noted_if o (slice_get t.notices index)) is)
 
 module _ (b : BoardData) (at begin : ℕ) where
   -- when the begin is
   abbrev when : ℕ
-  when = moment (state_at b) at
+  when = time (state_at b) at
 
   -- what is previewed of a group
   abbrev shows : GroupState → Preview
@@ -77,20 +77,20 @@ module _ (b : BoardData) (at begin : ℕ) where
 
   -- the event of a reply is the same with this preview
   abbrev IsShown : Reply → Option Preview → Type 0
-  IsShown told p = begun_where p (takes_group told) begin ≡ begun_events (takes_group told) begin
+  IsShown returned p = begun_where p (takes_group returned) begin ≡ begun_events (takes_group returned) begin
 
-  shown_asking : (g : GroupState) (asked : List (ℕ × Integration)) → IsShown (reply_asking b.config b.id (state_at b) when g asked) (Some (shows g))
-  shown_asking g [] = refl
-  shown_asking g (i ∷ is) = refl
+  shown_notifying : (g : GroupState) (notified : List (ℕ × Integration)) → IsShown (reply_notifying b.config b.id (state_at b) when g notified) (Some (shows g))
+  shown_notifying g [] = refl
+  shown_notifying g (i ∷ is) = refl
 
   shown_taking : (o : Option GroupState) → IsShown (reply_taking b.config b.id (state_at b) when o) (option_map shows o)
   shown_taking None = refl
-  shown_taking (Some g) = shown_asking g (asked_of b.config (state_at b) when g)
+  shown_taking (Some g) = shown_notifying g (notified_of b.config (state_at b) when g)
 
   -- a begin that took a group has a preview
-  pub begun_shown : (told : Reply) (p : Option Preview) → begun b.config b.id (state_at b) when ≡ told → p ≡ preview b.config b.history at → IsShown told p
-  begun_shown told p is shown =
-      subst (λ (o : Option Preview). IsShown told o) (sym shown)
+  pub begun_shown : (returned : Reply) (p : Option Preview) → begun b.config b.id (state_at b) when ≡ returned → p ≡ preview b.config b.history at → IsShown returned p
+  begun_shown returned p is shown =
+      subst (λ (o : Option Preview). IsShown returned o) (sym shown)
       (subst (λ (r : Reply). IsShown r (preview b.config b.history at)) is (shown_taking (taken (state_at b) when)))
 
 -- what a begin came to, by what the board answered
@@ -107,23 +107,23 @@ pub own_is : (begun : Answer) (ticket own : TicketData) → begun ≡ answer.Flu
 own_is begun ticket own is same = subst (λ (a : Answer). IsOwn a (Flush own)) (sym is) (ap (λ (t : TicketData). Flush t) same)
 
 -- a board's fault is that of memory, or the first cause
-pub answered : (cause : Option Fault) (told : Fault) → IsAnswer cause told → (told ≡ NoMemory) ⊎ (cause ≡ Some told)
-answered None told answer = inl answer
-answered (Some NoMemory) told answer = inl answer
-answered (Some TooManyNames) told answer = inr (ap (λ (f : Fault). Some f) (sym answer))
-answered (Some TooManyGroups) told answer =
+pub answered : (cause : Option Fault) (returned : Fault) → IsAnswer cause returned → (returned ≡ NoMemory) ⊎ (cause ≡ Some returned)
+answered None returned answer = inl answer
+answered (Some NoMemory) returned answer = inl answer
+answered (Some TooManyAlerts) returned answer = inr (ap (λ (f : Fault). Some f) (sym answer))
+answered (Some TooManyGroups) returned answer =
     elim answer [ inl other ↦ inr (ap (λ (f : Fault). Some f) (sym other)) | inr memory ↦ inl memory ]
-answered (Some TooManySilences) told answer = inr (ap (λ (f : Fault). Some f) (sym answer))
-answered (Some TooManyOpen) told answer =
+answered (Some TooManySilences) returned answer = inr (ap (λ (f : Fault). Some f) (sym answer))
+answered (Some TooManyOpen) returned answer =
     elim answer [ inl other ↦ inr (ap (λ (f : Fault). Some f) (sym other)) | inr memory ↦ inl memory ]
-answered (Some HistoryFull) told answer = inr (ap (λ (f : Fault). Some f) (sym answer))
+answered (Some HistoryFull) returned answer = inr (ap (λ (f : Fault). Some f) (sym answer))
 
 -- where as many flushes are open as may be, that is the cause
-pub open_cause : (cause : Option Fault) (told : Fault) → told ≡ TooManyOpen → (told ≡ NoMemory) ⊎ (cause ≡ Some told) → cause ≡ Some TooManyOpen
-open_cause cause told is why =
+pub open_cause : (cause : Option Fault) (returned : Fault) → returned ≡ TooManyOpen → (returned ≡ NoMemory) ⊎ (cause ≡ Some returned) → cause ≡ Some TooManyOpen
+open_cause cause returned is why =
     elim why [ inl memory ↦ absurd (cc (is, memory)) | inr because ↦ because ∙ ap (λ (f : Fault). Some f) is ]
 
 -- a note is refused for its cause, but for want of memory
-pub note_caused : (cause : Option NoteFault) (told : NoteFault) → (told ≡ note.NoMemory → ⊥) → IsNoteAnswer cause told → cause ≡ Some told
-note_caused None told other answer = absurd (other answer)
-note_caused (Some why) told other answer = ap (λ (f : NoteFault). Some f) (sym answer)
+pub note_caused : (cause : Option NoteFault) (returned : NoteFault) → (returned ≡ note.NoMemory → ⊥) → IsNoteAnswer cause returned → cause ≡ Some returned
+note_caused None returned other answer = absurd (other answer)
+note_caused (Some why) returned other answer = ap (λ (f : NoteFault). Some f) (sym answer)

@@ -5,7 +5,7 @@ use Rattle.std.specs.Option.{IsSomeAnd}
 use Rattle.std.proofs.lemmas.Bool.{false≢true, leb-true}
 use Rattle.std.proofs.lemmas.Bool.Decides.{nat_tests}
 use Rattle.std.proofs.lemmas.Option.{slice_get_within}
-use Rattle.am_rehearsal.specs.Courses.{IsThere}
+use Rattle.am_rehearsal.specs.Simulations.{IsThere}
 use Rattle.am_rehearsal.specs.Next.{begin_due, begins_on, comes_by, earlier, in_time, next, next_at, next_begin, next_but_begins, next_end, next_end_of, next_finish, next_of_all, none_left, next_plan}
 use Rattle.am_rehearsal.specs.Scene.{Scene, SendingData, Setting}
 use Rattle.am_rehearsal.specs.declared.next.End.{End}

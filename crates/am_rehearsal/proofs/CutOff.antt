@@ -92,6 +92,6 @@ module _ (cut : ℕ) (outages : List Outage) (receiver : List ℕ) (start : ℕ)
       )
 
 pub sendings_end : SendingsEndByCut
-sendings_end cut outages receiver at place n e is =
+sendings_end cut outages receiver at index n e is =
     let ends = report_ends cut outages receiver at n e.report is.2 in
     (subst (λ (m : ℕ). m ≤ max at cut) (sym is.1) ends.0, ends.1)

@@ -45,10 +45,10 @@ input_trace-over old new (Ok x) accepted refused = input_trace-same old new acce
 input_trace-over old new (Err e) accepted refused = ap input_trace refused
 
 -- what was done in the end, if there was no trouble
-pub done_if_ok : {X P E : Type 0} (result : Result P E) (board_of : P → BoardData) (trouble : Option X) (last all : InputTrace)
-    → IfOk result (λ _. trouble ≡ None) → IfOk result (λ p. input_trace (board_of p) ≡ last) → (trouble ≡ None → last ≡ all) → IfOk result (λ p. input_trace (board_of p) ≡ all)
-done_if_ok (Ok p) board_of trouble last all none same untroubled = same ∙ untroubled none
-done_if_ok (Err e) board_of trouble last all none same untroubled = tt
+pub done_if_ok : {X P E : Type 0} (result : Result P E) (board_of : P → BoardData) (fault : Option X) (last all : InputTrace)
+    → IfOk result (λ _. fault ≡ None) → IfOk result (λ p. input_trace (board_of p) ≡ last) → (fault ≡ None → last ≡ all) → IfOk result (λ p. input_trace (board_of p) ≡ all)
+done_if_ok (Ok p) board_of fault last all none same untroubled = same ∙ untroubled none
+done_if_ok (Err e) board_of fault last all none same untroubled = tt
 
 pub config_of-input_trace : (board : BoardData) (done : InputTrace) → input_trace board ≡ done → board.config ≡ done.config
 unfolding input_trace

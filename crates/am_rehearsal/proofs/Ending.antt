@@ -10,8 +10,8 @@ use Rattle.std.proofs.lemmas.List.Sums.{sum_by-remove, sum_by-set, sum_by_push}
 use Rattle.std.proofs.lemmas.Option.{get_or_from_slice_get, slice_get_within}
 use Rattle.am_board.specs.History.{BoardData, records_at, state_at, with_record}
 use Rattle.am_model.proofs.configuration.Faultless.{few_integrations}
-use Rattle.am_model.proofs.configuration.FewAsked.{few_asked}
-use Rattle.am_model.specs.Begin.{asked_of, begun, notice_for, reply_asking, reply_taking, taken}
+use Rattle.am_model.proofs.configuration.FewNotified.{few_notified}
+use Rattle.am_model.specs.Begin.{notified_of, begun, notice_for, reply_notifying, reply_taking, taken}
 use Rattle.am_model.specs.Causes.{insert_cause, is_full, note_cause, silence_cause}
 use Rattle.am_model.specs.Config.{config_fault}
 use Rattle.am_model.specs.Configured.{HaveFewIntegrations}
@@ -19,9 +19,9 @@ use Rattle.am_model.specs.Insert.{inserted}
 use Rattle.am_model.specs.Notice.{NoticeData}
 use Rattle.am_model.specs.Records.{call_of_silence, entry}
 use Rattle.am_model.specs.Replay.{reply as reply_to}
-use Rattle.am_model.specs.State.{GroupState, State, moment}
+use Rattle.am_model.specs.State.{GroupState, State, time}
 use Rattle.am_model.specs.Ticket.{TicketData}
-use Rattle.am_model.specs.Upkeep.{maintained, silenced}
+use Rattle.am_model.specs.Maintenance.{maintained, silenced}
 use Rattle.am_model.specs.declared.config.Config.{Config}
 use Rattle.am_model.specs.declared.config.Integration.{Integration}
 use Rattle.am_model.specs.declared.config.TheConstants.{MAX_INTEGRATIONS}
@@ -36,15 +36,15 @@ use Rattle.am_mute.specs.Silence.{silence_of}
 use Rattle.am_pool.specs.Sendings.{note_at}
 use Rattle.am_pool.specs.declared.courier.Sent.{Sent}
 use Rattle.am_rehearsal.proofs.Coming.{next_there}
-use Rattle.am_rehearsal.proofs.Loading.{load_taken, load_told, load_unfull, no_cause}
+use Rattle.am_rehearsal.proofs.Loading.{load_taken, load_reply, load_unfull, no_cause}
 use Rattle.am_rehearsal.specs.Answers.{AreEndsOf}
-use Rattle.am_rehearsal.specs.Courses.{IsAllowed, IsThereFor}
+use Rattle.am_rehearsal.specs.Simulations.{IsAllowed, IsThereFor}
 use Rattle.am_rehearsal.specs.Next.{next}
 use Rattle.am_rehearsal.specs.Planned.{call_of, refuses}
 use Rattle.am_rehearsal.specs.Scene.{Scene, SendingData, Setting}
 use Rattle.am_rehearsal.specs.Steps.{IsBegun, IsDone, IsPlanDone, IsReplied, Steps, after_end, after_end_of, after_finish, after_maintenance, after_nothing, after_plan, after_taking, after_too_many, answers_for, is_success, with_call, with_note, with_report, with_sending}
-use Rattle.am_rehearsal.specs.Taking.{why_not}
-use Rattle.am_rehearsal.specs.WhyNot.{own_cause}
+use Rattle.am_rehearsal.specs.Taking.{cause_of_none}
+use Rattle.am_rehearsal.specs.CauseOfFault.{own_cause}
 use Rattle.am_rehearsal.specs.declared.next.End.{End}
 use Rattle.am_rehearsal.specs.declared.next.Next.{Next}
 use Rattle.am_rehearsal.specs.declared.next.Step.{Step}
@@ -86,32 +86,32 @@ falls_recorded limit n m f g b d a e room one less = omega (arith, room, one, le
 called_grows : (b : BoardData) (c : Call) → calls_of b ≤ calls_of (with_call b c)
 called_grows b c = by (reply_to b.config b.id (state_at b) c)
   where
-    by : (o : Option Reply) → calls_of b ≤ calls_of (option_map_or (λ told. with_record b (entry 0 c told)) o b)
+    by : (o : Option Reply) → calls_of b ≤ calls_of (option_map_or (λ returned. with_record b (entry 0 c returned)) o b)
     by None = omega arith
-    by (Some told) = omega (arith, length_push b.history (entry 0 c told))
+    by (Some returned) = omega (arith, length_push b.history (entry 0 c returned))
 
-noted_grows : (at : ℕ) (t : TicketData) (place : ℕ) (b : BoardData) → calls_of b ≤ calls_of (with_note at t place b)
-noted_grows at t place b = by (is_none (note_cause b.config b.id (records_at b) (state_at b) t place)) (slice_get t.notices place)
+noted_grows : (at : ℕ) (t : TicketData) (index : ℕ) (b : BoardData) → calls_of b ≤ calls_of (with_note at t index b)
+noted_grows at t index b = by (is_none (note_cause b.config b.id (records_at b) (state_at b) t index)) (slice_get t.notices index)
   where
     by : (free : Bool) (n : Option NoticeData) → calls_of b ≤ calls_of (if free then option_map_or (λ n. with_call b (note_at at t n)) n b else b)
     by true None = omega arith
     by true (Some n) = called_grows b (note_at at t n)
     by false n = omega arith
 
-ended_grows : (success : Bool) (at : ℕ) (t : TicketData) (place : ℕ) (b : BoardData) → calls_of b ≤ calls_of (if success then with_note at t place b else b)
-ended_grows true at t place b = noted_grows at t place b
-ended_grows false at t place b = omega arith
+ended_grows : (success : Bool) (at : ℕ) (t : TicketData) (index : ℕ) (b : BoardData) → calls_of b ≤ calls_of (if success then with_note at t index b else b)
+ended_grows true at t index b = noted_grows at t index b
+ended_grows false at t index b = omega arith
 
 -- a call that has a reply adds one
-called_adds : (b : BoardData) (c : Call) (told : Reply) → reply_to b.config b.id (state_at b) c ≡ Some told → calls_of (with_call b c) ≡ calls_of b + 1
-called_adds b c told is =
-    ap (λ (o : Option Reply). calls_of (option_map_or (λ t. with_record b (entry 0 c t)) o b)) is ∙ length_push b.history (entry 0 c told)
+called_adds : (b : BoardData) (c : Call) (returned : Reply) → reply_to b.config b.id (state_at b) c ≡ Some returned → calls_of (with_call b c) ≡ calls_of b + 1
+called_adds b c returned is =
+    ap (λ (o : Option Reply). calls_of (option_map_or (λ t. with_record b (entry 0 c t)) o b)) is ∙ length_push b.history (entry 0 c returned)
 
 planned_adds : (b : BoardData) (at : ℕ) (act : Action) → refuses b at act ≡ false → calls_of (with_call b (call_of at act)) ≡ calls_of b + 1
 planned_adds b at (Insert alert) taken = called_adds b (call.Insert at alert) (reply.Inserted (inserted b.config (state_at b) alert)) refl
 planned_adds b at (Silence silence) taken =
     called_adds b (call_of_silence at silence) (reply.Silenced (silenced (state_at b) (silence_of silence.id silence.matchers silence.start silence.end))) refl
-planned_adds b at (Load row) taken = called_adds b (call.Load at row) (load_told b at row) (load_taken b at row taken)
+planned_adds b at (Load row) taken = called_adds b (call.Load at row) (load_reply b at row) (load_taken b at row taken)
 
 -- a history that isn't full has room
 room_of : (config : Config) (records : ℕ) (s : State) (more : ℕ) → 0 < more → is_full config records s more ≡ false → records < config.limits.history
@@ -148,7 +148,7 @@ module _ (b : BoardData) where
     maintain_room : (at : ℕ) → own_cause b at step.Maintenance ≡ None → HasRoom
     maintain_room at none = has_room 1 (omega arith) (unfull (is_full_for 1) fault.HistoryFull None none)
 
-    begin_room : (at : ℕ) → why_not b at ≡ None → HasRoom
+    begin_room : (at : ℕ) → cause_of_none b at ≡ None → HasRoom
     begin_room at none = has_room 2 (omega arith) (unfull (is_full_for 2) fault.HistoryFull _ none)
 
 -- how many notices a reply has
@@ -165,27 +165,27 @@ notices_in (reply.Loaded loaded) = 0
 notices_in reply.Noted = 0
 
 module _ (config : Config) (id : ℕ) (s : State) (t : ℕ) (few : HaveFewIntegrations config) where
-  few_asking : (g : GroupState) (asked : List (ℕ × Integration)) → length asked ≤ MAX_INTEGRATIONS
-      → notices_in (reply_asking config id s t g asked) ≤ MAX_INTEGRATIONS
-  few_asking g [] most = omega arith
-  few_asking g (i ∷ is) most =
+  few_notifying : (g : GroupState) (notified : List (ℕ × Integration)) → length notified ≤ MAX_INTEGRATIONS
+      → notices_in (reply_notifying config id s t g notified) ≤ MAX_INTEGRATIONS
+  few_notifying g [] most = omega arith
+  few_notifying g (i ∷ is) most =
       let count : length (map (notice_for config id s t g) (i ∷ is)) ≡ length (i ∷ is) = length-map (i ∷ is) (notice_for config id s t g) in
       omega (arith, most, count)
 
   few_taking : (o : Option GroupState) → notices_in (reply_taking config id s t o) ≤ MAX_INTEGRATIONS
   few_taking None = omega arith
-  few_taking (Some g) = few_asking g (asked_of config s t g) (few_asked config s t g few)
+  few_taking (Some g) = few_notifying g (notified_of config s t g) (few_notified config s t g few)
 
   -- a begin has at most eight notices
   few_notices : notices_in (begun config id s t) ≤ MAX_INTEGRATIONS
   few_notices = few_taking (taken s t)
 
 -- as many notices have as many ends
-ends_counted : (answer : ℕ → ℕ → ℕ → ℕ → Sent) (cut : Option ℕ) (at place : ℕ) (ns : List NoticeData) (es : List End) → AreEndsOf answer cut at place ns es → length es ≡ length ns
-ends_counted answer cut at place [] [] are = refl
-ends_counted answer cut at place [] (e ∷ es) are = absurd are
-ends_counted answer cut at place (n ∷ ns) [] are = absurd are
-ends_counted answer cut at place (n ∷ ns) (e ∷ es) are = ap (λ (k : ℕ). suc k) (ends_counted answer cut at (place + 1) ns es are.1)
+ends_counted : (answer : ℕ → ℕ → ℕ → ℕ → Sent) (cut : Option ℕ) (at index : ℕ) (ns : List NoticeData) (es : List End) → AreEndsOf answer cut at index ns es → length es ≡ length ns
+ends_counted answer cut at index [] [] are = refl
+ends_counted answer cut at index [] (e ∷ es) are = absurd are
+ends_counted answer cut at index (n ∷ ns) [] are = absurd are
+ends_counted answer cut at index (n ∷ ns) (e ∷ es) are = ap (λ (k : ℕ). suc k) (ends_counted answer cut at (index + 1) ns es are.1)
 
 some_of : {X : Type 0} (o : Option X) (P : X → Type 0) → IsSomeAnd o P → (x : X) × (o ≡ Some x) × P x
 some_of None P h = absurd h
@@ -252,7 +252,7 @@ module _ (r : Setting) (c d : Scene) (whole : c.board.handed ≡ []) where
       let less = flight_end c.sendings position index s t e at.1 ending.1 refl in
       falls_to (after_end c position s index e) ending.2
       (falls_beside limit records _ flight (in_flight (slice_set c.sendings position t)) comes comes goes goes
-      (ended_grows (is_success e.report) e.at (with_report e.report s.ticket) e.place c.board) (omega (arith, less)))
+      (ended_grows (is_success e.report) e.at (with_report e.report s.ticket) e.index c.board) (omega (arith, less)))
 
   finished : (position : ℕ) → IsDone r c 0 d (step.Finish position) → Falls
   finished position done =
@@ -273,49 +273,49 @@ module _ (r : Setting) (c d : Scene) (whole : c.board.handed ≡ []) where
   maintained_falls at none is =
       falls_to (after_maintenance r c at) is
       (falls_recorded limit records _ flight flight comes comes goes goes (maintain_room c.board whole at none)
-      (called_adds c.board (call.Maintain at) (reply.Maintained (maintained (state_at c.board) (moment (state_at c.board) at))) refl) (omega arith))
+      (called_adds c.board (call.Maintain at) (reply.Maintained (maintained (state_at c.board) (time (state_at c.board) at))) refl) (omega arith))
 
   module _ (at : ℕ) (few : HaveFewIntegrations c.board.config) where
-    abbrev told_of : Reply
-    told_of = begun c.board.config c.board.id (state_at c.board) (moment (state_at c.board) at)
+    abbrev taken_reply : Reply
+    taken_reply = begun c.board.config c.board.id (state_at c.board) (time (state_at c.board) at)
 
     -- a begin that was accepted
-    replied : (told : Reply) → told_of ≡ told → calls_of c.board < limit → IsReplied r c at d told → Falls
-    replied reply.NothingDue told room is =
+    replied : (returned : Reply) → taken_reply ≡ returned → calls_of c.board < limit → IsReplied r c at d returned → Falls
+    replied reply.NothingDue returned room is =
         falls_to (after_nothing c at) is
         (falls_recorded limit records _ flight flight comes comes goes 0 room (length_push c.board.history (entry 0 (call.Begin at) reply.NothingDue)) (omega arith))
-    replied (reply.Quiet group removed) told room is =
+    replied (reply.Quiet group removed) returned room is =
         falls_to (after_taking c at (reply.Quiet group removed)) is
         (falls_recorded limit records _ flight flight comes comes goes 1 room (length_push c.board.history (entry 0 (call.Begin at) (reply.Quiet group removed))) (omega arith))
-    replied (reply.Flush group opened) told room sent =
+    replied (reply.Flush group opened) returned room sent =
         let flush : Reply = reply.Flush group opened in
         let notices : List NoticeData = opened.notices in
         let s : SendingData = sent.0 in
         let taking : Scene = after_taking c at flush in
         let count : length s.ends ≡ length notices = ends_counted (answers_for r taking.board group) r.span.cut at 0 notices s.ends sent.3 in
         let most : length notices ≤ MAX_INTEGRATIONS =
-        subst (λ (q : Reply). notices_in q ≤ MAX_INTEGRATIONS) told (few_notices c.board.config c.board.id (state_at c.board) (moment (state_at c.board) at) few)
+        subst (λ (q : Reply). notices_in q ≤ MAX_INTEGRATIONS) returned (few_notices c.board.config c.board.id (state_at c.board) (time (state_at c.board) at) few)
         in
         let more : in_flight (c.sendings ++ s ∷ []) ≡ flight + (length s.ends + 1) = sum_by_push to_come c.sendings s in
         let eight : MAX_INTEGRATIONS ≡ 8 = refl in
         falls_to (with_sending s taking) sent.4
         (falls_recorded limit records _ flight (in_flight (c.sendings ++ s ∷ [])) comes comes goes 1 room
         (length_push c.board.history (entry 0 (call.Begin at) flush)) (omega (arith, count, most, more, eight)))
-    replied (reply.Inserted inserted) told room is = absurd is
-    replied (reply.Silenced silenced) told room is = absurd is
-    replied (reply.Finished finished) told room is = absurd is
-    replied (reply.Maintained maintained) told room is = absurd is
-    replied (reply.Forgotten forgotten) told room is = absurd is
-    replied (reply.Loaded loaded) told room is = absurd is
-    replied reply.Noted told room is = absurd is
+    replied (reply.Inserted inserted) returned room is = absurd is
+    replied (reply.Silenced silenced) returned room is = absurd is
+    replied (reply.Finished finished) returned room is = absurd is
+    replied (reply.Maintained maintained) returned room is = absurd is
+    replied (reply.Forgotten forgotten) returned room is = absurd is
+    replied (reply.Loaded loaded) returned room is = absurd is
+    replied reply.Noted returned room is = absurd is
 
-    begun_by : (cause : Option Fault) → why_not c.board at ≡ cause → IsTrue (c.begins || not c.blocked) → IsBegun r c at d cause → Falls
-    begun_by None why may is = replied told_of refl (begin_room c.board whole at why) is
+    begun_by : (cause : Option Fault) → cause_of_none c.board at ≡ cause → IsTrue (c.begins || not c.blocked) → IsBegun r c at d cause → Falls
+    begun_by None why may is = replied taken_reply refl (begin_room c.board whole at why) is
     begun_by (Some fault.TooManyOpen) why may is =
         falls_to (after_too_many c at) is
         (falls_beside limit records records flight flight comes 0 goes 0 (omega arith) (omega (arith, may_count c.begins c.blocked may)))
     begun_by (Some fault.NoMemory) why may is = absurd is
-    begun_by (Some fault.TooManyNames) why may is = absurd is
+    begun_by (Some fault.TooManyAlerts) why may is = absurd is
     begun_by (Some fault.TooManyGroups) why may is = absurd is
     begun_by (Some fault.TooManySilences) why may is = absurd is
     begun_by (Some fault.HistoryFull) why may is = absurd is
@@ -326,7 +326,7 @@ module _ (r : Setting) (c d : Scene) (whole : c.board.handed ≡ []) where
     done_falls n (step.Finish position) there allowed done = finished position done
     done_falls n step.Plan there allowed done = acted c.plans done
     done_falls n step.Maintenance there allowed done = maintained_falls n.at allowed done
-    done_falls n step.Begin there allowed done = begun_by n.at few (why_not c.board n.at) refl there.1 done
+    done_falls n step.Begin there allowed done = begun_by n.at few (cause_of_none c.board n.at) refl there.1 done
 
   -- fewer steps lead on from where the next step leads
   pub step_falls : (n : Next) → next r c ≡ Some n → config_fault c.board.config ≡ None → IsAllowed c n n.what → Steps r c d → Falls

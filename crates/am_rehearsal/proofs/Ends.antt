@@ -7,29 +7,29 @@ use Rattle.am_rehearsal.specs.Answers.{AreEndsOf, IsEndOf}
 use Rattle.am_rehearsal.specs.declared.next.End.{End}
 
 module _ (answer : ℕ → ℕ → ℕ → ℕ → Sent) (cut : Option ℕ) (at : ℕ) where
-  pub ends_more : (place : ℕ) (ns : List NoticeData) (es : List End) (n : NoticeData) (e : End) → AreEndsOf answer cut at place ns es
-      → IsEndOf answer cut at (place + length ns) n e → AreEndsOf answer cut at place (ns ++ n ∷ []) (es ++ e ∷ [])
-  ends_more place [] [] n e are is =
-      let same : place + 0 ≡ place = omega arith in
+  pub ends_more : (index : ℕ) (ns : List NoticeData) (es : List End) (n : NoticeData) (e : End) → AreEndsOf answer cut at index ns es
+      → IsEndOf answer cut at (index + length ns) n e → AreEndsOf answer cut at index (ns ++ n ∷ []) (es ++ e ∷ [])
+  ends_more index [] [] n e are is =
+      let same : index + 0 ≡ index = omega arith in
       (subst (λ (p : ℕ). IsEndOf answer cut at p n e) same is, tt)
-  ends_more place [] (f ∷ es) n e are is = absurd are
-  ends_more place (m ∷ ns) [] n e are is = absurd are
-  ends_more place (m ∷ ns) (f ∷ es) n e are is =
-      let same : place + suc (length ns) ≡ place + 1 + length ns = omega arith in
-      (are.0, ends_more (place + 1) ns es n e are.1 (subst (λ (p : ℕ). IsEndOf answer cut at p n e) same is))
+  ends_more index [] (f ∷ es) n e are is = absurd are
+  ends_more index (m ∷ ns) [] n e are is = absurd are
+  ends_more index (m ∷ ns) (f ∷ es) n e are is =
+      let same : index + suc (length ns) ≡ index + 1 + length ns = omega arith in
+      (are.0, ends_more (index + 1) ns es n e are.1 (subst (λ (p : ℕ). IsEndOf answer cut at p n e) same is))
 
-  -- one more, of the notice at the next place
-  pub ends_next : (ns : List NoticeData) (place : ℕ) (n : NoticeData) (es : List End) (e : End) → place < length ns → n ≡ get_or ns place n
-      → AreEndsOf answer cut at 0 (take place ns) es → IsEndOf answer cut at place n e → AreEndsOf answer cut at 0 (take (place + 1) ns) (es ++ e ∷ [])
-  ends_next ns place n es e within here are is =
-      let front : length (take place ns) ≡ place = length-take-le place ns (omega arith) in
-      let count : place ≡ 0 + length (take place ns) = omega (arith, front) in
+  -- one more, of the notice at the next index
+  pub ends_next : (ns : List NoticeData) (index : ℕ) (n : NoticeData) (es : List End) (e : End) → index < length ns → n ≡ get_or ns index n
+      → AreEndsOf answer cut at 0 (take index ns) es → IsEndOf answer cut at index n e → AreEndsOf answer cut at 0 (take (index + 1) ns) (es ++ e ∷ [])
+  ends_next ns index n es e within here are is =
+      let front : length (take index ns) ≡ index = length-take-le index ns (omega arith) in
+      let count : index ≡ 0 + length (take index ns) = omega (arith, front) in
       subst (λ (l : List NoticeData). AreEndsOf answer cut at 0 l (es ++ e ∷ []))
-      (sym (take_more ns place n within ∙ ap (λ (x : NoticeData). take place ns ++ x ∷ []) (sym here)))
-      (ends_more 0 (take place ns) es n e are (subst (λ (p : ℕ). IsEndOf answer cut at p n e) count is))
+      (sym (take_more ns index n within ∙ ap (λ (x : NoticeData). take index ns ++ x ∷ []) (sym here)))
+      (ends_more 0 (take index ns) es n e are (subst (λ (p : ℕ). IsEndOf answer cut at p n e) count is))
 
   -- the same, where the ends were made longer
-  pub ends_pushed : (ns : List NoticeData) (place : ℕ) (n : NoticeData) (es more : List End) (e : End) → more ≡ es ++ e ∷ [] → place < length ns
-      → n ≡ get_or ns place n → AreEndsOf answer cut at 0 (take place ns) es → IsEndOf answer cut at place n e → AreEndsOf answer cut at 0 (take (place + 1) ns) more
-  ends_pushed ns place n es more e pushed within here are is =
-      subst (AreEndsOf answer cut at 0 (take (place + 1) ns)) (sym pushed) (ends_next ns place n es e within here are is)
+  pub ends_pushed : (ns : List NoticeData) (index : ℕ) (n : NoticeData) (es more : List End) (e : End) → more ≡ es ++ e ∷ [] → index < length ns
+      → n ≡ get_or ns index n → AreEndsOf answer cut at 0 (take index ns) es → IsEndOf answer cut at index n e → AreEndsOf answer cut at 0 (take (index + 1) ns) more
+  ends_pushed ns index n es more e pushed within here are is =
+      subst (AreEndsOf answer cut at 0 (take (index + 1) ns)) (sym pushed) (ends_next ns index n es e within here are is)

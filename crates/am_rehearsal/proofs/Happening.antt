@@ -1,4 +1,4 @@
--- What events with one more tell of the begins.
+-- What events with one more say of the begins.
 use Rattle.std.proofs.Common.{◌≡◌, ℕ, ◌+◌, zero, suc, List, [], ◌∷◌, ◌++◌, sym, ap, ◌∙◌, add-one, arith}
 use Rattle.std.proofs.lemmas.List.{append-nil}
 use Rattle.std.proofs.lemmas.List.Elements.{filter_map-append}
@@ -15,13 +15,13 @@ range-more a (suc n) =
     ap (λ (l : List ℕ). a ∷ l) (range-more (a + 1) n ∙ ap (λ (k : ℕ). range_with_len (a + 1) n ++ k ∷ []) e)
 
 -- a begin more
-pub begun_more : (old new : List Event) (place count more : ℕ) → new ≡ old ++ Begun place ∷ [] → place ≡ count → more ≡ count + 1
+pub begun_more : (old new : List Event) (index count more : ℕ) → new ≡ old ++ Begun index ∷ [] → index ≡ count → more ≡ count + 1
     → begin_indices old ≡ range_with_len 0 count → begin_indices new ≡ range_with_len 0 more
-begun_more old new place count more is same counts was =
+begun_more old new index count more is same counts was =
     let e : 0 + count ≡ count = omega arith in
     ap begin_indices is
-    ∙ filter_map-append begin_index_of old (Begun place ∷ [])
-    ∙ ap (λ (l : List ℕ). l ++ place ∷ []) was
+    ∙ filter_map-append begin_index_of old (Begun index ∷ [])
+    ∙ ap (λ (l : List ℕ). l ++ index ∷ []) was
     ∙ ap (λ (k : ℕ). range_with_len 0 count ++ k ∷ []) (same ∙ sym e)
     ∙ sym (range-more 0 count)
     ∙ ap (λ (n : ℕ). range_with_len 0 n) (sym (add-one count) ∙ sym counts)

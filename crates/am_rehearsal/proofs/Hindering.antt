@@ -7,7 +7,7 @@ use Rattle.am_board.specs.History.{BoardData, records_at, state_at}
 use Rattle.am_board.specs.Step.{IsAnswer}
 use Rattle.am_model.specs.Begin.{taken}
 use Rattle.am_model.specs.Causes.{is_full, opens_by}
-use Rattle.am_model.specs.State.{State, moment}
+use Rattle.am_model.specs.State.{State, time}
 use Rattle.am_model.specs.declared.config.Config.{Config}
 use Rattle.am_model.specs.declared.config.ConfigFault.{ConfigFault}
 use Rattle.am_model.specs.declared.fault.BoardFault.{BoardFault}
@@ -15,13 +15,13 @@ use Rattle.am_model.specs.declared.fault.BoardFault.TheVariants as board
 use Rattle.am_model.specs.declared.fault.Fault.{Fault}
 use Rattle.am_model.specs.declared.fault.Fault.TheVariants.{NoMemory, TooManyOpen, HistoryFull}
 use Rattle.am_rehearsal.proofs.PlansLeft.{plans_left}
-use Rattle.am_rehearsal.specs.Courses.{IsAllowed, IsHindered, IsOwnFault, IsPlanFault, IsStopped}
+use Rattle.am_rehearsal.specs.Simulations.{IsAllowed, IsHindered, IsOwnFault, IsPlanFault, IsStopped}
 use Rattle.am_rehearsal.specs.Faults.{fault_of_board, fault_of_call}
 use Rattle.am_rehearsal.specs.Next.{next}
 use Rattle.am_rehearsal.specs.Planned.{refuses}
 use Rattle.am_rehearsal.specs.Scene.{Scene, Setting, opening_scene}
-use Rattle.am_rehearsal.specs.Taking.{why_not}
-use Rattle.am_rehearsal.specs.WhyNot.{IsPlanRefused, IsWhyNot, own_cause, refuses_first}
+use Rattle.am_rehearsal.specs.Taking.{cause_of_none}
+use Rattle.am_rehearsal.specs.CauseOfFault.{IsPlanRefused, IsCauseOfFault, own_cause, refuses_first}
 use Rattle.am_rehearsal.specs.declared.next.Next.{Next}
 use Rattle.am_rehearsal.specs.declared.next.Step.{Step}
 use Rattle.am_rehearsal.specs.declared.next.Step.TheVariants as step
@@ -40,44 +40,44 @@ no_config_fault None is = refl
 no_config_fault (Some f) is = absurd (cc)
 
 -- a board's fault is that of its configuration
-pub config_refused : (fault : Option ConfigFault) (told : BoardFault) → option_map board.BadConfig fault ≡ Some told
-    → (fault_of_board told ≡ play.BadConfig) × (fault ≢ None)
-config_refused None told is = absurd (none-some told is)
-config_refused (Some f) told is = (sym (ap fault_of_board (same_Some (board.BadConfig f) told is)), λ none. absurd (cc))
+pub config_refused : (fault : Option ConfigFault) (returned : BoardFault) → option_map board.BadConfig fault ≡ Some returned
+    → (fault_of_board returned ≡ play.BadConfig) × (fault ≢ None)
+config_refused None returned is = absurd (none-some returned is)
+config_refused (Some f) returned is = (sym (ap fault_of_board (same_Some (board.BadConfig f) returned is)), λ none. absurd (cc))
 
 -- a maintenance that isn't done
-maintain_own : (full : Bool) (told : Fault) → IsAnswer (if full then Some HistoryFull else None) told
-    → IsOwnFault (if full then Some HistoryFull else None) (fault_of_call told)
-maintain_own true told answer = subst (λ (f : Fault). IsOwnFault (Some HistoryFull) (fault_of_call f)) (sym answer) refl
-maintain_own false told answer = subst (λ (f : Fault). IsOwnFault None (fault_of_call f)) (sym answer) tt
+maintain_own : (full : Bool) (returned : Fault) → IsAnswer (if full then Some HistoryFull else None) returned
+    → IsOwnFault (if full then Some HistoryFull else None) (fault_of_call returned)
+maintain_own true returned answer = subst (λ (f : Fault). IsOwnFault (Some HistoryFull) (fault_of_call f)) (sym answer) refl
+maintain_own false returned answer = subst (λ (f : Fault). IsOwnFault None (fault_of_call f)) (sym answer) tt
 
 -- a begin that isn't done, and doesn't wait for a finish
-begin_own : (full many : Bool) (told : Fault) → (told ≡ TooManyOpen → ⊥)
-    → (told ≡ NoMemory) ⊎ ((if full then Some HistoryFull else (if many then Some TooManyOpen else None)) ≡ Some told)
-    → IsOwnFault (if full then Some HistoryFull else (if many then Some TooManyOpen else None)) (fault_of_call told)
-begin_own full many told other why =
+begin_own : (full many : Bool) (returned : Fault) → (returned ≡ TooManyOpen → ⊥)
+    → (returned ≡ NoMemory) ⊎ ((if full then Some HistoryFull else (if many then Some TooManyOpen else None)) ≡ Some returned)
+    → IsOwnFault (if full then Some HistoryFull else (if many then Some TooManyOpen else None)) (fault_of_call returned)
+begin_own full many returned other why =
     elim why [
       | inl memory ↦ subst (λ (f : Fault). IsOwnFault (if full then Some HistoryFull else (if many then Some TooManyOpen else None)) (fault_of_call f)) (sym memory) tt
       | inr because ↦ by full many because
     ]
   where
-    by : (full many : Bool) → (if full then Some HistoryFull else (if many then Some TooManyOpen else None)) ≡ Some told
-        → IsOwnFault (if full then Some HistoryFull else (if many then Some TooManyOpen else None)) (fault_of_call told)
-    by true many because = subst (λ (f : Fault). IsOwnFault (Some HistoryFull) (fault_of_call f)) (same_Some HistoryFull told because) refl
-    by false true because = absurd (other (sym (same_Some TooManyOpen told because)))
-    by false false because = absurd (none-some told because)
+    by : (full many : Bool) → (if full then Some HistoryFull else (if many then Some TooManyOpen else None)) ≡ Some returned
+        → IsOwnFault (if full then Some HistoryFull else (if many then Some TooManyOpen else None)) (fault_of_call returned)
+    by true many because = subst (λ (f : Fault). IsOwnFault (Some HistoryFull) (fault_of_call f)) (same_Some HistoryFull returned because) refl
+    by false true because = absurd (other (sym (same_Some TooManyOpen returned because)))
+    by false false because = absurd (none-some returned because)
 
-module _ (b : BoardData) (at : ℕ) (told : Fault) (becomes : PlayFault) (is : becomes ≡ fault_of_call told) where
-  pub maintain_hindered : IsAnswer (own_cause b at step.Maintenance) told → IsOwnFault (own_cause b at step.Maintenance) becomes
+module _ (b : BoardData) (at : ℕ) (returned : Fault) (becomes : PlayFault) (is : becomes ≡ fault_of_call returned) where
+  pub maintain_hindered : IsAnswer (own_cause b at step.Maintenance) returned → IsOwnFault (own_cause b at step.Maintenance) becomes
   maintain_hindered answer =
-      subst (IsOwnFault (own_cause b at step.Maintenance)) (sym is) (maintain_own (is_full b.config (records_at b) (state_at b) 1) told answer)
+      subst (IsOwnFault (own_cause b at step.Maintenance)) (sym is) (maintain_own (is_full b.config (records_at b) (state_at b) 1) returned answer)
 
-  pub begin_hindered : (told ≡ TooManyOpen → ⊥) → (told ≡ NoMemory) ⊎ (why_not b at ≡ Some told) → IsOwnFault (own_cause b at step.Begin) becomes
+  pub begin_hindered : (returned ≡ TooManyOpen → ⊥) → (returned ≡ NoMemory) ⊎ (cause_of_none b at ≡ Some returned) → IsOwnFault (own_cause b at step.Begin) becomes
   begin_hindered other why =
       let s : State = state_at b in
-      let t : ℕ = moment s at in
+      let t : ℕ = time s at in
       subst (IsOwnFault (own_cause b at step.Begin)) (sym is)
-      (begin_own (is_full b.config (records_at b) s 2) (nat_le b.config.limits.flushes (length s.flushes) && opens_by b.config s t (taken s t)) told other why)
+      (begin_own (is_full b.config (records_at b) s 2) (nat_le b.config.limits.flushes (length s.flushes) && opens_by b.config s t (taken s t)) returned other why)
 
 module _ (count : ℕ) (c : Scene) (n : Next) where
   pub memory_hindered : (fault : PlayFault) → fault ≡ play.NoMemory → IsHindered count c n fault
@@ -121,11 +121,11 @@ from_position plans done left k is at =
     sym (ap (drop k) is ∙ drop_at done left k count)
 
 -- why a rehearsal is stopped is why it isn't played to its end
-pub stopped_why : (r : Setting) (config : Config) (plans : List TimedAction) (fault : PlayFault)
-    → IsStopped r (length plans) (opening_scene r config plans) fault → IsWhyNot r config plans fault
-stopped_why r config plans play.NoMemory stopped = tt
-stopped_why r config plans play.BadConfig stopped = absurd (never (next r stopped.0) stopped.2)
-stopped_why r config plans (play.PlanRefused k) stopped =
+pub cause_of_stop : (r : Setting) (config : Config) (plans : List TimedAction) (fault : PlayFault)
+    → IsStopped r (length plans) (opening_scene r config plans) fault → IsCauseOfFault r config plans fault
+cause_of_stop r config plans play.NoMemory stopped = tt
+cause_of_stop r config plans play.BadConfig stopped = absurd (never (next r stopped.0) stopped.2)
+cause_of_stop r config plans (play.PlanRefused k) stopped =
     let c : Scene = stopped.0 in
     let left = plans_left r stopped.1.0 (opening_scene r config plans) c stopped.1.1 in (
       c,
@@ -133,4 +133,4 @@ stopped_why r config plans (play.PlanRefused k) stopped =
       some_weaker (next r c) (λ n. IsHindered (length plans) c n (play.PlanRefused k)) (IsPlanRefused plans k c)
           (λ (n : Next) h. (h.0, from_position plans left.0 c.plans k left.1 h.1, h.2)) stopped.2,
     )
-stopped_why r config plans play.Full stopped = stopped
+cause_of_stop r config plans play.Full stopped = stopped

@@ -17,19 +17,19 @@ use Rattle.am_model.specs.Causes.{note_cause}
 use Rattle.am_model.specs.Notice.{NoticeData}
 use Rattle.am_model.specs.Insert.{inserted}
 use Rattle.am_model.specs.Records.{call_of_silence, entry}
-use Rattle.am_model.specs.Upkeep.{silenced}
+use Rattle.am_model.specs.Maintenance.{silenced}
 use Rattle.am_mute.specs.Silence.{silence_of}
 use Rattle.am_model.specs.Replay.{reply as reply_to}
-use Rattle.am_model.specs.State.{moment}
+use Rattle.am_model.specs.State.{time}
 use Rattle.am_model.specs.Ticket.{TicketData}
 use Rattle.am_pool.specs.Sendings.{note_at}
-use Rattle.am_rehearsal.specs.Courses.{IsThereFor}
+use Rattle.am_rehearsal.specs.Simulations.{IsThereFor}
 use Rattle.am_rehearsal.specs.Next.{next, next_at, next_plan}
 use Rattle.am_rehearsal.specs.Planned.{InputTrace, call_of, input_of, inputs_in, input_trace, no_inputs, planned, refuses, with_inputs}
 use Rattle.am_rehearsal.specs.Play.{PlaysTo, LeadsIn}
 use Rattle.am_rehearsal.specs.Scene.{Scene, SendingData, Setting, opening_scene}
 use Rattle.am_rehearsal.specs.Steps.{IsBegun, IsDone, IsPlanDone, IsReplied, Steps, after_end, after_finish, is_success, with_call, with_note, with_report}
-use Rattle.am_rehearsal.specs.Taking.{why_not}
+use Rattle.am_rehearsal.specs.Taking.{cause_of_none}
 use Rattle.am_terms.specs.declared.event.Event.{Event}
 use Rattle.am_rehearsal.specs.declared.limits.TheConstants.{BOARD_ID}
 use Rattle.am_rehearsal.specs.declared.next.End.{End}
@@ -40,19 +40,19 @@ use Rattle.am_terms.specs.declared.rehearsal.Action.{Action}
 use Rattle.am_terms.specs.declared.rehearsal.Action.TheVariants.{Insert, Silence, Load}
 use Rattle.am_terms.specs.declared.rehearsal.TimedAction.{TimedAction}
 use Rattle.am_rehearsal.proofs.Coming.{next_none, next_there}
-use Rattle.am_rehearsal.proofs.Loading.{load_taken, load_told}
+use Rattle.am_rehearsal.proofs.Loading.{load_taken, load_reply}
 use Rattle.am_rehearsal.proofs.Doing.{acted_of-input_trace, config_of-input_trace, input_trace-more, input_trace-opening, input_trace-same}
 
 -- a call that isn't planned adds nothing to the inputs
 called_same : (b : BoardData) (c : Call) → input_of c ≡ None → input_trace (with_call b c) ≡ input_trace b
 called_same b c idle = by (reply_to b.config b.id (state_at b) c)
   where
-    by : (o : Option Reply) → input_trace (option_map_or (λ told. with_record b (entry 0 c told)) o b) ≡ input_trace b
+    by : (o : Option Reply) → input_trace (option_map_or (λ returned. with_record b (entry 0 c returned)) o b) ≡ input_trace b
     by None = refl
-    by (Some told) = input_trace-same b (with_record b (entry 0 c told)) (entry 0 c told, idle, refl)
+    by (Some returned) = input_trace-same b (with_record b (entry 0 c returned)) (entry 0 c returned, idle, refl)
 
-noted_same : (at : ℕ) (t : TicketData) (place : ℕ) (b : BoardData) → input_trace (with_note at t place b) ≡ input_trace b
-noted_same at t place b = by (is_none (note_cause b.config b.id (records_at b) (state_at b) t place)) (slice_get t.notices place)
+noted_same : (at : ℕ) (t : TicketData) (index : ℕ) (b : BoardData) → input_trace (with_note at t index b) ≡ input_trace b
+noted_same at t index b = by (is_none (note_cause b.config b.id (records_at b) (state_at b) t index)) (slice_get t.notices index)
   where
     by : (free : Bool) (n : Option NoticeData) → input_trace (if free then option_map_or (λ n. with_call b (note_at at t n)) n b else b) ≡ input_trace b
     by true None = refl
@@ -60,20 +60,20 @@ noted_same at t place b = by (is_none (note_cause b.config b.id (records_at b) (
     by false n = refl
 
 -- a planned call comes last
-called_by : (b : BoardData) (c : Call) (told : Reply) → reply_to b.config b.id (state_at b) c ≡ Some told → input_of c ≡ Some c
+called_by : (b : BoardData) (c : Call) (returned : Reply) → reply_to b.config b.id (state_at b) c ≡ Some returned → input_of c ≡ Some c
     → input_trace (with_call b c) ≡ with_inputs (input_trace b) (c ∷ [])
-called_by b c told is planned =
+called_by b c returned is planned =
     ap (λ (o : Option Reply). input_trace (option_map_or (λ t. with_record b (entry 0 c t)) o b)) is
-    ∙ input_trace-more b (with_record b (entry 0 c told)) (entry 0 c told) planned refl
+    ∙ input_trace-more b (with_record b (entry 0 c returned)) (entry 0 c returned) planned refl
 
 called_more : (b : BoardData) (at : ℕ) (act : Action) → refuses b at act ≡ false → input_trace (with_call b (call_of at act)) ≡ with_inputs (input_trace b) (call_of at act ∷ [])
 called_more b at (Insert alert) taken = called_by b (call.Insert at alert) (reply.Inserted (inserted b.config (state_at b) alert)) refl refl
 called_more b at (Silence silence) taken =
     called_by b (call_of_silence at silence) (reply.Silenced (silenced (state_at b) (silence_of silence.id silence.matchers silence.start silence.end))) refl refl
-called_more b at (Load row) taken = called_by b (call.Load at row) (load_told b at row) (load_taken b at row taken) refl
+called_more b at (Load row) taken = called_by b (call.Load at row) (load_reply b at row) (load_taken b at row taken) refl
 
-begun_same : (b : BoardData) (at : ℕ) (told : Reply) → input_trace (with_record b (entry 0 (call.Begin at) told)) ≡ input_trace b
-begun_same b at told = input_trace-same b (with_record b (entry 0 (call.Begin at) told)) (entry 0 (call.Begin at) told, refl, refl)
+begun_same : (b : BoardData) (at : ℕ) (returned : Reply) → input_trace (with_record b (entry 0 (call.Begin at) returned)) ≡ input_trace b
+begun_same b at returned = input_trace-same b (with_record b (entry 0 (call.Begin at) returned)) (entry 0 (call.Begin at) returned, refl, refl)
 
 -- what follows whatever the value is
 pub from_some : {X : Type 0} (o : Option X) (P : X → Type 0) (Q : Type 0) → ((x : X) → P x → Q) → IsSomeAnd o P → Q
@@ -100,8 +100,8 @@ module _ (r : Setting) where
         (λ (s : SendingData). from_some (slice_get s.ends index) (λ e. d ≡ after_end c position s index e) Stays
         (λ (e : End) is. ap all_inputs is ∙ ap (λ (i : InputTrace). both i c.plans) (by e (with_report e.report s.ticket) (is_success e.report)))) done
       where
-        by : (e : End) (t : TicketData) (b : Bool) → input_trace (if b then with_note e.at t e.place c.board else c.board) ≡ input_trace c.board
-        by e t true = noted_same e.at t e.place c.board
+        by : (e : End) (t : TicketData) (b : Bool) → input_trace (if b then with_note e.at t e.index c.board else c.board) ≡ input_trace c.board
+        by e t true = noted_same e.at t e.index c.board
         by e t false = refl
 
     finished : (position : ℕ) → IsDone r c 0 d (step.Finish position) → Stays
@@ -126,7 +126,7 @@ module _ (r : Setting) where
         (sym (ap (λ (b : Bool). if b then now ++ later else []) (le-leb p.at r.until within))))
         ∙ ap (both (input_trace c.board)) (sym left)
 
-    replied : (at : ℕ) (told : Reply) → IsReplied r c at d told → Stays
+    replied : (at : ℕ) (returned : Reply) → IsReplied r c at d returned → Stays
     replied at reply.NothingDue is = ap all_inputs is ∙ ap (λ (i : InputTrace). both i c.plans) (begun_same c.board at reply.NothingDue)
     replied at (reply.Quiet group removed) is = ap all_inputs is ∙ ap (λ (i : InputTrace). both i c.plans) (begun_same c.board at (reply.Quiet group removed))
     replied at (reply.Flush group opened) sent =
@@ -140,10 +140,10 @@ module _ (r : Setting) where
     replied at reply.Noted is = absurd is
 
     begun_by : (at : ℕ) (cause : Option Fault) → IsBegun r c at d cause → Stays
-    begun_by at None is = replied at (begun c.board.config c.board.id (state_at c.board) (moment (state_at c.board) at)) is
+    begun_by at None is = replied at (begun c.board.config c.board.id (state_at c.board) (time (state_at c.board) at)) is
     begun_by at (Some fault.TooManyOpen) is = ap all_inputs is
     begun_by at (Some fault.NoMemory) is = absurd is
-    begun_by at (Some fault.TooManyNames) is = absurd is
+    begun_by at (Some fault.TooManyAlerts) is = absurd is
     begun_by at (Some fault.TooManyGroups) is = absurd is
     begun_by at (Some fault.TooManySilences) is = absurd is
     begun_by at (Some fault.HistoryFull) is = absurd is
@@ -153,7 +153,7 @@ module _ (r : Setting) where
     done_keeps n (step.Finish position) there done = finished position done
     done_keeps n step.Plan there done = acted c.plans refl there done
     done_keeps n step.Maintenance there done = maintained n.at done
-    done_keeps n step.Begin there done = begun_by n.at (why_not c.board n.at) done
+    done_keeps n step.Begin there done = begun_by n.at (cause_of_none c.board n.at) done
 
     step_keeps : Steps r c d → Stays
     unfolding Steps

@@ -14,7 +14,7 @@ pub mod Doing
 pub mod Ending
 -- one more end of a ticket's notices
 pub mod Ends
--- what events with one more tell of the begins
+-- what events with one more say of the begins
 pub mod Happening
 -- why what comes next isn't done
 pub mod Hindering
@@ -26,17 +26,17 @@ pub mod Loading
 pub mod OnePlay
 -- the scene with which a rehearsal starts
 pub mod Opened
--- the parts of a rehearsal: one handover more, and one played part more
+-- the parts of a rehearsal: one change of the dispatcher more, and one played part more
 pub mod Parting
 -- the plans that are left are the last of those that were planned
 pub mod PlansLeft
 -- scenes by their parts
 pub mod Scenes
--- what is set again at a handover, with one plan more in front
+-- what is set again at a change of the dispatcher, with one plan more in front
 pub mod SetAgain
--- what is told of a board stands over each call
-pub mod Standing
+-- what is reported of a board holds over each call
+pub mod PreviewsHold
 -- the next step, when it is done
 pub mod Stepping
--- what is told of a history with one record more
-pub mod Telling
+-- what is reported of a history with one record more
+pub mod Reporting

@@ -7,7 +7,7 @@ use Rattle.am_board.specs.History.{BoardData, records_at, state_at}
 use Rattle.am_model.specs.Causes.{is_full, load_cause, row_cause}
 use Rattle.am_model.specs.Load.{loaded}
 use Rattle.am_model.specs.Replay.{reply as reply_to}
-use Rattle.am_model.specs.State.{moment}
+use Rattle.am_model.specs.State.{time}
 use Rattle.am_model.specs.declared.fault.LoadFault.TheVariants as load
 use Rattle.am_model.specs.declared.record.Call.TheVariants as call
 use Rattle.am_model.specs.declared.record.Reply.{Reply}
@@ -33,11 +33,11 @@ unless_full false x is = refl
 module _ (b : BoardData) (at : ℕ) (row : RowView) where
   -- when the load is
   abbrev when : ℕ
-  when = moment (state_at b) at
+  when = time (state_at b) at
 
-  -- what it is told
-  abbrev pub load_told : Reply
-  load_told = reply.Loaded (loaded (state_at b).rows when row)
+  -- what it returns
+  abbrev pub load_reply : Reply
+  load_reply = reply.Loaded (loaded (state_at b).rows when row)
 
   module _ (taken : refuses b at (Load row) ≡ false) where
     both : (row_cause b.config when row ≡ None) × ((if is_full b.config (records_at b) (state_at b) 1 then Some load.HistoryFull else None) ≡ None)
@@ -46,8 +46,8 @@ module _ (b : BoardData) (at : ℕ) (row : RowView) where
         (no_cause (load_cause b.config (records_at b) (state_at b) when row) taken)
 
     -- it has its reply
-    pub load_taken : reply_to b.config b.id (state_at b) (call.Load at row) ≡ Some load_told
-    load_taken = ap (λ (may : Bool). if may then Some load_told else None) (load-allowed b.config when row both.0)
+    pub load_taken : reply_to b.config b.id (state_at b) (call.Load at row) ≡ Some load_reply
+    load_taken = ap (λ (may : Bool). if may then Some load_reply else None) (load-allowed b.config when row both.0)
 
     -- and the history has room for it
     pub load_unfull : is_full b.config (records_at b) (state_at b) 1 ≡ false

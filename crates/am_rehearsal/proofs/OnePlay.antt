@@ -4,7 +4,7 @@ use Rattle.std.specs.Prelude.{slice_get}
 use Rattle.std.specs.Option.{IsSomeAnd}
 use Rattle.am_board.specs.History.{state_at}
 use Rattle.am_model.specs.Begin.{begun}
-use Rattle.am_model.specs.State.{moment}
+use Rattle.am_model.specs.State.{time}
 use Rattle.am_model.specs.declared.fault.Fault.{Fault}
 use Rattle.am_model.specs.declared.fault.Fault.TheVariants as fault
 use Rattle.am_model.specs.declared.notice.Report.{Report}
@@ -21,7 +21,7 @@ use Rattle.am_rehearsal.specs.Next.{next}
 use Rattle.am_rehearsal.specs.Play.{LeadsIn}
 use Rattle.am_rehearsal.specs.Scene.{Scene, SendingData, Setting, opening_scene}
 use Rattle.am_rehearsal.specs.Steps.{IsBegun, IsDone, IsPlanDone, IsReplied, IsSendingAdded, Steps, after_end, after_finish, after_taking, answers_for, ticket_of, with_sending}
-use Rattle.am_rehearsal.specs.Taking.{why_not}
+use Rattle.am_rehearsal.specs.Taking.{cause_of_none}
 use Rattle.am_rehearsal.specs.EventOrder.{begin_indices}
 use Rattle.am_rehearsal.specs.declared.next.End.{End}
 use Rattle.am_rehearsal.specs.declared.next.Next.{Next}
@@ -41,22 +41,22 @@ module _ (answer : ℕ → ℕ → ℕ → ℕ → Sent) (cut : Option ℕ) (at 
   outcome_once n (Some r) None a b = absurd (cc (a.0, b))
   outcome_once n (Some r) (Some q) a b = ap (λ (x : Report). Some x) (same_report answer at (tried_by cut n) r q a.1 b.1)
 
-  end_once : (place : ℕ) (n : NoticeData) (one other : End) → IsEndOf answer cut at place n one → IsEndOf answer cut at place n other → one ≡ other
-  end_once place n one other a b =
+  end_once : (index : ℕ) (n : NoticeData) (one other : End) → IsEndOf answer cut at index n one → IsEndOf answer cut at index n other → one ≡ other
+  end_once index n one other a b =
       let report : one.report ≡ other.report = outcome_once n one.report other.report a.2 b.2 in
       let ended : one.at ≡ other.at = a.1 ∙ ap (end_on at) report ∙ sym b.1 in
-      let placed : one.place ≡ other.place = a.0 ∙ sym b.0 in
-      λ i. record { at = ended i; place = placed i; report = report i }
+      let placed : one.index ≡ other.index = a.0 ∙ sym b.0 in
+      λ i. record { at = ended i; index = placed i; report = report i }
 
-  ends_once : (place : ℕ) (ns : List NoticeData) (ones others : List End) → AreEndsOf answer cut at place ns ones → AreEndsOf answer cut at place ns others → ones ≡ others
-  ends_once place [] [] [] a b = refl
-  ends_once place [] [] (e ∷ es) a b = absurd b
-  ends_once place [] (e ∷ es) others a b = absurd a
-  ends_once place (n ∷ ns) [] others a b = absurd a
-  ends_once place (n ∷ ns) (e ∷ es) [] a b = absurd b
-  ends_once place (n ∷ ns) (e ∷ es) (f ∷ fs) a b =
-      let first = end_once place n e f a.0 b.0 in
-      let rest = ends_once (place + 1) ns es fs a.1 b.1 in
+  ends_once : (index : ℕ) (ns : List NoticeData) (ones others : List End) → AreEndsOf answer cut at index ns ones → AreEndsOf answer cut at index ns others → ones ≡ others
+  ends_once index [] [] [] a b = refl
+  ends_once index [] [] (e ∷ es) a b = absurd b
+  ends_once index [] (e ∷ es) others a b = absurd a
+  ends_once index (n ∷ ns) [] others a b = absurd a
+  ends_once index (n ∷ ns) (e ∷ es) [] a b = absurd b
+  ends_once index (n ∷ ns) (e ∷ es) (f ∷ fs) a b =
+      let first = end_once index n e f a.0 b.0 in
+      let rest = ends_once (index + 1) ns es fs a.1 b.1 in
       λ i. first i ∷ rest i
 
 module _ (r : Setting) where
@@ -69,7 +69,7 @@ module _ (r : Setting) where
       a.4 ∙ ap (λ (s : SendingData). with_sending s c) same ∙ sym b.4
 
   module _ (c d e : Scene) where
-    replied_once : (at : ℕ) (told : Reply) → IsReplied r c at d told → IsReplied r c at e told → d ≡ e
+    replied_once : (at : ℕ) (returned : Reply) → IsReplied r c at d returned → IsReplied r c at e returned → d ≡ e
     replied_once at reply.NothingDue a b = a ∙ sym b
     replied_once at (reply.Quiet group removed) a b = a ∙ sym b
     replied_once at (reply.Flush group opened) a b =
@@ -83,10 +83,10 @@ module _ (r : Setting) where
     replied_once at reply.Noted a b = absurd a
 
     begun_once : (at : ℕ) (cause : Option Fault) → IsBegun r c at d cause → IsBegun r c at e cause → d ≡ e
-    begun_once at None a b = replied_once at (begun c.board.config c.board.id (state_at c.board) (moment (state_at c.board) at)) a b
+    begun_once at None a b = replied_once at (begun c.board.config c.board.id (state_at c.board) (time (state_at c.board) at)) a b
     begun_once at (Some fault.TooManyOpen) a b = a ∙ sym b
     begun_once at (Some fault.NoMemory) a b = absurd a
-    begun_once at (Some fault.TooManyNames) a b = absurd a
+    begun_once at (Some fault.TooManyAlerts) a b = absurd a
     begun_once at (Some fault.TooManyGroups) a b = absurd a
     begun_once at (Some fault.TooManySilences) a b = absurd a
     begun_once at (Some fault.HistoryFull) a b = absurd a
@@ -105,7 +105,7 @@ module _ (r : Setting) where
         both_some (slice_get c.sendings position) (λ s. d ≡ after_finish c position s) (λ s. e ≡ after_finish c position s) (d ≡ e) (λ (s : SendingData) v w. v ∙ sym w) a b
     done_once at step.Plan a b = planned_once c.plans a b
     done_once at step.Maintenance a b = a ∙ sym b
-    done_once at step.Begin a b = begun_once at (why_not c.board at) a b
+    done_once at step.Begin a b = begun_once at (cause_of_none c.board at) a b
 
     -- from a scene one step leads to one scene
     step_once : Steps r c d → Steps r c e → d ≡ e
@@ -120,13 +120,13 @@ module _ (r : Setting) where
       step_once b.0 d e (subst (λ (x : Scene). Steps r x d) same a.2) b.2
 
   -- of more steps some come after fewer
-  goes_on : (j k n : ℕ) (c e : Scene) → n ≡ suc (j + k) → LeadsIn r n c e → (x : Scene) × LeadsIn r k c x × (y : Scene) × Steps r x y
-  goes_on zero k zero c e is led = absurd (omega (arith, is))
-  goes_on zero k (suc n) c e is led =
+  continues : (j k n : ℕ) (c e : Scene) → n ≡ suc (j + k) → LeadsIn r n c e → (x : Scene) × LeadsIn r k c x × (y : Scene) × Steps r x y
+  continues zero k zero c e is led = absurd (omega (arith, is))
+  continues zero k (suc n) c e is led =
       let same : n ≡ k = omega (arith, is) in
       (led.0, subst (λ (m : ℕ). LeadsIn r m c led.0) same led.1, e, led.2)
-  goes_on (suc j) k zero c e is led = absurd (omega (arith, is))
-  goes_on (suc j) k (suc n) c e is led = goes_on j k n c led.0 (omega (arith, is)) led.1
+  continues (suc j) k zero c e is led = absurd (omega (arith, is))
+  continues (suc j) k (suc n) c e is led = continues j k n c led.0 (omega (arith, is)) led.1
 
   -- where nothing comes next, no step leads on
   over : (c d : Scene) → next r c ≡ None → Steps r c d → ⊥
@@ -135,7 +135,7 @@ module _ (r : Setting) where
 
   not_longer : (j k n : ℕ) (c d e : Scene) → n ≡ suc (j + k) → LeadsIn r k c d → next r d ≡ None → LeadsIn r n c e → ⊥
   not_longer j k n c d e is led none later =
-      let on = goes_on j k n c e is later in
+      let on = continues j k n c e is later in
       over on.0 on.2 (subst (λ (x : Scene). next r x ≡ None) (steps_once k c d on.0 led on.1) none) on.3
 
   last_once : (k n : ℕ) (c d e : Scene) → LeadsIn r k c d → next r d ≡ None → LeadsIn r n c e → next r e ≡ None → d ≡ e

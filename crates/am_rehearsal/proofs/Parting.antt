@@ -1,4 +1,4 @@
--- The parts of a rehearsal: one handover more, and one played part more.
+-- The parts of a rehearsal: one change of the dispatcher more, and one played part more.
 use Rattle.std.proofs.Common.{◌≡◌, ◌∙◌, ◌<◌, ℕ, ◌+◌, ◌-◌, suc, get_or, take, if◌then◌else◌, List, [], ◌∷◌, ◌++◌, length, Option, Some, None, Result, Ok, Err, ap, sym, refl, arith, subst}
 use Rattle.std.specs.List.{count_by, flat_map}
 use Rattle.std.specs.Option.{IsSomeAnd}
@@ -10,18 +10,18 @@ use Rattle.am_board.specs.History.{BoardData}
 use Rattle.am_model.specs.Rekey.{Reload, rekeyed}
 use Rattle.am_model.specs.declared.views.RowView.{RowView}
 use Rattle.am_rehearsal.specs.Parts.{PartData, after, cut_at, parts_from}
-use Rattle.am_rehearsal.specs.Playing.{ArePlayed, IsWhyNotPart, IsWhyNotParts, PlaysPart, is_taken, last_board}
+use Rattle.am_rehearsal.specs.Playing.{ArePlayed, IsCauseOfPartFault, IsCauseOfPartsFault, PlaysPart, is_taken, last_board}
 use Rattle.am_rehearsal.specs.declared.playing.PartFault.{PartFault}
 use Rattle.am_rehearsal.specs.declared.playing.PlayedPart.{PlayedPart}
-use Rattle.am_terms.specs.declared.handover.Handover.{Handover}
+use Rattle.am_terms.specs.declared.dispatcher_change.DispatcherChange.{DispatcherChange}
 use Rattle.am_terms.specs.declared.rehearsal.Outage.{Outage}
 
--- these handovers led from the first part to these parts, and the part that is not cut yet
-abbrev pub ArePartsSoFar : PartData → List Handover → List PartData → PartData → Type 0
-ArePartsSoFar first done parts part = (rest : List Handover) → parts_from first (done ++ rest) ≡ parts ++ parts_from part rest
+-- these changes of the dispatcher led from the first part to these parts, and the part that is not cut yet
+abbrev pub ArePartsSoFar : PartData → List DispatcherChange → List PartData → PartData → Type 0
+ArePartsSoFar first done parts part = (rest : List DispatcherChange) → parts_from first (done ++ rest) ≡ parts ++ parts_from part rest
 
--- one handover more
-pub parts_more : (first : PartData) (done : List Handover) (parts : List PartData) (part : PartData) (h : Handover)
+-- one change of the dispatcher more
+pub parts_more : (first : PartData) (done : List DispatcherChange) (parts : List PartData) (part : PartData) (h : DispatcherChange)
     → ArePartsSoFar first done parts part → ArePartsSoFar first (done ++ h ∷ []) (parts ++ cut_at h.at part ∷ []) (after h part)
 parts_more first done parts part h so_far rest =
     ap (parts_from first) (append_assoc done (h ∷ []) rest) ∙ so_far (h ∷ rest) ∙ sym (append_assoc parts (cut_at h.at part ∷ []) (parts_from (after h part) rest))
@@ -59,17 +59,17 @@ module _ (maintain : ℕ) (outages : List Outage) where
   as_many before (x ∷ xs) (y ∷ ys) are = ap suc (as_many (Some y.played.value.board) xs ys are.1)
 
   -- why the part that comes next isn't played to its end is why these parts aren't
-  pub stopped_at : (parts done : List PartData) (played : List PlayedPart) (p : PartData) (told : PartFault) → done ≡ take (length done) parts
-      → (length done < length parts) × (p ≡ get_or parts (length done) p) → told.part ≡ length played → ArePlayed maintain outages None done played
-      → IsWhyNotPart maintain outages (last_board None played) p told.fault → IsWhyNotParts maintain outages parts told
-  stopped_at parts done played p told so_far turn at are why =
-      let n : told.part ≡ length done = at ∙ sym (as_many None done played are) in
-      let first : done ≡ take told.part parts = so_far ∙ ap (λ (k : ℕ). take k parts) (sym n) in
-      let there : slice_get parts told.part ≡ Some p = ap (slice_get parts) n ∙ slice_get_read parts (length parts) (length done) p refl turn.0 turn.1 in
+  pub stopped_at : (parts done : List PartData) (played : List PlayedPart) (p : PartData) (returned : PartFault) → done ≡ take (length done) parts
+      → (length done < length parts) × (p ≡ get_or parts (length done) p) → returned.part ≡ length played → ArePlayed maintain outages None done played
+      → IsCauseOfPartFault maintain outages (last_board None played) p returned.fault → IsCauseOfPartsFault maintain outages parts returned
+  stopped_at parts done played p returned so_far turn at are why =
+      let n : returned.part ≡ length done = at ∙ sym (as_many None done played are) in
+      let first : done ≡ take returned.part parts = so_far ∙ ap (λ (k : ℕ). take k parts) (sym n) in
+      let there : slice_get parts returned.part ≡ Some p = ap (slice_get parts) n ∙ slice_get_read parts (length parts) (length done) p refl turn.0 turn.1 in
       record {
         played = played;
         before = subst (λ (ps : List PartData). ArePlayed maintain outages None ps played) first are;
-        stopped = subst (λ (o : Option PartData). IsSomeAnd o (λ x. IsWhyNotPart maintain outages (last_board None played) x told.fault)) (sym there) why;
+        stopped = subst (λ (o : Option PartData). IsSomeAnd o (λ x. IsCauseOfPartFault maintain outages (last_board None played) x returned.fault)) (sym there) why;
       }
 
 -- by which rows one more of these rows is found again, and whether it is taken over

@@ -4,7 +4,7 @@ use Rattle.std.specs.Prelude.{slice_get}
 use Rattle.std.specs.Option.{IsSomeAnd}
 use Rattle.am_board.specs.History.{state_at}
 use Rattle.am_model.specs.Begin.{begun}
-use Rattle.am_model.specs.State.{moment}
+use Rattle.am_model.specs.State.{time}
 use Rattle.am_model.specs.declared.fault.Fault.{Fault}
 use Rattle.am_model.specs.declared.fault.Fault.TheVariants as fault
 use Rattle.am_model.specs.declared.record.Reply.{Reply}
@@ -13,7 +13,7 @@ use Rattle.am_rehearsal.specs.Next.{next}
 use Rattle.am_rehearsal.specs.Play.{LeadsIn}
 use Rattle.am_rehearsal.specs.Scene.{Scene, SendingData, Setting}
 use Rattle.am_rehearsal.specs.Steps.{IsBegun, IsDone, IsPlanDone, IsReplied, Steps, after_end, after_finish}
-use Rattle.am_rehearsal.specs.Taking.{why_not}
+use Rattle.am_rehearsal.specs.Taking.{cause_of_none}
 use Rattle.am_rehearsal.specs.declared.next.End.{End}
 use Rattle.am_rehearsal.specs.declared.next.Next.{Next}
 use Rattle.am_rehearsal.specs.declared.next.Step.{Step}
@@ -49,7 +49,7 @@ module _ (r : Setting) where
     acted [] left done = absurd done
     acted (p ∷ ps) left done = (p ∷ [], left ∙ ap (λ (l : List TimedAction). p ∷ l) (sym (ap (λ (s : Scene). s.plans) done.1)))
 
-    replied : (at : ℕ) (told : Reply) → IsReplied r c at d told → Leaves
+    replied : (at : ℕ) (returned : Reply) → IsReplied r c at d returned → Leaves
     replied at reply.NothingDue is = same_plans _ is refl
     replied at (reply.Quiet group removed) is = same_plans _ is refl
     replied at (reply.Flush group opened) sent = same_plans _ sent.4 refl
@@ -62,10 +62,10 @@ module _ (r : Setting) where
     replied at reply.Noted is = absurd is
 
     begun_by : (at : ℕ) (cause : Option Fault) → IsBegun r c at d cause → Leaves
-    begun_by at None is = replied at (begun c.board.config c.board.id (state_at c.board) (moment (state_at c.board) at)) is
+    begun_by at None is = replied at (begun c.board.config c.board.id (state_at c.board) (time (state_at c.board) at)) is
     begun_by at (Some fault.TooManyOpen) is = same_plans _ is refl
     begun_by at (Some fault.NoMemory) is = absurd is
-    begun_by at (Some fault.TooManyNames) is = absurd is
+    begun_by at (Some fault.TooManyAlerts) is = absurd is
     begun_by at (Some fault.TooManyGroups) is = absurd is
     begun_by at (Some fault.TooManySilences) is = absurd is
     begun_by at (Some fault.HistoryFull) is = absurd is
@@ -75,7 +75,7 @@ module _ (r : Setting) where
     done_leaves at (step.Finish position) done = finished position done
     done_leaves at step.Plan done = acted c.plans refl done
     done_leaves at step.Maintenance is = same_plans _ is refl
-    done_leaves at step.Begin done = begun_by at (why_not c.board at) done
+    done_leaves at step.Begin done = begun_by at (cause_of_none c.board at) done
 
     step_leaves : Steps r c d → Leaves
     unfolding Steps

@@ -10,7 +10,7 @@ use Rattle.am_rehearsal.proofs.Coming.{next_there}
 use Rattle.am_rehearsal.proofs.Scenes.{same_scene, scene_of}
 use Rattle.am_pool.specs.Sendings.{later}
 use Rattle.am_rehearsal.specs.Answers.{AreEndsOf}
-use Rattle.am_rehearsal.specs.Courses.{IsThereFor}
+use Rattle.am_rehearsal.specs.Simulations.{IsThereFor}
 use Rattle.am_rehearsal.specs.Next.{next}
 use Rattle.am_rehearsal.specs.Planned.{call_of}
 use Rattle.am_rehearsal.specs.Play.{Reaches}
@@ -66,7 +66,7 @@ module _ (r : Setting) (c : Scene) (position index : ℕ) (s taken last : Sendin
       → taken ≡ record s { ends = remove s.ends index }
       → last ≡ record taken { ticket = with_report e.report taken.ticket }
       → ss ≡ slice_set c.sendings position last
-      → b ≡ (if is_success e.report then with_note e.at (with_report e.report taken.ticket) e.place c.board else c.board)
+      → b ≡ (if is_success e.report then with_note e.at (with_report e.report taken.ticket) e.index c.board else c.board)
       → es ≡ c.events ++ sent_events taken.begin e.report
       → IsDone r c 0 (scene_of b es c.plans ss e.at c.maintenance c.begins c.blocked) (step.End position index)
   end_done here there took reported sendings board events =
@@ -75,7 +75,7 @@ module _ (r : Setting) (c : Scene) (position index : ℕ) (s taken last : Sendin
       in
       let is : scene_of b es c.plans ss e.at c.maintenance c.begins c.blocked ≡ after_end c position s index e =
       same_scene c.plans e.at c.maintenance c.begins c.blocked
-      (board ∙ ap (λ (t : SendingData). if is_success e.report then with_note e.at (with_report e.report t.ticket) e.place c.board else c.board) took)
+      (board ∙ ap (λ (t : SendingData). if is_success e.report then with_note e.at (with_report e.report t.ticket) e.index c.board else c.board) took)
       (events ∙ ap (λ (t : SendingData). c.events ++ sent_events t.begin e.report) took)
       (sendings ∙ ap (slice_set c.sendings position) all)
       in

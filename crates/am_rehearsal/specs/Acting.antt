@@ -10,7 +10,7 @@ use Rattle.am_rehearsal.specs.declared.acting.ActFault.TheVariants.{NoMemory, Re
 -- memory was refused, or a limit is reached
 abbrev pub act_fault_of_call : Fault → ActFault
 act_fault_of_call call.NoMemory = NoMemory
-act_fault_of_call call.TooManyNames = Refused
+act_fault_of_call call.TooManyAlerts = Refused
 act_fault_of_call call.TooManyGroups = Refused
 act_fault_of_call call.TooManySilences = Refused
 act_fault_of_call call.TooManyOpen = Refused

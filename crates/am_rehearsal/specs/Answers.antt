@@ -57,13 +57,13 @@ abbrev pub IsOutcome : (ℕ → ℕ → ℕ → ℕ → Sent) → Option ℕ →
 IsOutcome answer cut at n None = is_nothing n ≡ true
 IsOutcome answer cut at n (Some report) = (is_nothing n ≡ false) × IsSentFrom (IsAnsweredBy answer) at (tried_by cut n) report
 
--- the end of the notice at a place of a ticket that was sent from a time on: when its sending is over
+-- the end of the notice at an index of a ticket that was sent from a time on: when its sending is over
 abbrev pub IsEndOf : (ℕ → ℕ → ℕ → ℕ → Sent) → Option ℕ → ℕ → ℕ → NoticeData → End → Type 0
-IsEndOf answer cut at place n e = (e.place ≡ place) × (e.at ≡ end_on at e.report) × IsOutcome answer cut at n e.report
+IsEndOf answer cut at index n e = (e.index ≡ index) × (e.at ≡ end_on at e.report) × IsOutcome answer cut at n e.report
 
--- the ends of notices, the first of which is at this place
+-- the ends of notices, the first of which is at this index
 abbrev pub AreEndsOf : (ℕ → ℕ → ℕ → ℕ → Sent) → Option ℕ → ℕ → ℕ → List NoticeData → List End → Type 0
-AreEndsOf answer cut at place [] [] = Unit {0}
-AreEndsOf answer cut at place [] (e ∷ es) = ⊥
-AreEndsOf answer cut at place (n ∷ ns) [] = ⊥
-AreEndsOf answer cut at place (n ∷ ns) (e ∷ es) = IsEndOf answer cut at place n e × AreEndsOf answer cut at (place + 1) ns es
+AreEndsOf answer cut at index [] [] = Unit {0}
+AreEndsOf answer cut at index [] (e ∷ es) = ⊥
+AreEndsOf answer cut at index (n ∷ ns) [] = ⊥
+AreEndsOf answer cut at index (n ∷ ns) (e ∷ es) = IsEndOf answer cut at index n e × AreEndsOf answer cut at (index + 1) ns es

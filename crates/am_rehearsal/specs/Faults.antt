@@ -14,7 +14,7 @@ fault_of_board (board.BadConfig fault) = play.BadConfig
 -- memory was refused, or a limit is reached
 abbrev pub fault_of_call : Fault → PlayFault
 fault_of_call call.NoMemory = play.NoMemory
-fault_of_call call.TooManyNames = play.Full
+fault_of_call call.TooManyAlerts = play.Full
 fault_of_call call.TooManyGroups = play.Full
 fault_of_call call.TooManySilences = play.Full
 fault_of_call call.TooManyOpen = play.Full

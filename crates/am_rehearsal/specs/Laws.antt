@@ -25,5 +25,5 @@ EndsByCut cut at e = (e.at ≤ max at cut) × IfSome e.report (λ r. 0 < r.attem
 -- law: where a dispatcher is stopped at a cut, each sending ends by the cut
 abbrev pub SendingsEndByCut : Type 0
 SendingsEndByCut =
-    (cut : ℕ) (outages : List Outage) (receiver : List ℕ) (at place : ℕ) (n : NoticeData) (e : End)
-    → IsEndOf (answer_of (Some cut) outages receiver) (Some cut) at place n e → EndsByCut cut at e
+    (cut : ℕ) (outages : List Outage) (receiver : List ℕ) (at index : ℕ) (n : NoticeData) (e : End)
+    → IsEndOf (answer_of (Some cut) outages receiver) (Some cut) at index n e → EndsByCut cut at e

@@ -9,7 +9,7 @@ pub mod EventOrder
 -- the faults of a board, as those of a rehearsal
 pub mod Faults
 -- why a rehearsal isn't played to its end
-pub mod WhyNot
+pub mod CauseOfFault
 -- how attempts of a notice are answered
 pub mod Answers
 -- what is known of a rehearsal between two steps
@@ -26,13 +26,13 @@ pub mod Play
 pub mod Taking
 -- a rehearsal has one play
 pub mod Laws
--- what a new dispatcher is told before its own plans
-pub mod Handover
+-- what a new dispatcher is given before its own plans
+pub mod DispatcherChange
 -- what was seen, while plans are gone through from the end
 pub mod Seen
--- a rehearsal with handovers, as a list of parts
+-- a rehearsal with changes of the dispatcher, as a list of parts
 pub mod Parts
 -- the parts of a rehearsal, played one after another
 pub mod Playing
 -- the state of the loop that plays
-pub mod Courses
+pub mod Simulations

@@ -7,7 +7,7 @@ use Rattle.am_model.specs.declared.record.Call.TheVariants as call
 use Rattle.am_model.specs.declared.record.Record.{Record}
 use Rattle.am_model.specs.Records.{call_of_silence}
 use Rattle.am_model.specs.Causes.{insert_cause, load_cause, silence_cause}
-use Rattle.am_model.specs.State.{moment}
+use Rattle.am_model.specs.State.{time}
 use Rattle.am_board.specs.History.{BoardData, records_at, state_at}
 use Rattle.am_terms.specs.declared.rehearsal.Action.{Action}
 use Rattle.am_terms.specs.declared.rehearsal.Action.TheVariants.{Insert, Silence, Load}
@@ -28,17 +28,17 @@ input_of (call.Note now number integration outcome) = None
 abbrev pub inputs_in : List Record → List Call
 inputs_in history = filter_map (λ r. input_of r.call) history
 
--- the call that something planned is: an insert of the alert, the silence, or a load of the row, at its moment
+-- the call that something planned is: an insert of the alert, the silence, or a load of the row, at its time
 abbrev pub call_of : ℕ → Action → Call
 call_of at (Insert alert) = call.Insert at alert
 call_of at (Silence silence) = call_of_silence at silence
 call_of at (Load row) = call.Load at row
 
--- whether a board refuses something planned at a moment: at a limit, or a log row that doesn't fit
+-- whether a board refuses something planned at a time: at a limit, or a log row that doesn't fit
 abbrev pub refuses : BoardData → ℕ → Action → Bool
 refuses b at (Insert alert) = is_some (insert_cause b.config (records_at b) (state_at b) alert)
 refuses b at (Silence silence) = is_some (silence_cause b.config (records_at b) (state_at b) silence)
-refuses b at (Load row) = is_some (load_cause b.config (records_at b) (state_at b) (moment (state_at b) at) row)
+refuses b at (Load row) = is_some (load_cause b.config (records_at b) (state_at b) (time (state_at b) at) row)
 
 -- planned: the calls of plans, up to the first plan that is after the end
 abbrev pub planned : ℕ → List TimedAction → List Call

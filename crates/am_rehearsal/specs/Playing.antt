@@ -10,25 +10,25 @@ use Rattle.am_model.specs.Views.{row_views}
 use Rattle.am_model.specs.declared.config.Config.{Config}
 use Rattle.am_model.specs.declared.views.RowView.{RowView}
 use Rattle.am_board.specs.History.{BoardData, state_at}
-use Rattle.am_rehearsal.specs.Handover.{loads}
+use Rattle.am_rehearsal.specs.DispatcherChange.{loads}
 use Rattle.am_rehearsal.specs.Parts.{PartData}
 use Rattle.am_rehearsal.specs.Play.{PlaysTo}
 use Rattle.am_rehearsal.specs.Scene.{Setting, setting_with}
-use Rattle.am_rehearsal.specs.WhyNot.{IsWhyNot}
+use Rattle.am_rehearsal.specs.CauseOfFault.{IsCauseOfFault}
 use Rattle.am_rehearsal.specs.declared.play.PlayFault.{PlayFault}
 use Rattle.am_rehearsal.specs.declared.play.PlayFault.TheVariants as play
 use Rattle.am_rehearsal.specs.declared.playing.PartFault.{PartFault}
 use Rattle.am_rehearsal.specs.declared.playing.PlayedPart.{PlayedPart}
-use Rattle.am_terms.specs.declared.handover.Keeps.{Keeps}
-use Rattle.am_terms.specs.declared.handover.Keeps.TheVariants.{All, Log, Nothing}
+use Rattle.am_terms.specs.declared.dispatcher_change.Carryover.{Carryover}
+use Rattle.am_terms.specs.declared.dispatcher_change.Carryover.TheVariants.{All, Log, Nothing}
 use Rattle.am_terms.specs.declared.rehearsal.Outage.{Outage}
 use Rattle.am_terms.specs.declared.rehearsal.TimedAction.{TimedAction}
 
 -- whether the log is kept
-abbrev pub keeps_log : Keeps → Bool
-keeps_log All = true
-keeps_log Log = true
-keeps_log Nothing = false
+abbrev pub carries_log : Carryover → Bool
+carries_log All = true
+carries_log Log = true
+carries_log Nothing = false
 
 -- the log rows of the board before, if there is one
 abbrev pub rows_before : Option BoardData → List RowView
@@ -46,18 +46,18 @@ is_taken at reload row = not (nat_lt row.expiry at) && list_any (is_led_to reloa
 
 -- taken_over: the log rows that a dispatcher begins with: for each of those of the board before it the rows by which its log finds that one
 -- again, if the log is kept
-abbrev pub taken_over : Keeps → Config → Option BoardData → List RowView
-taken_over keeps config None = []
-taken_over keeps config (Some b) = if keeps_log keeps then flat_map (rekeyed (reload_of b config)) (row_views (state_at b)) else []
+abbrev pub taken_over : Carryover → Config → Option BoardData → List RowView
+taken_over carryover config None = []
+taken_over carryover config (Some b) = if carries_log carryover then flat_map (rekeyed (reload_of b config)) (row_views (state_at b)) else []
 
 -- how many log rows of the board before are taken over at a time
-abbrev pub taken_count : Keeps → ℕ → Config → Option BoardData → ℕ
-taken_count keeps at config None = 0
-taken_count keeps at config (Some b) = if keeps_log keeps then count_by (is_taken at (reload_of b config)) (row_views (state_at b)) else 0
+abbrev pub taken_count : Carryover → ℕ → Config → Option BoardData → ℕ
+taken_count carryover at config None = 0
+taken_count carryover at config (Some b) = if carries_log carryover then count_by (is_taken at (reload_of b config)) (row_views (state_at b)) else 0
 
 -- the plans of a part with the loads of the log rows that its dispatcher takes over in front of them
 abbrev pub loaded_plans : Option BoardData → PartData → List TimedAction
-loaded_plans before p = loads p.span.since (taken_over p.keeps p.config before) ++ p.plans
+loaded_plans before p = loads p.span.since (taken_over p.carryover p.config before) ++ p.plans
 
 -- what doesn't change in a part: its end and its span, the time between two maintenances, and the outages
 abbrev pub setting_of_part : ℕ → List Outage → PartData → Setting
@@ -67,7 +67,7 @@ setting_of_part maintain outages p = setting_with p.until maintain outages p.spa
 pub record PlaysPart (maintain : ℕ) (outages : List Outage) (before : Option BoardData) (p : PartData) (q : PlayedPart) : Type 0 where
   pub plays : PlaysTo (setting_of_part maintain outages p) p.config (loaded_plans before p) q.played.value.board q.played.value.events.items
   pub rows : q.rows ≡ length (rows_before before)
-  pub taken : q.taken ≡ taken_count p.keeps p.span.since p.config before
+  pub taken : q.taken ≡ taken_count p.carryover p.span.since p.config before
 
 -- parts play so one after another: each after the board of the one before it, and the first after this board, if there is one
 abbrev pub ArePlayed : ℕ → List Outage → Option BoardData → List PartData → List PlayedPart → Type 0
@@ -95,11 +95,11 @@ IsTakeFault config (play.PlanRefused k) = ⊥
 IsTakeFault config play.Full = ⊥
 
 -- why a part isn't played to its end after the board before it
-abbrev pub IsWhyNotPart : ℕ → List Outage → Option BoardData → PartData → PlayFault → Type 0
-IsWhyNotPart maintain outages before p = IsWhyNot (setting_of_part maintain outages p) p.config (loaded_plans before p)
+abbrev pub IsCauseOfPartFault : ℕ → List Outage → Option BoardData → PartData → PlayFault → Type 0
+IsCauseOfPartFault maintain outages before p = IsCauseOfFault (setting_of_part maintain outages p) p.config (loaded_plans before p)
 
 -- why parts aren't played to their ends: those before the part at this position play so, and after them that one isn't played to its end
-pub record IsWhyNotParts (maintain : ℕ) (outages : List Outage) (parts : List PartData) (told : PartFault) : Type 0 where
+pub record IsCauseOfPartsFault (maintain : ℕ) (outages : List Outage) (parts : List PartData) (returned : PartFault) : Type 0 where
   pub played : List PlayedPart
-  pub before : ArePlayed maintain outages None (take told.part parts) played
-  pub stopped : IsSomeAnd (slice_get parts told.part) (λ p. IsWhyNotPart maintain outages (last_board None played) p told.fault)
+  pub before : ArePlayed maintain outages None (take returned.part parts) played
+  pub stopped : IsSomeAnd (slice_get parts returned.part) (λ p. IsCauseOfPartFault maintain outages (last_board None played) p returned.fault)

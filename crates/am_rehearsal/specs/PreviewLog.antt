@@ -11,13 +11,13 @@ pub record PreviewLogData : Type 0 where
 -- the begin that waits, if there is one
 abbrev pub begins_in : Option WaitingBegin → List PreviewedBegin
 begins_in None = []
-begins_in (Some b) = record { place = b.place; preview = b.preview } ∷ []
+begins_in (Some b) = record { index = b.index; preview = b.preview } ∷ []
 
 -- whether none waits
 abbrev pub is_none : Option WaitingBegin → Bool
 is_none None = true
 is_none (Some b) = false
 
--- there is place for one more begin
+-- there is index for one more begin
 abbrev pub IsReady : PreviewLogData → Type 0
 IsReady l = (l.is_settled ≡ true) × (length l.items < 4294967295)

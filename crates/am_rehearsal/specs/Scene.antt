@@ -23,7 +23,7 @@ pub record Setting : Type 0 where
 abbrev pub setting_with : ℕ → ℕ → List Outage → Span → Setting
 setting_with until maintain outages span = record { until = until; maintain = maintain; outages = outages; span = span }
 
--- a flush whose notices are in flight: its ticket, which of the begins that took a group opened it, and the ends still to come, by place
+-- a flush whose notices are in flight: its ticket, which of the begins that took a group opened it, and the ends still to come, by index
 pub record SendingData : Type 0 where
   pub ticket : TicketData
   pub begin : ℕ

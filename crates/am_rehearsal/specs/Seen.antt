@@ -2,8 +2,8 @@
 use Rattle.std.specs.Prelude.{◌≡◌, ◌==◌, Bool, false, List}
 use Rattle.std.specs.HashSet.{contains}
 use Rattle.am_alerts.specs.Labels.{same_label_set}
-use Rattle.am_rehearsal.specs.Handover.{is_replaced}
-use Rattle.am_rehearsal.specs.declared.handover.Seen.{Seen}
+use Rattle.am_rehearsal.specs.DispatcherChange.{is_replaced}
+use Rattle.am_rehearsal.specs.declared.dispatcher_change.Seen.{Seen}
 use Rattle.am_terms.specs.declared.rehearsal.Action.{Action}
 use Rattle.am_terms.specs.declared.rehearsal.Action.TheVariants.{Insert, Silence, Load}
 use Rattle.am_terms.specs.declared.rehearsal.TimedAction.{TimedAction}

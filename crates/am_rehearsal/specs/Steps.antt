@@ -18,7 +18,7 @@ use Rattle.am_model.specs.Configured.{route_of}
 use Rattle.am_model.specs.Finish.{is_delivered}
 use Rattle.am_model.specs.Records.{entry}
 use Rattle.am_model.specs.Replay.{reply as reply_to}
-use Rattle.am_model.specs.State.{moment}
+use Rattle.am_model.specs.State.{time}
 use Rattle.am_model.specs.Ticket.{TicketData, recorded, report_fault}
 use Rattle.am_board.specs.History.{BoardData, records_at, state_at, with_record}
 use Rattle.am_pool.specs.Sendings.{later, note_at}
@@ -37,13 +37,13 @@ use Rattle.am_terms.specs.declared.rehearsal.TimedAction.{TimedAction}
 
 -- a board after a call, with the reply that the definitions give; as it was, where they give none
 abbrev pub with_call : BoardData → Call → BoardData
-with_call b c = option_map_or (λ told. with_record b (entry 0 c told)) (reply_to b.config b.id (state_at b) c) b
+with_call b c = option_map_or (λ returned. with_record b (entry 0 c returned)) (reply_to b.config b.id (state_at b) c) b
 
--- a board after the note of the notice at a place of a ticket, if it takes the note
+-- a board after the note of the notice at an index of a ticket, if it takes the note
 abbrev pub with_note : ℕ → TicketData → ℕ → BoardData → BoardData
-with_note at t place b =
-    if is_none (note_cause b.config b.id (records_at b) (state_at b) t place)
-    then option_map_or (λ n. with_call b (note_at at t n)) (slice_get t.notices place) b
+with_note at t index b =
+    if is_none (note_cause b.config b.id (records_at b) (state_at b) t index)
+    then option_map_or (λ n. with_call b (note_at at t n)) (slice_get t.notices index) b
     else b
 
 -- a ticket with a report more, if there is one and the ticket takes it
@@ -70,7 +70,7 @@ after_end_of s index report =
 abbrev pub after_end : Scene → ℕ → SendingData → ℕ → End → Scene
 after_end c position s index e =
     record c {
-      board = if is_success e.report then with_note e.at (with_report e.report s.ticket) e.place c.board else c.board;
+      board = if is_success e.report then with_note e.at (with_report e.report s.ticket) e.index c.board else c.board;
       events = c.events ++ sent_events s.begin e.report;
       sendings = slice_set c.sendings position (after_end_of s index e.report);
       clock = e.at;
@@ -99,9 +99,9 @@ after_nothing c at = record c { board = with_record c.board (entry 0 (call.Begin
 
 -- after a begin that took a group
 abbrev pub after_taking : Scene → ℕ → Reply → Scene
-after_taking c at told =
+after_taking c at returned =
     record c {
-      board = with_record c.board (entry 0 (call.Begin at) told);
+      board = with_record c.board (entry 0 (call.Begin at) returned);
       events = c.events ++ Begun (length (begin_indices c.events)) ∷ [];
       clock = at;
       begins = true;
@@ -127,9 +127,9 @@ IsSendingAdded r at ticket begin c d =
 
 -- the ticket of a flush that a board's begin opened
 abbrev pub ticket_of : ℕ → GroupName → Opened → TicketData
-ticket_of desk group opened =
+ticket_of board_id group opened =
     record {
-      desk = desk;
+      board_id = board_id;
       number = opened.number;
       group = group;
       deadline = opened.deadline;
@@ -154,10 +154,10 @@ IsReplied r c at d reply.Noted = ⊥
 
 -- what a begin does that is refused for this cause, or for none
 abbrev pub IsBegun : Setting → Scene → ℕ → Scene → Option Fault → Type 0
-IsBegun r c at d None = let s = state_at c.board in IsReplied r c at d (begun c.board.config c.board.id s (moment s at))
+IsBegun r c at d None = let s = state_at c.board in IsReplied r c at d (begun c.board.config c.board.id s (time s at))
 IsBegun r c at d (Some fault.TooManyOpen) = d ≡ after_too_many c at
 IsBegun r c at d (Some fault.NoMemory) = ⊥
-IsBegun r c at d (Some fault.TooManyNames) = ⊥
+IsBegun r c at d (Some fault.TooManyAlerts) = ⊥
 IsBegun r c at d (Some fault.TooManyGroups) = ⊥
 IsBegun r c at d (Some fault.TooManySilences) = ⊥
 IsBegun r c at d (Some fault.HistoryFull) = ⊥
@@ -175,7 +175,7 @@ IsDone r c at d (step.Finish position) = IsSomeAnd (slice_get c.sendings positio
 IsDone r c at d step.Plan = IsPlanDone c d c.plans
 IsDone r c at d step.Maintenance = d ≡ after_maintenance r c at
 IsDone r c at d step.Begin =
-    let s = state_at c.board in IsBegun r c at d (begin_cause c.board.config (records_at c.board) s (moment s at))
+    let s = state_at c.board in IsBegun r c at d (begin_cause c.board.config (records_at c.board) s (time s at))
 
 -- the step that comes next leads from one scene to another
 unfoldable pub Steps : Setting → Scene → Scene → Type 0

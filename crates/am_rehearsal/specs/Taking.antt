@@ -9,7 +9,7 @@ use Rattle.am_model.specs.declared.record.Reply.TheVariants as reply
 use Rattle.am_model.specs.Begin.{begun}
 use Rattle.am_model.specs.Causes.{begin_cause}
 use Rattle.am_model.specs.Records.{entry, flush_reply}
-use Rattle.am_model.specs.State.{moment}
+use Rattle.am_model.specs.State.{time}
 use Rattle.am_board.specs.History.{BoardData, records_at, state_at, with_record}
 use Rattle.am_board.specs.declared.begin.Begun.{Begun as Answer}
 use Rattle.am_board.specs.declared.begin.Begun.TheVariants as answer
@@ -32,16 +32,16 @@ begun_where (Some preview) true begin = Begun begin ∷ []
 begun_where (Some preview) false begin = []
 
 -- why a begin at a time is refused
-abbrev pub why_not : BoardData → ℕ → Option Fault
-why_not b at = let s = state_at b in begin_cause b.config (records_at b) s (moment s at)
+abbrev pub cause_of_none : BoardData → ℕ → Option Fault
+cause_of_none b at = let s = state_at b in begin_cause b.config (records_at b) s (time s at)
 
 -- a begin at a time led from a board and events to others, by this reply
 pub record IsBeginBy (old : BoardData) (events : List Event) (at : ℕ) (new : BoardData) (events_since : List Event)
-    (told : Reply) : Type 0 where
-  pub allowed : why_not old at ≡ None
-  pub replied : begun old.config old.id (state_at old) (moment (state_at old) at) ≡ told
-  pub board : new ≡ with_record old (entry 0 (call.Begin at) told)
-  pub events_are : events_since ≡ events ++ begun_events (takes_group told) (length (begin_indices events))
+    (returned : Reply) : Type 0 where
+  pub allowed : cause_of_none old at ≡ None
+  pub replied : begun old.config old.id (state_at old) (time (state_at old) at) ≡ returned
+  pub board : new ≡ with_record old (entry 0 (call.Begin at) returned)
+  pub events_are : events_since ≡ events ++ begun_events (takes_group returned) (length (begin_indices events))
 
 -- a begin at a time led from a board and events to others, and came to this
 abbrev pub IsTaken : BoardData → List Event → ℕ → BoardData → List Event → Taken → Type 0
@@ -49,7 +49,7 @@ IsTaken old events at new events_since Nothing = IsBeginBy old events at new eve
 IsTaken old events at new events_since Quiet =
     (group : GroupName) × (removed : ℕ) × IsBeginBy old events at new events_since (reply.Quiet group removed)
 IsTaken old events at new events_since (Flush t) =
-    (t.desk ≡ old.id) × (t.outcomes ≡ [])
+    (t.board_id ≡ old.id) × (t.outcomes ≡ [])
     × IsBeginBy old events at new events_since (flush_reply t.number t.group t.deadline t.notices)
 
 -- what a begin came to is what the board answered

@@ -141,10 +141,10 @@ fn first_covering<'o>(
 fn covers(outage: &Outage, receiver: &Text, integration: u32, at: u64) -> bool
     ensures { result ≡ covers receiver.now integration at outage.now }
 {
-    let is_asked = is_for(integration, outage.integration);
+    let is_notified = is_for(integration, outage.integration);
     let is_past = is_over(at, outage.to);
     let is_same = outage.receiver == *receiver;
-    is_asked && outage.from <= at && !is_past && is_same
+    is_notified && outage.from <= at && !is_past && is_same
 }
 
 /// Returns whether an outage of one integration, or of all, is of this one.

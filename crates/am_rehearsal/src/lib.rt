@@ -7,7 +7,7 @@
 
 mod acting;
 mod courier;
-pub mod handover;
+pub mod dispatcher_change;
 mod law;
 mod limits;
 mod next;

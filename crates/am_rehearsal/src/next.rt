@@ -31,7 +31,7 @@ pub(crate) struct End {
     /// Its time, in milliseconds.
     pub(crate) at: u64,
     /// The notice's position in its ticket.
-    pub(crate) place: usize,
+    pub(crate) index: usize,
     /// None where there is nothing to send.
     pub(crate) report: Option<Report>,
 }

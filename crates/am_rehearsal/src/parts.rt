@@ -2,15 +2,15 @@
 //! dispatcher. `am_rehearse` calls `parts_of`, and `playing` plays them.
 ghost use Rattle.std.specs.Prelude.{◌≡◌, ◌≤◌, ◌++◌, IfOk, OnOk};
 ghost use Rattle.std.specs.List.{prefix_len};
-ghost use Rattle.am_rehearsal.specs.Handover.{set_again};
+ghost use Rattle.am_rehearsal.specs.DispatcherChange.{set_again};
 ghost use Rattle.am_rehearsal.specs.Parts.{after, cut_at, is_before, parts_from, plans_before, plans_from, whole_part};
 ghost use Rattle.am_terms.specs.declared.rehearsal.TheConstants.{MAX_UNTIL};
 
-use crate::handover::set_again;
+use crate::dispatcher_change::set_again;
 use crate::span::Span;
 use am_board::config::Config;
 use am_seed::Seed;
-use am_terms::handover::{Handover, Keeps};
+use am_terms::dispatcher_change::{Carryover, DispatcherChange};
 use am_terms::rehearsal::TimedAction;
 use std::alloc::{AllocError, Global};
 use std::marker::Model;
@@ -25,7 +25,7 @@ pub struct Part {
     /// Its plans, without the loads of the log rows that it takes over.
     pub plans: Vec<TimedAction>,
     /// What it keeps of the dispatcher before it.
-    pub keeps: Keeps,
+    pub carryover: Carryover,
 }
 
 impl Model for Part {
@@ -44,17 +44,17 @@ impl Model for Part {
       span = p.span;
       until = p.until;
       plans = p.plans.items;
-      keeps = p.keeps;
+      carryover = p.carryover;
     } };
 
     ghost invariant = { λ p. p.until ≤ MAX_UNTIL };
 }
 
-/// Returns the parts of a rehearsal with these handovers, in the order of their times.
+/// Returns the parts of a rehearsal with these changes of the dispatcher, in the order of their times.
 ///
-/// The first dispatcher starts at zero, and each other at its handover, by which the one before it
+/// The first dispatcher starts at zero, and each other at its change of the dispatcher, by which the one before it
 /// stops. A plan goes to the dispatcher that runs at its time. Before its own plans a dispatcher is
-/// told again what still counts (`handover::set_again`).
+/// given again what still counts (`dispatcher_change::set_again`).
 ///
 /// # Errors
 ///
@@ -65,15 +65,15 @@ pub fn parts_of(
     config: Config,
     until: u64,
     plans: Vec<TimedAction>,
-    handovers: Vec<Handover>,
+    dispatcher_changes: Vec<DispatcherChange>,
 ) -> Result<Vec<Part>, AllocError>
     requires until { until ≤ MAX_UNTIL }
-    ensures { IfOk result (λ parts. parts.items ≡ parts_from (whole_part config until plans.items) handovers.items) }
+    ensures { IfOk result (λ parts. parts.items ≡ parts_from (whole_part config until plans.items) dispatcher_changes.items) }
 {
     let mut parts = Vec::new(alloc);
     let mut part = Part::whole(config, until, plans);
-    for handover in handovers {
-        match part.hand_over(alloc, seed, handover) {
+    for dispatcher_change in dispatcher_changes {
+        match part.hand_over(alloc, seed, dispatcher_change) {
             Ok(next) => {
                 parts.push(part)?;
                 part = next;
@@ -99,23 +99,27 @@ impl Part {
             span: Span::whole(),
             until,
             plans,
-            keeps: Keeps::Nothing,
+            carryover: Carryover::Nothing,
         }
     }
 
-    /// Leaves what comes before a handover, and returns the part of the dispatcher that follows.
+    /// Leaves what comes before a change of the dispatcher, and returns the part of the dispatcher that follows.
     fn hand_over(
         &mut self,
         alloc: Global,
         seed: Seed,
-        handover: Handover,
+        dispatcher_change: DispatcherChange,
     ) -> Result<Part, AllocError>
-        ensures left { OnOk result (self.new ≡ cut_at handover.at self.old) }
-        ensures next { IfOk result (λ next. next ≡ after handover self.old) }
+        ensures left { OnOk result (self.new ≡ cut_at dispatcher_change.at self.old) }
+        ensures next { IfOk result (λ next. next ≡ after dispatcher_change self.old) }
     {
-        let Handover { at, config, keeps } = handover;
+        let DispatcherChange {
+            at,
+            config,
+            carryover,
+        } = dispatcher_change;
         let until = self.until;
-        let plans = split_plans(alloc, seed, keeps, at, &mut self.plans)?;
+        let plans = split_plans(alloc, seed, carryover, at, &mut self.plans)?;
         self.span.cut = Some(at);
         self.until = until.min(at.saturating_sub(1));
         Ok(Part {
@@ -126,26 +130,26 @@ impl Part {
             },
             until,
             plans,
-            keeps,
+            carryover,
         })
     }
 }
 
-/// Leaves the plans before a handover, and returns those of the dispatcher that follows.
+/// Leaves the plans before a change of the dispatcher, and returns those of the dispatcher that follows.
 fn split_plans(
     alloc: Global,
     seed: Seed,
-    keeps: Keeps,
+    carryover: Carryover,
     at: u64,
     plans: &mut Vec<TimedAction>,
 ) -> Result<Vec<TimedAction>, AllocError>
     ensures left { OnOk result (plans.new.items ≡ plans_before at plans.old.items) }
     ensures next { IfOk result (λ next. next.items
-        ≡ set_again keeps at (plans_before at plans.old.items) ++ plans_from at plans.old.items) }
+        ≡ set_again carryover at (plans_before at plans.old.items) ++ plans_from at plans.old.items) }
 {
     let count = count_before(at, plans.as_slice());
     let mut later = plans.split_off(count)?;
-    let mut next = set_again(alloc, seed, keeps, at, plans.as_slice())?;
+    let mut next = set_again(alloc, seed, carryover, at, plans.as_slice())?;
     next.append(&mut later)?;
     Ok(next)
 }

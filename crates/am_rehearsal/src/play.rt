@@ -14,10 +14,10 @@ ghost use Rattle.std.specs.Prelude.{◌≡◌, ◌≢◌, ◌<◌, ◌≤◌, �
 ghost use Rattle.std.specs.Prelude.{length, slice_get, vec_len, vec_capacity};
 ghost use Rattle.std.specs.List.{range_with_len};
 ghost use Rattle.std.specs.Option.{IsSomeAnd};
-ghost use Rattle.am_alerts.specs.declared.limits.TheConstants.{MAX_MOMENT};
+ghost use Rattle.am_alerts.specs.declared.limits.TheConstants.{MAX_TIME};
 ghost use Rattle.am_model.specs.Config.{config_fault};
 ghost use Rattle.am_model.specs.Replay.{IsLegal};
-ghost use Rattle.am_rehearsal.specs.Courses.{scene_in, setting_in, IsAllowed, IsHindered, IsOwnFault, IsPlanFault, IsStopped};
+ghost use Rattle.am_rehearsal.specs.Simulations.{scene_in, setting_in, IsAllowed, IsHindered, IsOwnFault, IsPlanFault, IsStopped};
 ghost use Rattle.am_rehearsal.specs.EventOrder.{begin_indices};
 ghost use Rattle.am_rehearsal.specs.Faults.{fault_of_call};
 ghost use Rattle.am_rehearsal.specs.Next.{begins_on, next, next_but_begins, next_begin, next_plan};
@@ -26,7 +26,7 @@ ghost use Rattle.am_rehearsal.specs.Play.{setting_in_span, setting_of, PlaysTo, 
 ghost use Rattle.am_rehearsal.specs.Previews.{previews_of};
 ghost use Rattle.am_rehearsal.specs.Scene.{opening_scene, setting_with};
 ghost use Rattle.am_rehearsal.specs.Steps.{after_plan, is_success, sent_events, with_note, with_report, IsDone, IsSendingAdded, Steps};
-ghost use Rattle.am_rehearsal.specs.WhyNot.{own_cause, IsWhyNot};
+ghost use Rattle.am_rehearsal.specs.CauseOfFault.{own_cause, IsCauseOfFault};
 ghost use Rattle.am_rehearsal.specs.declared.limits.TheConstants.{BOARD_ID};
 ghost use Rattle.am_terms.specs.declared.rehearsal.TheConstants.{MAX_UNTIL};
 ghost use Rattle.am_rehearsal.specs.declared.next.Step.TheVariants as step;
@@ -100,7 +100,7 @@ pub enum PlayFault {
 /// a group, once and in order. Clause `played`: board and events are those to which the rehearsal
 /// plays (`PlaysTo`), step by step. `law::rehearsals_have_one_play`: there is only one such pair. The
 /// board has the id `BOARD_ID`. Hashes start from `seed`, on which nothing depends. Clause `refused`:
-/// a fault other than `NoMemory` comes only where it is the cause (`IsWhyNot`).
+/// a fault other than `NoMemory` comes only where it is the cause (`IsCauseOfFault`).
 ///
 /// # Errors
 ///
@@ -127,7 +127,7 @@ pub fn play<W: Watch>(
         begin_indices played.events.items ≡ range_with_len 0 (vec_len played.begins)) }
     ensures played { IfOk result (λ played.
         PlaysTo (setting_of rehearsal) rehearsal.config rehearsal.plans.items played.board played.events.items) }
-    ensures refused { IfErr result (IsWhyNot (setting_of rehearsal) rehearsal.config rehearsal.plans.items) }
+    ensures refused { IfErr result (IsCauseOfFault (setting_of rehearsal) rehearsal.config rehearsal.plans.items) }
 {
     play_span(alloc, seed, rehearsal, Span::whole(), watch)
 }
@@ -157,7 +157,7 @@ pub fn play_span<W: Watch>(
         begin_indices played.events.items ≡ range_with_len 0 (vec_len played.begins)) }
     ensures played { IfOk result (λ played.
         PlaysTo (setting_in_span span rehearsal) rehearsal.config rehearsal.plans.items played.board played.events.items) }
-    ensures refused { IfErr result (IsWhyNot (setting_in_span span rehearsal) rehearsal.config rehearsal.plans.items) }
+    ensures refused { IfErr result (IsCauseOfFault (setting_in_span span rehearsal) rehearsal.config rehearsal.plans.items) }
 {
     let Rehearsal {
         config,
@@ -195,20 +195,22 @@ pub(crate) fn play_pieces<W: Watch>(
     requires until { until ≤ MAX_UNTIL }
     ensures played { IfOk result (λ played.
         PlaysTo (setting_with until maintain outages.now span) config plans.items played.board played.events.items) }
-    ensures refused { IfErr result (IsWhyNot (setting_with until maintain outages.now span) config plans.items) }
+    ensures refused { IfErr result (IsCauseOfFault (setting_with until maintain outages.now span) config plans.items) }
 {
-    let mut course = Course::open(alloc, seed, config, until, maintain, plans, outages, span)?;
-    match course.run(watch) {
-        Ok(()) => Ok(course.into_played()?),
+    let mut simulation = Simulation::open(
+        alloc, seed, config, until, maintain, plans, outages, span,
+    )?;
+    match simulation.run(watch) {
+        Ok(()) => Ok(simulation.into_played()?),
         Err(fault) => {
-            course.abandon();
+            simulation.abandon();
             Err(fault)
         }
     }
 }
 
 /// A rehearsal that is being played.
-struct Course<'o> {
+struct Simulation<'o> {
     alloc: Global,
     seed: Seed,
     board: PreviewingBoard,
@@ -232,7 +234,7 @@ struct Course<'o> {
     is_blocked: bool,
 }
 
-impl<'o> Course<'o> {
+impl<'o> Simulation<'o> {
     /// A rehearsal at its start.
     fn open(
         alloc: Global,
@@ -243,15 +245,15 @@ impl<'o> Course<'o> {
         plans: Vec<TimedAction>,
         outages: &'o [Outage],
         span: Span,
-    ) -> Result<Course<'o>, PlayFault>
-        ensures setting { IfOk result (λ course. setting_in course ≡ setting_with until maintain outages.now span) }
-        ensures scene { IfOk result (λ course.
-            scene_in course ≡ opening_scene (setting_with until maintain outages.now span) config plans.items) }
-        ensures counted { IfOk result (λ course. course.count ≡ length plans.items) }
+    ) -> Result<Simulation<'o>, PlayFault>
+        ensures setting { IfOk result (λ simulation. setting_in simulation ≡ setting_with until maintain outages.now span) }
+        ensures scene { IfOk result (λ simulation.
+            scene_in simulation ≡ opening_scene (setting_with until maintain outages.now span) config plans.items) }
+        ensures counted { IfOk result (λ simulation. simulation.count ≡ length plans.items) }
         ensures faultless { OnOk result (config_fault config ≡ None) }
         ensures refused { IfErr result (λ fault. (fault ≡ PlayFault.BadConfig) × (config_fault config ≢ None)) }
     {
-        Ok(Course {
+        Ok(Simulation {
             alloc,
             seed,
             board: PreviewingBoard::new(alloc, seed, config)?,
@@ -441,7 +443,7 @@ impl<'o> Course<'o> {
 
     /// Begins a flush.
     fn begin(&mut self, at: u64) -> Result<(), PlayFault>
-        requires { at ≤ MAX_MOMENT }
+        requires { at ≤ MAX_TIME }
         ensures same { setting_in self.new ≡ setting_in self.old }
         ensures counted { self.new.count ≡ self.old.count }
         ensures done { OnOk result (IsDone (setting_in self.old) (scene_in self.old) at (scene_in self.new) step.Begin) }
@@ -477,7 +479,7 @@ impl<'o> Course<'o> {
 
     /// Sends the notices of a flush from `at` on.
     fn send(&mut self, begin: u32, own: OwnTicket<BOARD_ID>, at: u64) -> Result<(), PlayFault>
-        requires moment { at ≤ MAX_MOMENT }
+        requires time { at ≤ MAX_TIME }
         requires room { vec_len self.old.sendings < vec_capacity self.old.sendings }
         ensures same { setting_in self.new ≡ setting_in self.old }
         ensures counted { self.new.count ≡ self.old.count }
@@ -511,7 +513,7 @@ impl<'o> Course<'o> {
         ensures board { IfOk result (λ played. played.board ≡ self.entry.board.board) }
         ensures events { IfOk result (λ played. played.events.items ≡ self.entry.board.events.items) }
     {
-        let Course {
+        let Simulation {
             alloc: _,
             seed,
             board,
@@ -556,12 +558,12 @@ fn report_end(
     ensures sending { OnOk result (sending.new ≡ record (sending.old) { ticket = with_report end.report sending.old.ticket }) }
     ensures events { OnOk result (board.new.events.items ≡ board.old.events.items ++ sent_events sending.old.begin end.report) }
     ensures board { OnOk result (board.new.board
-        ≡ (if is_success end.report then with_note end.at (with_report end.report sending.old.ticket) end.place board.old.board
+        ≡ (if is_success end.report then with_note end.at (with_report end.report sending.old.ticket) end.index board.old.board
         else board.old.board)) }
 {
     keep_report(alloc, board, sending, end.report)?;
     if is_success(end.report) {
-        return board.note(alloc, &sending.own, end.place, end.at);
+        return board.note(alloc, &sending.own, end.index, end.at);
     }
     Ok(())
 }

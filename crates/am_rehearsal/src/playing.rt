@@ -8,14 +8,14 @@ ghost use Rattle.std.specs.List.{count_by, flat_map, list_any};
 ghost use Rattle.std.specs.Option.{option_copied};
 ghost use Rattle.am_model.specs.Carry.{is_led_to};
 ghost use Rattle.am_model.specs.Rekey.{rekeyed};
-ghost use Rattle.am_rehearsal.specs.Playing.{is_taken, keeps_log, last_board, rows_before, taken_count, taken_over};
-ghost use Rattle.am_rehearsal.specs.Playing.{ArePlayed, IsPlayedNext, IsTakeFault, IsWhyNotPart, IsWhyNotParts, PlaysPart};
+ghost use Rattle.am_rehearsal.specs.Playing.{is_taken, carries_log, last_board, rows_before, taken_count, taken_over};
+ghost use Rattle.am_rehearsal.specs.Playing.{ArePlayed, IsPlayedNext, IsTakeFault, IsCauseOfPartFault, IsCauseOfPartsFault, PlaysPart};
 ghost use Rattle.am_rehearsal.specs.Scene.{setting_with};
 ghost use Rattle.am_rehearsal.specs.Play.{PlaysTo};
-ghost use Rattle.am_rehearsal.specs.WhyNot.{IsWhyNot};
+ghost use Rattle.am_rehearsal.specs.CauseOfFault.{IsCauseOfFault};
 ghost use Rattle.am_terms.specs.declared.rehearsal.TheConstants.{MAX_UNTIL};
 
-use crate::handover::loads;
+use crate::dispatcher_change::loads;
 use crate::parts::Part;
 use crate::play::{PlayFault, Played, play_pieces};
 use crate::span::Span;
@@ -24,7 +24,7 @@ use am_board::config::Config;
 use am_model::rekey::{Rekeying, is_led_to};
 use am_model::views::RowView;
 use am_seed::Seed;
-use am_terms::handover::Keeps;
+use am_terms::dispatcher_change::Carryover;
 use am_terms::rehearsal::{Outage, TimedAction};
 use am_terms::watch::Watch;
 use std::alloc::{AllocError, Global};
@@ -55,7 +55,7 @@ pub struct PartFault {
 ///
 /// Clause `played`: each part plays to its board and events (`PlaysTo`), and the numbers of log rows
 /// are right. Clause `refused`: the parts before the failing one are played, and for that one the
-/// fault is the cause (`IsWhyNot`).
+/// fault is the cause (`IsCauseOfFault`).
 ///
 /// # Errors
 ///
@@ -70,7 +70,7 @@ pub fn play_parts<W: Watch>(
     watch: &mut W,
 ) -> Result<Vec<PlayedPart>, PartFault>
     ensures played { IfOk result (λ played. ArePlayed maintain outages.now None parts.items played.items) }
-    ensures refused { IfErr result (IsWhyNotParts maintain outages.now parts.items) }
+    ensures refused { IfErr result (IsCauseOfPartsFault maintain outages.now parts.items) }
 {
     let mut played = Vec::new(alloc);
     for part in parts {
@@ -99,7 +99,7 @@ fn play_next<W: Watch>(
 ) -> Result<(), PlayFault>
     ensures added { OnOk result (IsPlayedNext maintain outages.now part played.old.items played.new.items) }
     ensures kept { OnErr result (played.new.items ≡ played.old.items) }
-    ensures refused { IfErr result (IsWhyNotPart maintain outages.now (last_board None played.old.items) part) }
+    ensures refused { IfErr result (IsCauseOfPartFault maintain outages.now (last_board None played.old.items) part) }
 {
     played.reserve(1)?;
     let before = last_board(played.as_slice());
@@ -129,16 +129,16 @@ fn play_part<W: Watch>(
     watch: &mut W,
 ) -> Result<PlayedPart, PlayFault>
     ensures played { IfOk result (PlaysPart maintain outages.now (option_copied before.entry) part) }
-    ensures refused { IfErr result (IsWhyNotPart maintain outages.now (option_copied before.entry) part) }
+    ensures refused { IfErr result (IsCauseOfPartFault maintain outages.now (option_copied before.entry) part) }
 {
     let Part {
         config,
         span,
         until,
         plans: mut own,
-        keeps,
+        carryover,
     } = part;
-    let log = take_over(alloc, before, keeps, span.since, &config)?;
+    let log = take_over(alloc, before, carryover, span.since, &config)?;
     let mut plans = loads(alloc, span.since, log.found)?;
     plans.append(&mut own)?;
     let played = play_boxed(
@@ -166,7 +166,7 @@ fn play_boxed<W: Watch>(
     requires until { until ≤ MAX_UNTIL }
     ensures played { IfOk result (λ played. PlaysTo (setting_with until maintain outages.now span) config plans.items
         played.value.board played.value.events.items) }
-    ensures refused { IfErr result (IsWhyNot (setting_with until maintain outages.now span) config plans.items) }
+    ensures refused { IfErr result (IsCauseOfFault (setting_with until maintain outages.now span) config plans.items) }
 {
     let played = play_pieces(
         alloc, seed, config, until, maintain, plans, outages, span, watch,
@@ -196,20 +196,20 @@ struct TakenLog {
 fn take_over(
     alloc: Global,
     before: Option<&Board>,
-    keeps: Keeps,
+    carryover: Carryover,
     at: u64,
     config: &Config,
 ) -> Result<TakenLog, PlayFault>
-    ensures found { IfOk result (λ log. log.found.items ≡ taken_over keeps config.now (option_copied before.entry)) }
+    ensures found { IfOk result (λ log. log.found.items ≡ taken_over carryover config.now (option_copied before.entry)) }
     ensures rows { IfOk result (λ log. log.rows ≡ length (rows_before (option_copied before.entry))) }
-    ensures taken { IfOk result (λ log. log.taken ≡ taken_count keeps at config.now (option_copied before.entry)) }
+    ensures taken { IfOk result (λ log. log.taken ≡ taken_count carryover at config.now (option_copied before.entry)) }
     ensures refused { IfErr result (IsTakeFault config.now) }
 {
     match before {
         None => Ok(TakenLog::nothing(alloc, 0)),
         Some(board) => {
             let rows = board.rows(alloc)?;
-            if keeps_log(keeps) {
+            if carries_log(carryover) {
                 find_all(alloc, board.config(), config, at, rows.as_slice())
             } else {
                 Ok(TakenLog::nothing(alloc, rows.len()))
@@ -218,12 +218,12 @@ fn take_over(
     }
 }
 
-fn keeps_log(keeps: Keeps) -> bool
-    ensures { result ≡ keeps_log keeps }
+fn carries_log(carryover: Carryover) -> bool
+    ensures { result ≡ carries_log carryover }
 {
-    match keeps {
-        Keeps::All | Keeps::Log => true,
-        Keeps::Nothing => false,
+    match carryover {
+        Carryover::All | Carryover::Log => true,
+        Carryover::Nothing => false,
     }
 }
 

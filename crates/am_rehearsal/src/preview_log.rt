@@ -33,7 +33,7 @@ pub(crate) struct PreviewLog {
 /// A begin whose preview shares nothing.
 #[derive(Drop)]
 pub(crate) struct WaitingBegin {
-    place: usize,
+    index: usize,
     preview: Preview,
 }
 
@@ -78,7 +78,7 @@ impl PreviewLog {
         self.count
     }
 
-    /// Makes place for one more begin. The begins are the same, also where memory is refused.
+    /// Makes index for one more begin. The begins are the same, also where memory is refused.
     pub(crate) fn make_ready(&mut self) -> Result<(), AllocError>
         ensures items { self.new.items ≡ self.old.items }
         ensures ready { OnOk result (IsReady self.new) }
@@ -90,11 +90,11 @@ impl PreviewLog {
     }
 
     /// Adds a begin.
-    pub(crate) fn push(&mut self, place: usize, preview: Preview)
+    pub(crate) fn push(&mut self, index: usize, preview: Preview)
         requires { IsReady self.old }
-        ensures { self.new.items ≡ self.old.items ++ record { place = place; preview = preview } ∷ [] }
+        ensures { self.new.items ≡ self.old.items ++ record { index = index; preview = preview } ∷ [] }
     {
-        self.waiting = Some(WaitingBegin { place, preview });
+        self.waiting = Some(WaitingBegin { index, preview });
         self.count += 1;
     }
 
@@ -121,14 +121,14 @@ impl PreviewLog {
         let Some(waiting) = self.waiting.take() else {
             return Ok(());
         };
-        let WaitingBegin { place, preview } = waiting;
+        let WaitingBegin { index, preview } = waiting;
         match self.sources.share(self.begins.as_slice(), preview) {
             Ok(preview) => {
-                self.begins.push_reserved(PreviewedBegin { place, preview });
+                self.begins.push_reserved(PreviewedBegin { index, preview });
                 Ok(())
             }
             Err(preview) => {
-                self.waiting = Some(WaitingBegin { place, preview });
+                self.waiting = Some(WaitingBegin { index, preview });
                 Err(AllocError)
             }
         }

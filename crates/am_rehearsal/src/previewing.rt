@@ -12,7 +12,7 @@ ghost use Rattle.am_model.specs.Begin.{next_due};
 ghost use Rattle.am_model.specs.Causes.{insert_cause, load_cause, maintain_cause, silence_cause};
 ghost use Rattle.am_model.specs.Config.{config_fault};
 ghost use Rattle.am_model.specs.Records.{call_of_silence};
-ghost use Rattle.am_model.specs.State.{moment};
+ghost use Rattle.am_model.specs.State.{time};
 ghost use Rattle.am_model.specs.declared.record.Call.TheVariants as call;
 ghost use Rattle.am_rehearsal.specs.Acting.{IsActed};
 ghost use Rattle.am_rehearsal.specs.EventOrder.{begin_indices};
@@ -20,7 +20,7 @@ ghost use Rattle.am_rehearsal.specs.Planned.{call_of, input_trace, no_inputs, re
 ghost use Rattle.am_rehearsal.specs.PreviewLog.{IsReady};
 ghost use Rattle.am_rehearsal.specs.Previews.{takes_group, previews_of, preview_where};
 ghost use Rattle.am_rehearsal.specs.Steps.{with_call, with_note};
-ghost use Rattle.am_rehearsal.specs.Taking.{begun_where, why_not, IsOwn, IsTaken};
+ghost use Rattle.am_rehearsal.specs.Taking.{begun_where, cause_of_none, IsOwn, IsTaken};
 ghost use Rattle.am_terms.specs.declared.event.Event.TheVariants.{Sent};
 ghost use Rattle.am_rehearsal.specs.declared.limits.TheConstants.{BOARD_ID};
 
@@ -168,7 +168,7 @@ impl PreviewingBoard {
         ensures events { self.new.events ≡ self.old.events }
         ensures cause { IsLoadCaused
             (load_cause self.old.board.config (records_at self.old.board) (state_at self.old.board)
-            (moment (state_at self.old.board) now) row) result }
+            (time (state_at self.old.board) now) row) result }
     {
         let _loaded = self.board.load(alloc, PASS, row, now)?;
         Ok(())
@@ -186,7 +186,7 @@ impl PreviewingBoard {
     }
 
     /// Keeps that the sending of a notice came to its end, whose flush was opened by the begin at this
-    /// place among those that took a group.
+    /// index among those that took a group.
     pub(crate) fn keep_sent(
         &mut self,
         alloc: Global,
@@ -206,19 +206,19 @@ impl PreviewingBoard {
         Ok(())
     }
 
-    /// Logs the success of the notice at a place of a ticket, if the board takes the note.
+    /// Logs the success of the notice at an index of a ticket, if the board takes the note.
     pub(crate) fn note(
         &mut self,
         alloc: Global,
         own: &OwnTicket<BOARD_ID>,
-        place: usize,
+        index: usize,
         now: u64,
     ) -> Result<(), AllocError>
         ensures input_trace { input_trace self.new.board ≡ input_trace self.old.board }
-        ensures noted { OnOk result (self.new.board ≡ with_note now own.now place self.old.board) }
+        ensures noted { OnOk result (self.new.board ≡ with_note now own.now index self.old.board) }
         ensures events { self.new.events ≡ self.old.events }
     {
-        match self.board.note(alloc, PASS, own.ticket(), place, now) {
+        match self.board.note(alloc, PASS, own.ticket(), index, now) {
             Ok(_noted) => Ok(()),
             Err(NoteFault::NoMemory) => Err(AllocError),
             Err(_) => Ok(()),
@@ -241,19 +241,19 @@ impl PreviewingBoard {
     pub(crate) fn begin(&mut self, alloc: Global, now: u64) -> Result<Taken, Fault>
         ensures input_trace { input_trace self.new.board ≡ input_trace self.old.board }
         ensures taken { IfOk result (IsTaken self.old.board self.old.events.items now self.new.board self.new.events.items) }
-        ensures cause { IfErr result (λ fault. (fault ≡ Fault.NoMemory) ⊎ (why_not self.old.board now ≡ Some fault)) }
+        ensures cause { IfErr result (λ fault. (fault ≡ Fault.NoMemory) ⊎ (cause_of_none self.old.board now ≡ Some fault)) }
         ensures refused { OnErr result (self.new.board ≡ self.old.board) }
         ensures events { OnErr result (self.new.events.items ≡ self.old.events.items) }
     {
         self.begins.make_ready()?;
         self.events.reserve(1)?;
-        let place = self.board.history().len();
+        let index = self.board.history().len();
         let both = match self.board.begin_previewed(alloc, PASS, now) {
             Ok(both) => both,
             Err(fault) => return Err(fault),
         };
         let (begun, preview) = both;
-        tell(&mut self.begins, &mut self.events, place, preview, &begun);
+        push_shown(&mut self.begins, &mut self.events, index, preview, &begun);
         Ok(own(begun))
     }
 }
@@ -273,19 +273,19 @@ fn own(begun: Begun) -> Taken
     }
 }
 
-/// Adds what a begin was to do whose record is at this place, and that it was made, if it took a
+/// Adds what a begin was to do whose record is at this index, and that it was made, if it took a
 /// group.
-fn tell(
+fn push_shown(
     begins: &mut PreviewLog,
     events: &mut Vec<Event>,
-    place: usize,
+    index: usize,
     preview: Option<Preview>,
     begun: &Begun,
 )
     requires room { IsReady begins.old }
     requires events_room { vec_len events.old + 1 ≤ vec_capacity events.old }
     requires begun { begin_indices events.old.items ≡ range_with_len 0 (length begins.old.items) }
-    ensures previews { begins.new.items ≡ begins.old.items ++ preview_where (takes_group (reply_of begun.now)) place preview }
+    ensures previews { begins.new.items ≡ begins.old.items ++ preview_where (takes_group (reply_of begun.now)) index preview }
     ensures begun { begin_indices events.new.items ≡ range_with_len 0 (length begins.new.items) }
     ensures events { events.new.items
         ≡ events.old.items ++ begun_where preview (takes_group (reply_of begun.now)) (length begins.old.items) }
@@ -296,7 +296,7 @@ fn tell(
             events.push_reserved(Event::Begun {
                 begin: begins.len(),
             });
-            begins.push(place, preview);
+            begins.push(index, preview);
         }
     }
 }

@@ -1,7 +1,7 @@
 //! The notices in flight. `play` adds a `Sending` for each flush, and reports the ends to the
 //! board.
 ghost use Rattle.std.specs.Prelude.{◌≡◌, ◌≤◌, ◌<◌, ◌+◌, ◌^◌, Some, IfOk, length, remove, slice_get};
-ghost use Rattle.am_alerts.specs.declared.limits.TheConstants.{MAX_MOMENT};
+ghost use Rattle.am_alerts.specs.declared.limits.TheConstants.{MAX_TIME};
 ghost use Rattle.am_rehearsal.specs.Answers.{answer_of, AreEndsOf, IsEndOf};
 ghost use Rattle.am_rehearsal.specs.Next.{next_end, next_end_of, next_finish};
 ghost use Rattle.am_rehearsal.specs.Steps.{with_report};
@@ -23,7 +23,7 @@ pub(crate) struct Sending {
     pub(crate) own: OwnTicket<BOARD_ID>,
     /// The position of its begin among the previewed begins.
     pub(crate) begin: u32,
-    /// The ends that are still to come, by place.
+    /// The ends that are still to come, by index.
     pub(crate) ends: Vec<End>,
 }
 
@@ -54,7 +54,7 @@ impl Sending {
 }
 
 /// Returns the first end that is still to come of these flushes. Of one time the first flush comes
-/// first, and of one flush the first place.
+/// first, and of one flush the first index.
 pub(crate) fn next_end(sendings: &[Sending]) -> Option<Next>
     ensures { result ≡ next_end 0 sendings.now }
 {
@@ -115,7 +115,7 @@ pub(crate) fn ends_of<O: Outages>(
     ticket: &Ticket,
     start: u64,
 ) -> Result<Vec<End>, AllocError>
-    requires start { start ≤ MAX_MOMENT }
+    requires start { start ≤ MAX_TIME }
     requires outages { outages.now ≡ O.outages }
     requires receiver { receiver.now ≡ O.receiver }
     requires cut { cut ≡ O.cut }
@@ -125,26 +125,26 @@ pub(crate) fn ends_of<O: Outages>(
     let notices = ticket.notices();
     let mut courier = OutageCourier::<O>::new(outages, receiver, cut);
     let mut ends = Vec::with_capacity(alloc, notices.len())?;
-    for (place, notice) in notices.iter().enumerate() {
-        ends.push(end_of(&mut courier, place, notice, start))?;
+    for (index, notice) in notices.iter().enumerate() {
+        ends.push(end_of(&mut courier, index, notice, start))?;
     }
     Ok(ends)
 }
 
-/// Sends the notice at a place of a ticket from `start` (milliseconds) on, and returns its end.
+/// Sends the notice at an index of a ticket from `start` (milliseconds) on, and returns its end.
 fn end_of<O: Outages>(
     courier: &mut OutageCourier<'_, O>,
-    place: usize,
+    index: usize,
     notice: &Notice,
     start: u64,
 ) -> End
-    requires { start ≤ MAX_MOMENT }
-    ensures { IsEndOf (answer_of O.cut O.outages O.receiver) O.cut start place notice.now result }
+    requires { start ≤ MAX_TIME }
+    ensures { IsEndOf (answer_of O.cut O.outages O.receiver) O.cut start index notice.now result }
 {
     if notice.nothing() {
         return End {
             at: start,
-            place,
+            index,
             report: None,
         };
     }
@@ -152,7 +152,7 @@ fn end_of<O: Outages>(
     let report = deliver_by(courier, notice, deadline, start);
     End {
         at: report.ended,
-        place,
+        index,
         report: Some(report),
     }
 }

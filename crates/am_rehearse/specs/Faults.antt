@@ -20,19 +20,19 @@ use Rattle.am_model.specs.Config.{config_fault}
 use Rattle.am_model.specs.declared.config.Config.{Config}
 use Rattle.am_plans.specs.Configs.{configs_of}
 use Rattle.am_rehearsal.specs.Parts.{parts_from, whole_part}
-use Rattle.am_rehearsal.specs.Playing.{IsWhyNotParts}
+use Rattle.am_rehearsal.specs.Playing.{IsCauseOfPartsFault}
 use Rattle.am_rehearsal.specs.declared.play.PlayFault.{PlayFault}
 use Rattle.am_rehearsal.specs.declared.play.PlayFault.TheVariants as play
 use Rattle.am_rehearsal.specs.declared.playing.PartFault.{PartFault}
 use Rattle.am_terms.specs.declared.expectation.Expectation.{Expectation}
-use Rattle.am_terms.specs.declared.handover.Handover.{Handover}
+use Rattle.am_terms.specs.declared.dispatcher_change.DispatcherChange.{DispatcherChange}
 use Rattle.am_terms.specs.declared.rehearsal.Rehearsal.{Rehearsal}
 use Rattle.am_terms.specs.UtcDates.{StartData}
 use Rattle.am_timeline.specs.Filtered.{names_nothing}
 use Rattle.am_rehearse.specs.Printed.{IsRequestBy, is_page}
 use Rattle.am_rehearse.specs.declared.fault.RehearseFault.{RehearseFault}
 use Rattle.am_rehearse.specs.declared.fault.RehearseFault.TheVariants as rehearse
-use Rattle.am_rehearse.specs.declared.wanted.Wanted.{Wanted}
+use Rattle.am_rehearse.specs.declared.output_options.OutputOptions.{OutputOptions}
 
 -- why an input's text isn't read
 abbrev pub fault_of_document : DocumentFault → RehearseFault
@@ -41,9 +41,9 @@ fault_of_document (document.NotJson line column) = rehearse.NotRead (document.No
 fault_of_document (document.NotYaml fault) = rehearse.NotRead (document.NotYaml fault)
 fault_of_document document.NoMemory = rehearse.NoMemory
 
--- a fault of what it tells is the program's of the same name
+-- a fault of what it says is the program's of the same name
 abbrev pub fault_of_input : InputFault → RehearseFault
-fault_of_input (input.Refused place fault_kind) = rehearse.Refused place fault_kind
+fault_of_input (input.Refused pointer fault_kind) = rehearse.Refused pointer fault_kind
 fault_of_input input.NoMemory = rehearse.NoMemory
 
 -- one of Alertmanager's configuration is one of an input, or all faults
@@ -60,27 +60,27 @@ fault_of_read read.NoMemory = rehearse.NoMemory
 abbrev pub status_of : RehearseFault → ℕ
 status_of rehearse.Unreadable = 1
 status_of (rehearse.NotRead fault) = 2
-status_of (rehearse.Refused place fault_kind) = 2
+status_of (rehearse.Refused pointer fault_kind) = 2
 status_of (rehearse.AllRefused faults) = 2
 status_of rehearse.NoMemory = 3
 status_of rehearse.Unwritable = 4
 status_of rehearse.Unmet = 5
 
 -- whether lines may be left out of what is printed
-abbrev pub leaves_out : Wanted → Bool
-leaves_out wanted = wanted.changes || not (names_nothing wanted.filter)
+abbrev pub leaves_out : OutputOptions → Bool
+leaves_out options = options.changes || not (names_nothing options.filter)
 
 -- as a JSON text with its configuration in `config`, these bytes ask for this, and it isn't refused: no file is given for the
 -- configuration, no matcher needs a regex, and a page leaves no line out and has one dispatcher
-pub record IsPlayable (changes : Changes) (wanted : Wanted) (text : List ℕ) (story : Input) : Type 0 where
-  pub asked : IsSomeAnd (read_text text)
+pub record IsPlayable (changes : Changes) (options : OutputOptions) (text : List ℕ) (story : Input) : Type 0 where
+  pub requested : IsSomeAnd (read_text text)
       (λ value. IsRequestWithoutRegexes changes value story.output story.start story.expectations.items
-      story.handovers.items story.rehearsal)
-  pub whole : is_page story.output ≡ true → (leaves_out wanted ≡ false) × (story.handovers.items ≡ [])
+      story.dispatcher_changes.items story.rehearsal)
+  pub whole : is_page story.output ≡ true → (leaves_out options ≡ false) × (story.dispatcher_changes.items ≡ [])
 
 -- they ask for nothing of that kind
-abbrev pub AsksForNone : Changes → Wanted → List ℕ → Type 0
-AsksForNone changes wanted text = (story : Input) → IsPlayable changes wanted text story → ⊥
+abbrev pub RequestsNone : Changes → OutputOptions → List ℕ → Type 0
+RequestsNone changes options text = (story : Input) → IsPlayable changes options text story → ⊥
 
 -- whether a limit leaves no capacity
 abbrev pub is_limit : PlayFault → Bool
@@ -89,44 +89,44 @@ is_limit play.BadConfig = false
 is_limit (play.PlanRefused k) = true
 is_limit play.Full = true
 
--- why a rehearsal with these handovers isn't played to its end
-abbrev pub IsWhyNotPlayed : Rehearsal → List Handover → PartFault → Type 0
-IsWhyNotPlayed rehearsal handovers why =
-    IsWhyNotParts rehearsal.maintain rehearsal.outages.items
-    (parts_from (whole_part rehearsal.config rehearsal.until rehearsal.plans.items) handovers) why
+-- why a rehearsal with these changes of the dispatcher isn't played to its end
+abbrev pub IsCauseOfPlayFault : Rehearsal → List DispatcherChange → PartFault → Type 0
+IsCauseOfPlayFault rehearsal dispatcher_changes why =
+    IsCauseOfPartsFault rehearsal.maintain rehearsal.outages.items
+    (parts_from (whole_part rehearsal.config rehearsal.until rehearsal.plans.items) dispatcher_changes) why
 
 -- a limit leaves no capacity for what happens in a rehearsal, or a log row that a new dispatcher takes over doesn't fit
-abbrev pub IsTooLarge : Rehearsal → List Handover → Type 0
-IsTooLarge rehearsal handovers = (why : PartFault) × IsTrue (is_limit why.fault) × IsWhyNotPlayed rehearsal handovers why
+abbrev pub IsTooLarge : Rehearsal → List DispatcherChange → Type 0
+IsTooLarge rehearsal dispatcher_changes = (why : PartFault) × IsTrue (is_limit why.fault) × IsCauseOfPlayFault rehearsal dispatcher_changes why
 
 -- these bytes ask for such a rehearsal
-pub record AsksForTooMuch (changes : Changes) (text : List ℕ) : Type 0 where
+pub record RequestsTooMuch (changes : Changes) (text : List ℕ) : Type 0 where
   pub output : Output
   pub start : Option StartData
   pub expectations : List Expectation
-  pub handovers : List Handover
+  pub dispatcher_changes : List DispatcherChange
   pub rehearsal : Rehearsal
-  pub asked : IsRequestBy changes text output start expectations handovers rehearsal
-  pub too_large : IsTooLarge rehearsal handovers
+  pub requested : IsRequestBy changes text output start expectations dispatcher_changes rehearsal
+  pub too_large : IsTooLarge rehearsal dispatcher_changes
 
 -- a dispatcher may have each of these configurations
 abbrev pub AreSound : List Config → Type 0
 AreSound configs = AllByRecursion (λ config. config_fault config ≡ None) configs
 
 -- a play of sound configurations is refused only where a limit leaves no capacity, or for want of memory
-abbrev pub RefusesPlay : Rehearsal → List Handover → InputFault → Type 0
-RefusesPlay rehearsal handovers (input.Refused place fault_kind) =
-    AreSound (configs_of rehearsal.config handovers) → (fault_kind ≡ Full) × IsTooLarge rehearsal handovers
-RefusesPlay rehearsal handovers input.NoMemory = Unit {0}
+abbrev pub RefusesPlay : Rehearsal → List DispatcherChange → InputFault → Type 0
+RefusesPlay rehearsal dispatcher_changes (input.Refused pointer fault_kind) =
+    AreSound (configs_of rehearsal.config dispatcher_changes) → (fault_kind ≡ Full) × IsTooLarge rehearsal dispatcher_changes
+RefusesPlay rehearsal dispatcher_changes input.NoMemory = Unit {0}
 
--- an input is refused as not read only where it is no JSON text. It is refused at a place, or for many faults, only where it asks for
+-- an input is refused as not read only where it is no JSON text. It is refused at a pointer, or for many faults, only where it asks for
 -- nothing that can be played, or where a limit leaves no capacity for the rehearsal that it asks for, which is refused as full
-abbrev pub Refuses : Changes → Wanted → List ℕ → RehearseFault → Type 0
-Refuses changes wanted text rehearse.Unreadable = ⊥
-Refuses changes wanted text (rehearse.NotRead fault) = IsNoJson text
-Refuses changes wanted text (rehearse.Refused place fault_kind) =
-    AsksForNone changes wanted text ⊎ ((fault_kind ≡ Full) × AsksForTooMuch changes text)
-Refuses changes wanted text (rehearse.AllRefused faults) = AsksForNone changes wanted text
-Refuses changes wanted text rehearse.NoMemory = Unit {0}
-Refuses changes wanted text rehearse.Unwritable = ⊥
-Refuses changes wanted text rehearse.Unmet = ⊥
+abbrev pub Refuses : Changes → OutputOptions → List ℕ → RehearseFault → Type 0
+Refuses changes options text rehearse.Unreadable = ⊥
+Refuses changes options text (rehearse.NotRead fault) = IsNoJson text
+Refuses changes options text (rehearse.Refused pointer fault_kind) =
+    RequestsNone changes options text ⊎ ((fault_kind ≡ Full) × RequestsTooMuch changes text)
+Refuses changes options text (rehearse.AllRefused faults) = RequestsNone changes options text
+Refuses changes options text rehearse.NoMemory = Unit {0}
+Refuses changes options text rehearse.Unwritable = ⊥
+Refuses changes options text rehearse.Unmet = ⊥

@@ -9,12 +9,12 @@ use Rattle.am_rehearsal.specs.Parts.{parts_from, whole_part}
 use Rattle.am_rehearsal.specs.Playing.{ArePlayed}
 use Rattle.am_rehearsal.specs.declared.limits.TheConstants.{BOARD_ID}
 use Rattle.am_rehearsal.specs.declared.playing.PlayedPart.{PlayedPart}
-use Rattle.am_terms.specs.declared.handover.Handover.{Handover}
+use Rattle.am_terms.specs.declared.dispatcher_change.DispatcherChange.{DispatcherChange}
 use Rattle.am_terms.specs.declared.rehearsal.Rehearsal.{Rehearsal}
 use Rattle.am_rehearse.specs.Head.{change_of, head_text, heads_of}
 use Rattle.am_rehearse.specs.declared.head.Change.{Change}
 use Rattle.am_rehearse.specs.declared.head.Head.{Head}
-use Rattle.am_rehearse.specs.declared.wanted.Wanted.{Wanted}
+use Rattle.am_rehearse.specs.declared.output_options.OutputOptions.{OutputOptions}
 use Rattle.am_timeline.specs.Changed.{changed}
 use Rattle.am_timeline.specs.Filtered.{filtered}
 use Rattle.am_terms.specs.declared.expectation.Expectation.{Expectation}
@@ -62,13 +62,13 @@ has_summary Json = false
 has_summary Html = false
 
 -- the rehearsal whose lines are wanted: with the events of the groups that are, and, where changes are, with those that say something new
-abbrev pub selected : Wanted → PlaybackData → TimeFormatData → PlaybackData
-selected wanted playback times =
-    if wanted.changes then changed (filtered playback wanted.filter) times else filtered playback wanted.filter
+abbrev pub selected : OutputOptions → PlaybackData → TimeFormatData → PlaybackData
+selected options playback times =
+    if options.changes then changed (filtered playback options.filter) times else filtered playback options.filter
 
 -- whether the filter leaves an event
-abbrev pub has_lines : Wanted → PlaybackData → Bool
-has_lines wanted playback = not (length (filtered playback wanted.filter).events == 0)
+abbrev pub has_lines : OutputOptions → PlaybackData → Bool
+has_lines options playback = not (length (filtered playback options.filter).events == 0)
 
 -- what an output has of one dispatcher: the short timeline or the full one with what is below it, the notices alone, with those that
 -- failed or without, or the lines as JSON. The lines are those of the rehearsal that is shown, and what is below them is that of the whole
@@ -81,24 +81,24 @@ shown_text Delivered shown playback times = notices_text false shown times
 shown_text Json shown playback times = json_text shown times
 shown_text Html shown playback times = []
 
-abbrev pub part_text : Output → Wanted → TimeFormatData → PlaybackData → List ℕ
-part_text output wanted times playback = shown_text output (selected wanted playback times) playback times
+abbrev pub part_text : Output → OutputOptions → TimeFormatData → PlaybackData → List ℕ
+part_text output options times playback = shown_text output (selected options playback times) playback times
 
 -- a line on a new dispatcher, in an output that has more than lines
 abbrev pub head_for : Output → TimeFormatData → Head → List ℕ
 head_for output times head = if has_summary output then head_text times head else []
 
 -- what it has of these dispatchers, each behind its head
-abbrev pub later_lines : Output → Wanted → TimeFormatData → List Head → List PlaybackData → List ℕ
-later_lines output wanted times [] playbacks = []
-later_lines output wanted times (h ∷ hs) [] = []
-later_lines output wanted times (h ∷ hs) (p ∷ ps) =
-    head_for output times h ++ part_text output wanted times p ++ later_lines output wanted times hs ps
+abbrev pub later_lines : Output → OutputOptions → TimeFormatData → List Head → List PlaybackData → List ℕ
+later_lines output options times [] playbacks = []
+later_lines output options times (h ∷ hs) [] = []
+later_lines output options times (h ∷ hs) (p ∷ ps) =
+    head_for output times h ++ part_text output options times p ++ later_lines output options times hs ps
 
 -- what it has of all dispatchers, where the first needs no head
-abbrev pub all_lines : Output → Wanted → TimeFormatData → List Head → List PlaybackData → List ℕ
-all_lines output wanted times heads [] = []
-all_lines output wanted times heads (p ∷ ps) = part_text output wanted times p ++ later_lines output wanted times heads ps
+abbrev pub all_lines : Output → OutputOptions → TimeFormatData → List Head → List PlaybackData → List ℕ
+all_lines output options times heads [] = []
+all_lines output options times heads (p ∷ ps) = part_text output options times p ++ later_lines output options times heads ps
 
 -- what is at the end: what became of the expectations
 abbrev pub end_text : Output → List PlaybackData → TimeFormatData → List Expectation → List ℕ
@@ -106,10 +106,10 @@ end_text output playbacks times expectations =
     if has_summary output then expectations_section playbacks times expectations else []
 
 -- the text is this output of these dispatchers, one after another. Of the page nothing is said
-abbrev pub IsPrinted : Output → Wanted → List Head → List PlaybackData → TimeFormatData → List Expectation → List ℕ → Type 0
-IsPrinted output wanted heads playbacks times expectations text =
+abbrev pub IsPrinted : Output → OutputOptions → List Head → List PlaybackData → TimeFormatData → List Expectation → List ℕ → Type 0
+IsPrinted output options heads playbacks times expectations text =
     is_page output ≡ false
-    → text ≡ all_lines output wanted times heads playbacks ++ end_text output playbacks times expectations
+    → text ≡ all_lines output options times heads playbacks ++ end_text output playbacks times expectations
 
 -- the logbook of a dispatcher, as it was played
 abbrev pub log_of : PlayedPart → LogbookData
@@ -132,46 +132,46 @@ HasLegalHistory p = IsLegal p.played.value.board.config BOARD_ID p.played.value.
 
 -- the text is this output of dispatchers that were played and changed so, whose histories are legal; the lines are those that are wanted,
 -- and `met` is whether it came as each of these expectations says
-pub record IsOutputOf (changes : List Change) (played : List PlayedPart) (output : Output) (wanted : Wanted) (times : TimeFormatData)
+pub record IsOutputOf (changes : List Change) (played : List PlayedPart) (output : Output) (options : OutputOptions) (times : TimeFormatData)
     (expectations : List Expectation) (met : Bool) (text : List ℕ) : Type 0 where
   pub legal : AllByRecursion HasLegalHistory played
   pub judges : list_all (is_met (map playback_of played)) expectations ≡ met
-  pub is : IsPrinted output wanted (heads_of changes (drop 1 played)) (map playback_of played) times expectations text
+  pub is : IsPrinted output options (heads_of changes (drop 1 played)) (map playback_of played) times expectations text
 
--- these dispatchers are those to which a rehearsal with these handovers plays, one after another
-abbrev pub PlaysThrough : Rehearsal → List Handover → List PlayedPart → Type 0
-PlaysThrough rehearsal handovers played =
+-- these dispatchers are those to which a rehearsal with these changes of the dispatcher plays, one after another
+abbrev pub PlaysThrough : Rehearsal → List DispatcherChange → List PlayedPart → Type 0
+PlaysThrough rehearsal dispatcher_changes played =
     ArePlayed rehearsal.maintain rehearsal.outages.items None
-    (parts_from (whole_part rehearsal.config rehearsal.until rehearsal.plans.items) handovers) played
+    (parts_from (whole_part rehearsal.config rehearsal.until rehearsal.plans.items) dispatcher_changes) played
 
--- the text is this output of what a rehearsal with these handovers plays to
-pub record IsOutputOfRun (rehearsal : Rehearsal) (handovers : List Handover) (output : Output) (wanted : Wanted) (times : TimeFormatData)
+-- the text is this output of what a rehearsal with these changes of the dispatcher plays to
+pub record IsOutputOfRun (rehearsal : Rehearsal) (dispatcher_changes : List DispatcherChange) (output : Output) (options : OutputOptions) (times : TimeFormatData)
     (expectations : List Expectation) (met : Bool) (text : List ℕ) : Type 0 where
   pub played : List PlayedPart
-  pub plays : PlaysThrough rehearsal handovers played
-  pub tale : IsOutputOf (map change_of handovers) played output wanted times expectations met text
+  pub plays : PlaysThrough rehearsal dispatcher_changes played
+  pub tale : IsOutputOf (map change_of dispatcher_changes) played output options times expectations met text
 
 -- these bytes are read as a value that asks for this, which is that of a JSON text where they are one
-abbrev pub IsRequestBy : Changes → List ℕ → Output → Option StartData → List Expectation → List Handover → Rehearsal → Type 0
-IsRequestBy changes input output start expectations handovers rehearsal =
-    (value : Data) × IsReadAs input value × IsRequestIn changes value output start expectations handovers rehearsal
+abbrev pub IsRequestBy : Changes → List ℕ → Output → Option StartData → List Expectation → List DispatcherChange → Rehearsal → Type 0
+IsRequestBy changes input output start expectations dispatcher_changes rehearsal =
+    (value : Data) × IsReadAs input value × IsRequestIn changes value output start expectations dispatcher_changes rehearsal
 
--- the text is the output that these bytes ask for, of a rehearsal with the end and the maintenance that they ask for, by the moments and
--- the expectations that they ask for, with the reloads and restarts that they tell
-pub record IsOutputFor (changes : Changes) (wanted : Wanted) (input : List ℕ) (met : Bool) (text : List ℕ) : Type 0 where
+-- the text is the output that these bytes ask for, of a rehearsal with the end and the maintenance that they ask for, by the times and
+-- the expectations that they ask for, with the reloads and restarts that they say
+pub record IsOutputFor (changes : Changes) (options : OutputOptions) (input : List ℕ) (met : Bool) (text : List ℕ) : Type 0 where
   pub output : Output
   pub start : Option StartData
   pub expectations : List Expectation
-  pub handovers : List Handover
+  pub dispatcher_changes : List DispatcherChange
   pub rehearsal : Rehearsal
-  pub asked : IsRequestBy changes input output start expectations handovers rehearsal
-  pub tale : IsOutputOfRun rehearsal handovers output wanted (times_from start) expectations met text
+  pub requested : IsRequestBy changes input output start expectations dispatcher_changes rehearsal
+  pub tale : IsOutputOfRun rehearsal dispatcher_changes output options (times_from start) expectations met text
 
 -- of bytes that were given before and now, and of bytes that were taken before and now: what was taken since is the output that those that
 -- were given since ask for
-pub record WritesOutput (changes : Changes) (wanted : Wanted) (met : Bool) (given_before given taken_before taken : List ℕ) : Type 0 where
+pub record WritesOutput (changes : Changes) (options : OutputOptions) (met : Bool) (given_before given taken_before taken : List ℕ) : Type 0 where
   pub input : List ℕ
   pub text : List ℕ
   pub given_is : given ≡ given_before ++ input
-  pub told : IsOutputFor changes wanted input met text
+  pub printed : IsOutputFor changes options input met text
   pub taken_is : taken ≡ taken_before ++ text

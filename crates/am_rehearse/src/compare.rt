@@ -4,7 +4,7 @@ use crate::render::logbook_of;
 use crate::run::play_alone;
 use am_cli::fault::{FaultKind, InputFault};
 use am_cli::faults::Refusal;
-use am_cli::place::JsonPointer;
+use am_cli::pointer::JsonPointer;
 use am_command::request::CompareRequest;
 use am_commands::faults::accept;
 use am_commands::given::given_to;
@@ -22,7 +22,7 @@ use am_rehearsal::playing::PlayedPart;
 use am_seed::Seed;
 use am_terms::clock::Elapsed;
 use am_terms::dated::UtcDates;
-use am_terms::handover::{Handover, Keeps};
+use am_terms::dispatcher_change::{Carryover, DispatcherChange};
 use am_terms::watch::Watch;
 use am_timeline::comparison::{Comparison, compare_notices};
 use am_timeline::playback::Playback;
@@ -34,7 +34,7 @@ use std::time::Clock;
 #[derive(Drop)]
 struct PlayedStory {
     part: PlayedPart,
-    /// The moment of the start, if the story tells it.
+    /// The time of the start, if the story says it.
     start: Option<UtcDates>,
     /// What of the configuration is ignored.
     ignored: IgnoredSettings,
@@ -178,14 +178,14 @@ fn play_input<W: Watch>(
 ) -> Result<PlayedStory, InputFault> {
     let Input {
         rehearsal,
-        handovers,
+        dispatcher_changes,
         origins,
         start,
         expectations: _,
         output: _,
         dropped,
     } = input;
-    check_handovers(alloc, handovers.as_slice())?;
+    check_dispatcher_changes(alloc, dispatcher_changes.as_slice())?;
     let part = play_alone(alloc, seed, rehearsal, origins.as_slice(), watch)?;
     Ok(PlayedStory {
         part,
@@ -195,10 +195,13 @@ fn play_input<W: Watch>(
 }
 
 /// Refuses a story that reloads or restarts the dispatcher.
-fn check_handovers(alloc: Global, handovers: &[Handover]) -> Result<(), InputFault> {
-    let name = match handovers.first() {
+fn check_dispatcher_changes(
+    alloc: Global,
+    dispatcher_changes: &[DispatcherChange],
+) -> Result<(), InputFault> {
+    let name = match dispatcher_changes.first() {
         None => return Ok(()),
-        Some(handover) if handover.keeps == Keeps::All => "reload",
+        Some(dispatcher_change) if dispatcher_change.carryover == Carryover::All => "reload",
         Some(_) => "restart",
     };
     Err(
@@ -218,7 +221,7 @@ fn compare_played(
     compare_with(alloc, &playback, &old.start, &new.part.played)
 }
 
-/// Compares a playback with a story that was played, with dates if its start is told.
+/// Compares a playback with a story that was played, with dates if its start is given.
 fn compare_with(
     alloc: Global,
     old: &Playback<'_>,

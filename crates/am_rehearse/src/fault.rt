@@ -17,10 +17,10 @@ pub enum RehearseFault {
     NotRead {
         fault: DocumentFault,
     },
-    /// The rehearsal is refused; the place is a JSON pointer.
-    #[error("am-rehearse: rehearsal refused at {place}: {fault_kind}")]
+    /// The rehearsal is refused; the pointer is a JSON pointer.
+    #[error("am-rehearse: rehearsal refused at {pointer}: {fault_kind}")]
     Refused {
-        place: String,
+        pointer: String,
         fault_kind: FaultKind,
     },
     /// Alertmanager's configuration is refused for these faults.
@@ -81,8 +81,11 @@ impl From<InputFault> for RehearseFault {
 
     fn from(fault: InputFault) -> RehearseFault {
         match fault {
-            InputFault::Refused { place, fault_kind } => RehearseFault::Refused {
-                place,
+            InputFault::Refused {
+                pointer,
+                fault_kind,
+            } => RehearseFault::Refused {
+                pointer,
                 fault_kind,
             },
             InputFault::NoMemory => RehearseFault::NoMemory,

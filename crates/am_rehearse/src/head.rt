@@ -4,14 +4,14 @@ ghost use Rattle.am_rehearse.specs.Head.{change_of, entries_word, head_text, hea
 
 use am_rehearsal::playing::PlayedPart;
 use am_terms::clock::{TimeFormat, push_column, push_number};
-use am_terms::handover::{Handover, Keeps};
+use am_terms::dispatcher_change::{Carryover, DispatcherChange};
 use std::alloc::{AllocError, Global};
 
 /// When a new dispatcher begins, and what it keeps of the one before it.
 #[derive(Clone, Copy)]
 pub(crate) struct Change {
     pub(crate) at: u64,
-    pub(crate) keeps: Keeps,
+    pub(crate) carryover: Carryover,
 }
 
 /// What the line on a new dispatcher says.
@@ -25,14 +25,17 @@ pub(crate) struct Head {
 }
 
 /// Returns when the dispatchers of a story change.
-pub(crate) fn changes_of(alloc: Global, handovers: &[Handover]) -> Result<Vec<Change>, AllocError>
-    ensures { IfOk result (λ changes. changes.items ≡ map change_of handovers.now) }
+pub(crate) fn changes_of(
+    alloc: Global,
+    dispatcher_changes: &[DispatcherChange],
+) -> Result<Vec<Change>, AllocError>
+    ensures { IfOk result (λ changes. changes.items ≡ map change_of dispatcher_changes.now) }
 {
-    let mut changes = Vec::with_capacity(alloc, handovers.len())?;
-    for handover in handovers {
+    let mut changes = Vec::with_capacity(alloc, dispatcher_changes.len())?;
+    for dispatcher_change in dispatcher_changes {
         changes.push(Change {
-            at: handover.at,
-            keeps: handover.keeps,
+            at: dispatcher_change.at,
+            carryover: dispatcher_change.carryover,
         })?;
     }
     Ok(changes)
@@ -88,18 +91,18 @@ pub(crate) fn push_head<C: TimeFormat>(
 }
 
 fn push_kept(head: &Head, out: &mut String) -> Result<(), AllocError>
-    ensures { OnOk result (string_bytes out.new ≡ string_bytes out.old ++ kept_text head.now head.now.change.keeps) }
+    ensures { OnOk result (string_bytes out.new ≡ string_bytes out.old ++ kept_text head.now head.now.change.carryover) }
 {
-    match head.change.keeps {
-        Keeps::All => {
+    match head.change.carryover {
+        Carryover::All => {
             out.push_str("reload  ")?;
             push_taken(head, out)
         }
-        Keeps::Log => {
+        Carryover::Log => {
             out.push_str("restart ")?;
             push_taken(head, out)
         }
-        Keeps::Nothing => out.push_str("restart log and silences are lost"),
+        Carryover::Nothing => out.push_str("restart log and silences are lost"),
     }
 }
 

@@ -9,10 +9,10 @@
 mod compare;
 mod fault;
 mod head;
+mod output_options;
 mod play;
 mod render;
 mod run;
-mod wanted;
 
 use crate::compare::compare;
 use crate::play::play;

@@ -1,14 +1,14 @@
 //! `am-rehearse play`: simulates a story.
 use crate::fault::RehearseFault;
+use crate::output_options::OutputOptions;
 use crate::run::{Judgement, Report, run_rehearsal};
-use crate::wanted::Wanted;
 use am_alerts::duration::read_duration;
 use am_alerts::matcher::Matcher;
 use am_alerts::sequence::Sequence;
 use am_alerts::text::Text;
 use am_cli::fault::InputFault;
 use am_cli::faults::{Faults, Refusal};
-use am_command::explain::Whole;
+use am_command::explain::FileShape;
 use am_command::request::{PlayRequest, STANDARD_INPUT, Selection};
 use am_commands::faults::faults_of;
 use am_commands::given::given_to;
@@ -54,24 +54,24 @@ fn try_play<R: Files + Eprint + AllocGlobal + Clock>(
         output: output_of(rt, request)?,
         until: until_of(rt, request.until)?,
     };
-    let wanted = wanted_of(rt, seed, console, request)?;
+    let options = options_of(rt, seed, console, request)?;
     accept_inputs(rt, &[request.story, request.config.unwrap_or("")])?;
-    play_wanted(rt, console, request, overrides, &wanted)
+    play_with_options(rt, console, request, overrides, &options)
 }
 
 /// Simulates a story, and prints what is wanted of it. The error is the status.
-fn play_wanted<R: Files + Eprint + AllocGlobal + Clock>(
+fn play_with_options<R: Files + Eprint + AllocGlobal + Clock>(
     rt: &R,
     console: &mut Console,
     request: &PlayRequest<'_>,
     overrides: Overrides,
-    wanted: &Wanted,
+    options: &OutputOptions,
 ) -> Result<(), u8> {
     let Some(path) = request.config else {
-        return play_under(rt, console, request, None, overrides, wanted);
+        return play_under(rt, console, request, None, overrides, options);
     };
     let config = console.read(rt, path)?;
-    play_under(rt, console, request, Some(&config), overrides, wanted)
+    play_under(rt, console, request, Some(&config), overrides, options)
 }
 
 /// Simulates a story under the configuration that the command line names, if it names one. The error is the status.
@@ -81,14 +81,14 @@ fn play_under<R: Files + Eprint + AllocGlobal + Clock>(
     request: &PlayRequest<'_>,
     config: Option<&Document<'_>>,
     overrides: Overrides,
-    wanted: &Wanted,
+    options: &OutputOptions,
 ) -> Result<(), u8> {
     let changes = Changes {
         config: config.map(|document| &document.value),
         overrides,
     };
     let mut report = Report::nothing(rt.alloc());
-    let ended = run(rt, console, request.story, changes, wanted, &mut report)?;
+    let ended = run(rt, console, request.story, changes, options, &mut report)?;
     conclude(rt, console, request, config, overrides, report, ended)
 }
 
@@ -151,7 +151,7 @@ fn run<R: Files + Eprint + AllocGlobal + Clock>(
     console: &mut Console,
     story: &str,
     changes: Changes<'_>,
-    wanted: &Wanted,
+    options: &OutputOptions,
     report: &mut Report,
 ) -> Result<Result<(), RehearseFault>, u8> {
     let alloc = rt.alloc();
@@ -160,7 +160,7 @@ fn run<R: Files + Eprint + AllocGlobal + Clock>(
     if story == STANDARD_INPUT {
         let Console { input, output, .. } = console;
         return Ok(run_rehearsal(
-            alloc, input, changes, wanted, &mut files, &mut watch, output, report,
+            alloc, input, changes, options, &mut files, &mut watch, output, report,
         ));
     }
     let mut file = match open(rt, story) {
@@ -169,7 +169,7 @@ fn run<R: Files + Eprint + AllocGlobal + Clock>(
     };
     let output = &mut console.output;
     Ok(run_rehearsal(
-        alloc, &mut file, changes, wanted, &mut files, &mut watch, output, report,
+        alloc, &mut file, changes, options, &mut files, &mut watch, output, report,
     ))
 }
 
@@ -213,23 +213,23 @@ fn output_named(name: &str) -> Output {
 }
 
 /// Returns what of a rehearsal the command line wants to see. The error is the status.
-fn wanted_of<R: Eprint + AllocGlobal>(
+fn options_of<R: Eprint + AllocGlobal>(
     rt: &R,
     seed: Seed,
     console: &Console,
     request: &PlayRequest<'_>,
-) -> Result<Wanted, u8> {
-    let wanted = Wanted {
+) -> Result<OutputOptions, u8> {
+    let options = OutputOptions {
         filter: filter_of(rt, console, &request.selection)?,
         changes: request.selection.changes,
         junit: request.junit.is_some(),
         seed,
     };
-    if request.output == Some("html") && wanted.leaves_out() {
+    if request.output == Some("html") && options.leaves_out() {
         let _ = eprintln!(rt; "am-rehearse: {PAGE_HAS_NO_LINES}");
         return Err(REJECTED);
     }
-    Ok(wanted)
+    Ok(options)
 }
 
 /// Returns the filter that the command line gives. The error is the status.
@@ -331,8 +331,14 @@ fn complain<R: Files + Eprint + AllocGlobal>(
         RehearseFault::Unreadable => {
             return console.complain_of_file(rt, path, FileFault::Unreadable);
         }
-        RehearseFault::Refused { place, fault_kind } => {
-            Refusal::One(InputFault::Refused { place, fault_kind })
+        RehearseFault::Refused {
+            pointer,
+            fault_kind,
+        } => {
+            Refusal::One(InputFault::Refused {
+                pointer,
+                fault_kind,
+            })
         }
         RehearseFault::AllRefused { faults } => Refusal::All(faults),
         fault => return print_fault(rt, &fault),
@@ -357,18 +363,18 @@ fn complain_of_refusal<R: Files + Eprint + AllocGlobal>(
         path,
         text,
         value,
-        whole: Whole::Fields,
+        shape: FileShape::Fields,
     };
     complain_of_story(rt, console, config, overrides, &document, refusal)
 }
 
-/// Prints a fault that has no place, and returns the status.
+/// Prints a fault that has no pointer, and returns the status.
 fn print_fault<R: Eprint>(rt: &R, fault: &RehearseFault) -> u8 {
     let _ = eprintln!(rt; "{fault}");
     fault.status()
 }
 
-/// Says of each expectation that isn't met where it stands, and what else a run came to. Then it
+/// Says of each expectation that isn't met where it is, and what else a run came to. Then it
 /// writes the report on the expectations. Returns the status.
 fn complain_of_unmet<R: Files + Eprint + AllocGlobal>(
     rt: &R,
@@ -390,7 +396,7 @@ fn complain_of_unmet<R: Files + Eprint + AllocGlobal>(
     }
 }
 
-/// Says of each expectation that isn't met where it stands.
+/// Says of each expectation that isn't met where it is.
 fn point_at_unmet<R: Files + Eprint + AllocGlobal>(
     rt: &R,
     console: &Console,
@@ -405,7 +411,7 @@ fn point_at_unmet<R: Files + Eprint + AllocGlobal>(
         path,
         text,
         value,
-        whole: Whole::Fields,
+        shape: FileShape::Fields,
     };
     for number in unmet {
         if let Ok(pointer) = format!(in rt.alloc(); "/expect/{number}") {

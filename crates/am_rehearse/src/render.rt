@@ -18,8 +18,8 @@ ghost use Rattle.am_timeline.specs.Timeline.{timeline_text};
 ghost use Rattle.am_undelivered.specs.Undelivered.{undelivered_text};
 
 use crate::head::{Change, Head, heads_of, push_head};
+use crate::output_options::OutputOptions;
 use crate::run::Judgement;
-use crate::wanted::Wanted;
 use am_cli::fault::InputFault;
 use am_input::input::Output;
 use am_judge::expectation::{is_met, unmet_expectations};
@@ -61,7 +61,7 @@ struct Lines {
     found: bool,
 }
 
-/// What is printed of a rehearsal whose dispatchers changed so, with dates if its start is told.
+/// What is printed of a rehearsal whose dispatchers changed so, with dates if its start is given.
 pub(crate) fn render_from(
     alloc: Global,
     changes: &[Change],
@@ -69,9 +69,9 @@ pub(crate) fn render_from(
     start: &Option<UtcDates>,
     expectations: &[Expectation],
     output: Output,
-    wanted: &Wanted,
+    options: &OutputOptions,
 ) -> Result<Rendered, InputFault>
-    ensures told { IfOk result (λ rendered. IsOutputOf changes.now played.now output wanted.now (times_from start.now)
+    ensures output { IfOk result (λ rendered. IsOutputOf changes.now played.now output options.now (times_from start.now)
         expectations.now rendered.is_met (string_bytes rendered.text)) }
     ensures refused { IfErr result (λ fault. fault ≡ InputFault.NoMemory) }
 {
@@ -83,13 +83,13 @@ pub(crate) fn render_from(
             &Elapsed,
             expectations,
             output,
-            wanted,
+            options,
         )?),
-        Some(start) => Ok(render_by(alloc, changes, played, start, expectations, output, wanted)?),
+        Some(start) => Ok(render_by(alloc, changes, played, start, expectations, output, options)?),
     }
 }
 
-/// The same, with moments that this clock shows.
+/// The same, with times that this clock shows.
 fn render_by<C: TimeFormat>(
     alloc: Global,
     changes: &[Change],
@@ -97,9 +97,9 @@ fn render_by<C: TimeFormat>(
     clock: &C,
     expectations: &[Expectation],
     output: Output,
-    wanted: &Wanted,
+    options: &OutputOptions,
 ) -> Result<Rendered, AllocError>
-    ensures { IfOk result (λ rendered. IsOutputOf changes.now played.now output wanted.now (C.times clock.now)
+    ensures { IfOk result (λ rendered. IsOutputOf changes.now played.now output options.now (C.times clock.now)
         expectations.now rendered.is_met (string_bytes rendered.text)) }
 {
     let heads = heads_of(alloc, changes, later(played))?;
@@ -107,7 +107,15 @@ fn render_by<C: TimeFormat>(
     let playbacks = playbacks_of(alloc, logs.as_slice(), played)?;
     let heads = heads.as_slice();
     let playbacks = playbacks.as_slice();
-    render_parts(alloc, heads, playbacks, clock, expectations, output, wanted)
+    render_parts(
+        alloc,
+        heads,
+        playbacks,
+        clock,
+        expectations,
+        output,
+        options,
+    )
 }
 
 /// The parts of all dispatchers but the first.
@@ -128,15 +136,23 @@ fn render_parts<C: TimeFormat>(
     clock: &C,
     expectations: &[Expectation],
     output: Output,
-    wanted: &Wanted,
+    options: &OutputOptions,
 ) -> Result<Rendered, AllocError>
     ensures met { IfOk result (λ rendered. rendered.is_met ≡ list_all (is_met playbacks.now) expectations.now) }
-    ensures printed { IfOk result (λ rendered. IsPrinted output wanted.now heads.now playbacks.now (C.times clock.now)
+    ensures printed { IfOk result (λ rendered. IsPrinted output options.now heads.now playbacks.now (C.times clock.now)
         expectations.now (string_bytes rendered.text)) }
 {
     let is_met = are_met(alloc, playbacks, expectations)?;
-    let lines = printed(alloc, heads, playbacks, clock, expectations, output, wanted)?;
-    let judgement = judge(alloc, playbacks, clock, expectations, wanted, lines.found)?;
+    let lines = printed(
+        alloc,
+        heads,
+        playbacks,
+        clock,
+        expectations,
+        output,
+        options,
+    )?;
+    let judgement = judge(alloc, playbacks, clock, expectations, options, lines.found)?;
     Ok(Rendered {
         text: lines.text,
         is_met,
@@ -152,15 +168,15 @@ fn printed<C: TimeFormat>(
     clock: &C,
     expectations: &[Expectation],
     output: Output,
-    wanted: &Wanted,
+    options: &OutputOptions,
 ) -> Result<Lines, AllocError>
-    ensures { IfOk result (λ lines. IsPrinted output wanted.now heads.now playbacks.now (C.times clock.now)
+    ensures { IfOk result (λ lines. IsPrinted output options.now heads.now playbacks.now (C.times clock.now)
         expectations.now (string_bytes lines.text)) }
 {
     if is_page(output) {
         return picture_of(alloc, playbacks, clock);
     }
-    let mut lines = all_lines(alloc, heads, playbacks, clock, output, wanted)?;
+    let mut lines = all_lines(alloc, heads, playbacks, clock, output, options)?;
     push_end(
         alloc,
         playbacks,
@@ -189,10 +205,10 @@ fn all_lines<C: TimeFormat>(
     playbacks: &[Playback<'_>],
     clock: &C,
     output: Output,
-    wanted: &Wanted,
+    options: &OutputOptions,
 ) -> Result<Lines, AllocError>
     ensures { IfOk result (λ lines. string_bytes lines.text
-        ≡ all_lines output wanted.now (C.times clock.now) heads.now playbacks.now) }
+        ≡ all_lines output options.now (C.times clock.now) heads.now playbacks.now) }
 {
     match playbacks.split_first() {
         None => Ok(Lines {
@@ -200,8 +216,8 @@ fn all_lines<C: TimeFormat>(
             found: false,
         }),
         Some((first, later)) => {
-            let mut lines = lines_of(alloc, first, clock, output, wanted)?;
-            let found = push_later(alloc, heads, later, clock, output, wanted, &mut lines.text)?;
+            let mut lines = lines_of(alloc, first, clock, output, options)?;
+            let found = push_later(alloc, heads, later, clock, output, options, &mut lines.text)?;
             lines.found = lines.found || found;
             Ok(lines)
         }
@@ -215,11 +231,11 @@ fn push_later<C: TimeFormat>(
     playbacks: &[Playback<'_>],
     clock: &C,
     output: Output,
-    wanted: &Wanted,
+    options: &OutputOptions,
     out: &mut String,
 ) -> Result<bool, AllocError>
     ensures { OnOk result (string_bytes out.new
-        ≡ string_bytes out.old ++ later_lines output wanted.now (C.times clock.now) heads.now playbacks.now) }
+        ≡ string_bytes out.old ++ later_lines output options.now (C.times clock.now) heads.now playbacks.now) }
 {
     match heads.split_first() {
         None => Ok(false),
@@ -227,8 +243,8 @@ fn push_later<C: TimeFormat>(
             None => Ok(false),
             Some((playback, playbacks)) => {
                 push_head_for(clock, head, output, out)?;
-                let found = push_lines(alloc, playback, clock, output, wanted, out)?;
-                let more = push_later(alloc, heads, playbacks, clock, output, wanted, out)?;
+                let found = push_lines(alloc, playback, clock, output, options, out)?;
+                let more = push_later(alloc, heads, playbacks, clock, output, options, out)?;
                 Ok(found || more)
             }
         },
@@ -257,13 +273,13 @@ fn push_lines<C: TimeFormat>(
     playback: &Playback<'_>,
     clock: &C,
     output: Output,
-    wanted: &Wanted,
+    options: &OutputOptions,
     out: &mut String,
 ) -> Result<bool, AllocError>
     ensures { OnOk result (string_bytes out.new
-        ≡ string_bytes out.old ++ part_text output wanted.now (C.times clock.now) playback.now) }
+        ≡ string_bytes out.old ++ part_text output options.now (C.times clock.now) playback.now) }
 {
-    let lines = lines_of(alloc, playback, clock, output, wanted)?;
+    let lines = lines_of(alloc, playback, clock, output, options)?;
     out.push_str(lines.text.as_str())?;
     Ok(lines.found)
 }
@@ -274,16 +290,16 @@ fn lines_of<C: TimeFormat>(
     playback: &Playback<'_>,
     clock: &C,
     output: Output,
-    wanted: &Wanted,
+    options: &OutputOptions,
 ) -> Result<Lines, AllocError>
     ensures text { IfOk result (λ lines. string_bytes lines.text
-        ≡ part_text output wanted.now (C.times clock.now) playback.now) }
-    ensures found { IfOk result (λ lines. lines.found ≡ has_lines wanted.now playback.now) }
+        ≡ part_text output options.now (C.times clock.now) playback.now) }
+    ensures found { IfOk result (λ lines. lines.found ≡ has_lines options.now playback.now) }
 {
-    let left = filtered_events(alloc, playback, &wanted.filter)?;
+    let left = filtered_events(alloc, playback, &options.filter)?;
     let filtered = playback.with_events(left.of(playback.events()));
     Ok(Lines {
-        text: text_of(alloc, playback, &filtered, clock, output, wanted)?,
+        text: text_of(alloc, playback, &filtered, clock, output, options)?,
         found: !filtered.events().is_empty(),
     })
 }
@@ -295,13 +311,13 @@ fn text_of<C: TimeFormat>(
     filtered: &Playback<'_>,
     clock: &C,
     output: Output,
-    wanted: &Wanted,
+    options: &OutputOptions,
 ) -> Result<String, AllocError>
     ensures { IfOk result (λ text. string_bytes text ≡ shown_text output
-        (if wanted.now.changes then changed filtered.now (C.times clock.now) else filtered.now) playback.now
+        (if options.now.changes then changed filtered.now (C.times clock.now) else filtered.now) playback.now
         (C.times clock.now)) }
 {
-    let kept = wanted_events(alloc, filtered, clock, wanted)?;
+    let kept = selected_events(alloc, filtered, clock, options)?;
     let shown = filtered.with_events(kept.of(filtered.events()));
     shown_text(alloc, &shown, playback, clock, output)
 }
@@ -388,16 +404,16 @@ pub(crate) fn logbook_of(alloc: Global, played: &Played) -> Result<Logbook<'_>, 
 }
 
 /// The events of a playback whose lines are wanted: all, or those that say something new.
-fn wanted_events<C: TimeFormat>(
+fn selected_events<C: TimeFormat>(
     alloc: Global,
     filtered: &Playback<'_>,
     clock: &C,
-    wanted: &Wanted,
+    options: &OutputOptions,
 ) -> Result<Selection, AllocError>
     ensures { IfOk result (λ events. record filtered.now { events = left_of events filtered.now.events }
-        ≡ (if wanted.now.changes then changed filtered.now (C.times clock.now) else filtered.now)) }
+        ≡ (if options.now.changes then changed filtered.now (C.times clock.now) else filtered.now)) }
 {
-    if wanted.changes {
+    if options.changes {
         let changes = changed_events(alloc, filtered, clock)?;
         return Ok(Selection::Only(changes));
     }
@@ -410,16 +426,16 @@ fn judge<C: TimeFormat>(
     playbacks: &[Playback<'_>],
     clock: &C,
     expectations: &[Expectation],
-    wanted: &Wanted,
+    options: &OutputOptions,
     found: bool,
 ) -> Result<Judgement, AllocError>
     ensures unmet { IfOk result (λ judgement. judgement.unmet.items ≡ unmet_from playbacks.now 0 expectations.now) }
     ensures junit { IfOk result (λ judgement. option_map string_bytes judgement.junit
-        ≡ (if wanted.now.junit then Some (junit_text playbacks.now (C.times clock.now) expectations.now) else None)) }
-    ensures found { IfOk result (λ judgement. judgement.found_nothing ≡ (not (names_nothing wanted.now.filter) && not found)) }
+        ≡ (if options.now.junit then Some (junit_text playbacks.now (C.times clock.now) expectations.now) else None)) }
+    ensures found { IfOk result (λ judgement. judgement.found_nothing ≡ (not (names_nothing options.now.filter) && not found)) }
 {
-    let found_nothing = !wanted.filter.is_empty() && !found;
-    let junit = junit_of(alloc, playbacks, clock, expectations, wanted)?;
+    let found_nothing = !options.filter.is_empty() && !found;
+    let junit = junit_of(alloc, playbacks, clock, expectations, options)?;
     let unmet = unmet_expectations(alloc, playbacks, expectations)?;
     Ok(Judgement {
         unmet,
@@ -434,12 +450,12 @@ fn junit_of<C: TimeFormat>(
     playbacks: &[Playback<'_>],
     clock: &C,
     expectations: &[Expectation],
-    wanted: &Wanted,
+    options: &OutputOptions,
 ) -> Result<Option<String>, AllocError>
     ensures { IfOk result (λ junit. option_map string_bytes junit
-        ≡ (if wanted.now.junit then Some (junit_text playbacks.now (C.times clock.now) expectations.now) else None)) }
+        ≡ (if options.now.junit then Some (junit_text playbacks.now (C.times clock.now) expectations.now) else None)) }
 {
-    if !wanted.junit {
+    if !options.junit {
         return Ok(None);
     }
     Ok(Some(junit_text(alloc, playbacks, clock, expectations)?))
@@ -587,7 +603,7 @@ fn has_summary(output: Output) -> bool
     }
 }
 
-/// Adds what became of the expectations to an output that tells it.
+/// Adds what became of the expectations to an output that says it.
 fn push_end<C: TimeFormat>(
     alloc: Global,
     playbacks: &[Playback<'_>],

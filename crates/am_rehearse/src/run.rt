@@ -6,15 +6,15 @@ ghost use Rattle.am_cli.specs.declared.transfer.TheConstants.{MAX_INPUT};
 ghost use Rattle.am_input.specs.Request.{times_from};
 ghost use Rattle.am_rehearse.specs.Faults.{Refuses, RefusesPlay, is_limit, leaves_out, status_of};
 ghost use Rattle.am_rehearse.specs.Printed.{IsOutputFor, IsOutputOfRun, IsRequestBy, PlaysThrough, WritesOutput, is_page};
-ghost use Rattle.am_rehearse.specs.declared.wanted.Wanted.{Wanted};
+ghost use Rattle.am_rehearse.specs.declared.output_options.OutputOptions.{OutputOptions};
 
 use crate::fault::RehearseFault;
 use crate::head::changes_of;
+use crate::output_options::OutputOptions;
 use crate::render::{Rendered, is_page, render_from};
-use crate::wanted::Wanted;
 use am_cli::device::{Sink, Source};
 use am_cli::fault::{FaultKind, InputFault};
-use am_cli::place::JsonPointer;
+use am_cli::pointer::JsonPointer;
 use am_cli::transfer::{MAX_INPUT, read_all, write_all};
 use am_config::dropped::IgnoredSettings;
 use am_input::input::{Changes, Input, read_input};
@@ -24,13 +24,13 @@ use am_rehearsal::parts::parts_of;
 use am_rehearsal::play::PlayFault;
 use am_rehearsal::playing::{PartFault, PlayedPart, play_parts};
 use am_seed::Seed;
-use am_terms::handover::Handover;
+use am_terms::dispatcher_change::DispatcherChange;
 use am_terms::rehearsal::Rehearsal;
 use am_terms::watch::Watch;
 use am_yaml::document::read_document;
 use std::alloc::Global;
 
-/// What a run tells beside its output.
+/// What a run says beside its output.
 #[derive(Drop)]
 pub struct Report {
     /// The input, once it was read whole.
@@ -79,28 +79,28 @@ impl Judgement {
 /// after another. It is `Ok` where every expectation of it is met, and `Unmet` where one isn't. Configuration, reloads,
 /// restarts, alerts, silences, outages, output, start, end, maintenance and expectations are those of the value that
 /// the input is read as, which is that of a JSON text where it is one, or those of `changes`. Of a configuration of
-/// Alertmanager it isn't said that it is the one that its file tells.
+/// Alertmanager it isn't said that it is the one that its file says.
 ///
-/// An input is refused as `NotRead` only where it is no JSON text. It is refused at a place, or as `AllRefused`, only
+/// An input is refused as `NotRead` only where it is no JSON text. It is refused at a pointer, or as `AllRefused`, only
 /// where it asks, as a JSON text, for nothing that can be played, or as `Full` (`Refuses`). It is `Full` only where it
 /// asks for more than a limit lets be played, or where a log row that a new dispatcher takes over doesn't fit. Nothing is
 /// said of YAML, of a given file, of a configuration of Alertmanager, and of patterns that need a regex. The input was read whole before.
 ///
 /// `report` has what was read, once all of it was, what of Alertmanager's configuration is ignored, and, once a rehearsal
-/// was played, which expectations aren't met, and the report on them that is `wanted`.
+/// was played, which expectations aren't met, and the report on them that is `options`.
 /// The output is made whole before its first byte is written: on every fault but `Unwritable` and `Unmet` the
 /// sink wasn't asked.
 pub fn run_rehearsal<S: Source, Z: ZoneFiles, K: Sink, W: Watch>(
     alloc: Global,
     source: &mut S,
     changes: Changes<'_>,
-    wanted: &Wanted,
+    options: &OutputOptions,
     files: &mut Z,
     watch: &mut W,
     sink: &mut K,
     report: &mut Report,
 ) -> Result<(), RehearseFault>
-    ensures asked { S.asked source.new ≤ S.asked source.old + (MAX_INPUT + 1) }
+    ensures reads { S.reads source.new ≤ S.reads source.old + (MAX_INPUT + 1) }
     ensures unreadable { (result ≡ Err RehearseFault.Unreadable)
         ↔ ((S.failed source.old < S.failed source.new)
         ⊎ (length (S.given source.old) + MAX_INPUT < length (S.given source.new))) }
@@ -112,10 +112,10 @@ pub fn run_rehearsal<S: Source, Z: ZoneFiles, K: Sink, W: Watch>(
     ensures ended_unmet { IfErr result (λ fault.
         fault ≡ RehearseFault.Unmet → S.ended source.new ≡ S.ended source.old + 1) }
     ensures met { OnOk result
-        (WritesOutput changes.entry wanted.now true (S.given source.old) (S.given source.new) (K.taken sink.old) (K.taken sink.new)) }
+        (WritesOutput changes.entry options.now true (S.given source.old) (S.given source.new) (K.taken sink.old) (K.taken sink.new)) }
     ensures unmet { IfErr result (λ fault. fault ≡ RehearseFault.Unmet →
-        WritesOutput changes.entry wanted.now false (S.given source.old) (S.given source.new) (K.taken sink.old) (K.taken sink.new)) }
-    ensures refused { IfErr result (λ fault. status_of fault ≡ 2 → (input : List ℕ) × Refuses changes.entry wanted.now input fault
+        WritesOutput changes.entry options.now false (S.given source.old) (S.given source.new) (K.taken sink.old) (K.taken sink.new)) }
+    ensures refused { IfErr result (λ fault. status_of fault ≡ 2 → (input : List ℕ) × Refuses changes.entry options.now input fault
         × (S.given source.new ≡ S.given source.old ++ input)
         × (S.ended source.new ≡ S.ended source.old + 1)) }
 {
@@ -125,7 +125,7 @@ pub fn run_rehearsal<S: Source, Z: ZoneFiles, K: Sink, W: Watch>(
         alloc,
         input.as_slice(),
         changes,
-        wanted,
+        options,
         files,
         watch,
         ignored,
@@ -145,7 +145,7 @@ pub fn run_rehearsal<S: Source, Z: ZoneFiles, K: Sink, W: Watch>(
     }
 }
 
-/// Why a rehearsal wasn't played to its end, told at the place in the input.
+/// Why a rehearsal wasn't played to its end, given at the pointer in the input.
 fn refused(alloc: Global, fault: PartFault, origins: &[Origin]) -> InputFault
     ensures memory { fault.fault ≡ PlayFault.NoMemory → result ≡ InputFault.NoMemory }
     ensures limit { IsTrue (is_limit fault.fault) → IsRefusedBy FaultKind.Full result }
@@ -162,7 +162,7 @@ fn refused(alloc: Global, fault: PartFault, origins: &[Origin]) -> InputFault
     }
 }
 
-/// Where a plan of a dispatcher stands in the input, if it is the first one's. Those of another begin with what it is told again.
+/// Where a plan of a dispatcher is in the input, if it is the first one's. Those of another begin with what it is given again.
 fn origin_of(part: usize, index: usize, origins: &[Origin]) -> Option<&Origin> {
     if part == 0 { origins.get(index) } else { None }
 }
@@ -172,18 +172,19 @@ fn render<Z: ZoneFiles, W: Watch>(
     alloc: Global,
     input: &[u8],
     changes: Changes<'_>,
-    wanted: &Wanted,
+    options: &OutputOptions,
     files: &mut Z,
     watch: &mut W,
     ignored: &mut IgnoredSettings,
 ) -> Result<Rendered, RehearseFault>
-    ensures told { IfOk result (λ rendered. IsOutputFor changes.entry wanted.now input.now rendered.is_met (string_bytes rendered.text)) }
-    ensures refused { IfErr result (Refuses changes.entry wanted.now input.now) }
+    ensures printed { IfOk result (λ rendered.
+        IsOutputFor changes.entry options.now input.now rendered.is_met (string_bytes rendered.text)) }
+    ensures refused { IfErr result (Refuses changes.entry options.now input.now) }
 {
     let story = read_story(alloc, input, changes, files)?;
     *ignored = story.dropped;
-    check_page(alloc, &story, wanted)?;
-    Ok(play_and_render(alloc, story, wanted, watch)?)
+    check_page(alloc, &story, options)?;
+    Ok(play_and_render(alloc, story, options, watch)?)
 }
 
 /// Reads the rehearsal that this text asks for. The value that the text is read as is let go.
@@ -193,61 +194,69 @@ fn read_story<Z: ZoneFiles>(
     changes: Changes<'_>,
     files: &mut Z,
 ) -> Result<Input, RehearseFault>
-    ensures told { IfOk result (λ story. IsRequestBy changes.entry text.now story.output story.start story.expectations.items
-        story.handovers.items story.rehearsal) }
-    ensures refused { IfErr result (λ fault. (wanted : Wanted) → Refuses changes.entry wanted text.now fault) }
+    ensures decoded { IfOk result (λ story. IsRequestBy changes.entry text.now story.output story.start story.expectations.items
+        story.dispatcher_changes.items story.rehearsal) }
+    ensures refused { IfErr result (λ fault. (options : OutputOptions) → Refuses changes.entry options text.now fault) }
 {
     let value = read_document(alloc, text)?;
     Ok(read_input(alloc, &value, changes, files)?)
 }
 
-/// Plays a rehearsal, and tells what is asked for.
+/// Plays a rehearsal, and says what is asked for.
 fn play_and_render<W: Watch>(
     alloc: Global,
     input: Input,
-    wanted: &Wanted,
+    options: &OutputOptions,
     watch: &mut W,
 ) -> Result<Rendered, InputFault>
-    ensures told { IfOk result (λ rendered. IsOutputOfRun input.rehearsal input.handovers.items input.output wanted.now
+    ensures printed { IfOk result (λ rendered. IsOutputOfRun input.rehearsal input.dispatcher_changes.items input.output options.now
         (times_from input.start) input.expectations.items rendered.is_met (string_bytes rendered.text)) }
-    ensures refused { IfErr result (RefusesPlay input.rehearsal input.handovers.items) }
+    ensures refused { IfErr result (RefusesPlay input.rehearsal input.dispatcher_changes.items) }
 {
     let Input {
         rehearsal,
-        handovers,
+        dispatcher_changes,
         origins,
         start,
         expectations,
         output,
         dropped: _,
     } = input;
-    let changes = changes_of(alloc, handovers.as_slice())?;
+    let changes = changes_of(alloc, dispatcher_changes.as_slice())?;
     let played = play_or_refuse(
         alloc,
-        wanted.seed,
+        options.seed,
         rehearsal,
-        handovers,
+        dispatcher_changes,
         origins.as_slice(),
         watch,
     )?;
     let changes = changes.as_slice();
     let played = played.as_slice();
     let expectations = expectations.as_slice();
-    render_from(alloc, changes, played, &start, expectations, output, wanted)
+    render_from(
+        alloc,
+        changes,
+        played,
+        &start,
+        expectations,
+        output,
+        options,
+    )
 }
 
 /// Refuses a page of which lines are to be left out, or which is of several dispatchers.
-fn check_page(alloc: Global, story: &Input, wanted: &Wanted) -> Result<(), InputFault>
+fn check_page(alloc: Global, story: &Input, options: &OutputOptions) -> Result<(), InputFault>
     ensures { IfErr result (λ _. (is_page story.now.output ≡ true)
-        × ((leaves_out wanted.now ≡ true) ⊎ (story.now.handovers.items ≢ []))) }
+        × ((leaves_out options.now ≡ true) ⊎ (story.now.dispatcher_changes.items ≢ []))) }
 {
     if !is_page(story.output) {
         return Ok(());
     }
-    if wanted.leaves_out() {
+    if options.leaves_out() {
         return Err(refused_output(alloc));
     }
-    if story.handovers.is_empty() {
+    if story.dispatcher_changes.is_empty() {
         return Ok(());
     }
     Err(refused_output(alloc))
@@ -258,7 +267,7 @@ fn refused_output(alloc: Global) -> InputFault {
     top.member("output").refuse(alloc, FaultKind::BadValue)
 }
 
-/// Plays a rehearsal of one dispatcher, whose planned actions are at these places of the input.
+/// Plays a rehearsal of one dispatcher, whose planned actions are at these pointers of the input.
 pub(crate) fn play_alone<W: Watch>(
     alloc: Global,
     seed: Seed,
@@ -269,25 +278,25 @@ pub(crate) fn play_alone<W: Watch>(
     ensures plays { IfOk result (λ part. PlaysThrough rehearsal [] (part ∷ [])) }
     ensures refused { IfErr result (RefusesPlay rehearsal []) }
 {
-    let handovers = Vec::new(alloc);
-    let mut played = play_or_refuse(alloc, seed, rehearsal, handovers, origins, watch)?;
+    let dispatcher_changes = Vec::new(alloc);
+    let mut played = play_or_refuse(alloc, seed, rehearsal, dispatcher_changes, origins, watch)?;
     match played.pop() {
         Some(part) => Ok(part),
         None => unreachable!(),
     }
 }
 
-/// Plays a rehearsal with these handovers, whose planned actions are at these places of the input.
+/// Plays a rehearsal with these changes of the dispatcher, whose planned actions are at these pointers of the input.
 fn play_or_refuse<W: Watch>(
     alloc: Global,
     seed: Seed,
     rehearsal: Rehearsal,
-    handovers: Vec<Handover>,
+    dispatcher_changes: Vec<DispatcherChange>,
     origins: &[Origin],
     watch: &mut W,
 ) -> Result<Vec<PlayedPart>, InputFault>
-    ensures plays { IfOk result (λ played. PlaysThrough rehearsal handovers.items played.items) }
-    ensures refused { IfErr result (RefusesPlay rehearsal handovers.items) }
+    ensures plays { IfOk result (λ played. PlaysThrough rehearsal dispatcher_changes.items played.items) }
+    ensures refused { IfErr result (RefusesPlay rehearsal dispatcher_changes.items) }
 {
     let Rehearsal {
         config,
@@ -296,7 +305,7 @@ fn play_or_refuse<W: Watch>(
         plans,
         outages,
     } = rehearsal;
-    let parts = parts_of(alloc, seed, config, until, plans, handovers)?;
+    let parts = parts_of(alloc, seed, config, until, plans, dispatcher_changes)?;
     let ended = play_parts(alloc, seed, parts, maintain, outages.as_slice(), watch);
     watch.end();
     match ended {

@@ -40,7 +40,7 @@ pub are_in_time-append : (start deadline : ℕ) (responses more : List Response)
 are_in_time-append start deadline responses more zero h = refl
 are_in_time-append start deadline responses more (suc j) h =
     let before = are_in_time-append start deadline responses more j (omega arith) in
-    let moment = attempt_at-append start responses more j (omega arith) in
+    let time = attempt_at-append start responses more j (omega arith) in
     cc
 
 pub length-push : (responses : List Response) (t : Response) → length (responses ++ t ∷ []) ≡ suc (length responses)
@@ -80,7 +80,7 @@ ends_with-front test [] u more ends = refl
 ends_with-front test (t ∷ []) u more ends = and_from _ _ (and_parts _ _ ends).0 refl
 ends_with-front test (t ∷ v ∷ responses) u more ends = and_from _ _ (and_parts _ _ ends).0 (ends_with-front test (v ∷ responses) u more (and_parts _ _ ends).1)
 
--- what is in time up to a place is so before it, and at each place before it
+-- what is in time up to an index is so before it, and at each index before it
 pub in_time_before : (start deadline : ℕ) (responses : List Response) (j k : ℕ) → j ≤ k → are_in_time start deadline responses k ≡ true → are_in_time start deadline responses j ≡ true
 in_time_before start deadline responses zero k le h = refl
 in_time_before start deadline responses (suc j) zero le h = absurd (omega arith)

@@ -2,7 +2,7 @@
 pub mod Waits
 -- what the first answers of a list say doesn't depend on those that follow
 pub mod Fronts
--- one answer more: where the machine stands after it, and that time goes by
+-- one answer more: where the machine is after it, and that time goes by
 pub mod Steps
 -- a list of answers, one by one: where it leads the machine
 pub mod Runs

@@ -26,8 +26,8 @@ expired = refl
 not_yet : has_outcome 0 1_251 two_agains Expired ≡ false
 not_yet = refl
 
-goes_on : HasOutcome 0 1_251 two_agains Starved
-goes_on = refl
+continues : HasOutcome 0 1_251 two_agains Starved
+continues = refl
 
 from_the_end : attempt_after 0 (again 200 ∷ []) ≡ 700
 from_the_end = refl

@@ -1,4 +1,4 @@
--- One answer more: where the machine stands after it, and that time goes by.
+-- One answer more: where the machine is after it, and that time goes by.
 use Rattle.std.proofs.Common.{◌≡◌, ℕ, ◌+◌, ◌-◌, ◌*◌, ◌<◌, ◌≤◌, true, false, nat_lt, if◌then◌else◌, List, [], ◌∷◌, ◌++◌, length, refl, sym, ap, ◌∙◌, subst, arith}
 use Rattle.std.proofs.lemmas.Bool.{and_parts, and_from, ltb-true, ltb-false, le-leb}
 use Rattle.am_retry.specs.declared.outcome.Answer.{Answer}
@@ -23,8 +23,8 @@ due_is start deadline responses at may same =
           (and_from _ _ may (le-leb deadline (attempt_after start responses) (omega arith)), λ q. cc)
     ] refl
 
-pub stands_started : (start deadline : ℕ) → IsAfterResponses start deadline [] (started start deadline)
-stands_started start deadline = record { until = refl; attempts = refl; ended = refl; step = due_is start deadline [] start refl refl }
+pub holds_started : (start deadline : ℕ) → IsAfterResponses start deadline [] (started start deadline)
+holds_started start deadline = record { until = refl; attempts = refl; ended = refl; step = due_is start deadline [] start refl refl }
 
 -- the attempt that was due is in time, and so all are
 in_time-push : (start deadline : ℕ) (responses : List Response) (t : Response) → HasOutcome start deadline responses Starved → are_in_time start deadline (responses ++ t ∷ []) (length (responses ++ t ∷ [])) ≡ true
@@ -49,29 +49,29 @@ step_more start deadline responses Again ended wait same open_ =
     (and_from _ _ (in_time-push start deadline responses t open_) (all_again-push responses t (again_so_far start deadline responses open_) refl))
     (ap (λ (w : ℕ). end_of (attempt_after start responses) ended + w) same ∙ sym (attempt_after-push start responses t))
 
--- where the machine stands after an answer to the attempt that is due
-pub stands_taken : (start deadline attempts ended at : ℕ) (responses : List Response) (t : Response) → IsAfterResponses start deadline responses (record { deadline = deadline; attempts = attempts; ended = ended; step = Attempt at }) → IsAfterResponses start deadline (responses ++ t ∷ []) (taken_at at (record { deadline = deadline; attempts = attempts; ended = ended; step = Attempt at }) t.answer t.ended)
-stands_taken start deadline attempts ended at responses t stands =
-    let moment : at ≡ attempt_after start responses = stands.step.1 in
-    let count : attempts ≡ length responses = stands.attempts in
+-- where the machine is after an answer to the attempt that is due
+pub holds_taken : (start deadline attempts ended at : ℕ) (responses : List Response) (t : Response) → IsAfterResponses start deadline responses (record { deadline = deadline; attempts = attempts; ended = ended; step = Attempt at }) → IsAfterResponses start deadline (responses ++ t ∷ []) (taken_at at (record { deadline = deadline; attempts = attempts; ended = ended; step = Attempt at }) t.answer t.ended)
+holds_taken start deadline attempts ended at responses t holds =
+    let time : at ≡ attempt_after start responses = holds.step.1 in
+    let count : attempts ≡ length responses = holds.attempts in
     let more = length-push responses t in
     record {
       until = refl;
       attempts = omega arith;
-      ended = ap (λ (a : ℕ). end_of a t.ended) moment ∙ sym (end_after-push start responses t);
-      step = subst (λ (a : ℕ). StepIsOf start deadline (responses ++ t ∷ []) (step_after t.answer (end_of a t.ended) (wait_of attempts) deadline)) (sym moment) (step_more start deadline responses t.answer t.ended (wait_of attempts) (ap wait_of count) stands.step.0);
+      ended = ap (λ (a : ℕ). end_of a t.ended) time ∙ sym (end_after-push start responses t);
+      step = subst (λ (a : ℕ). StepIsOf start deadline (responses ++ t ∷ []) (step_after t.answer (end_of a t.ended) (wait_of attempts) deadline)) (sym time) (step_more start deadline responses t.answer t.ended (wait_of attempts) (ap wait_of count) holds.step.0);
     }
 
 -- the same, where it is said that an attempt is due
-pub stands_more : (start deadline at : ℕ) (responses : List Response) (p : Progress) (answer : Answer) (ended : ℕ) → p.step ≡ Attempt at → IsAfterResponses start deadline responses p → IsAfterResponses start deadline (responses ++ record { answer = answer; ended = ended } ∷ []) (answered p answer ended)
-stands_more start deadline at responses p answer ended is stands =
+pub holds_more : (start deadline at : ℕ) (responses : List Response) (p : Progress) (answer : Answer) (ended : ℕ) → p.step ≡ Attempt at → IsAfterResponses start deadline responses p → IsAfterResponses start deadline (responses ++ record { answer = answer; ended = ended } ∷ []) (answered p answer ended)
+holds_more start deadline at responses p answer ended is holds =
     let t : Response = record { answer = answer; ended = ended } in
-    let same : IsAfterResponses start p.deadline responses p = subst (λ (d : ℕ). IsAfterResponses start d responses p) (sym stands.until) stands in
+    let same : IsAfterResponses start p.deadline responses p = subst (λ (d : ℕ). IsAfterResponses start d responses p) (sym holds.until) holds in
     let was : IsAfterResponses start p.deadline responses (record { deadline = p.deadline; attempts = p.attempts; ended = p.ended; step = Attempt at }) =
     subst (λ (s : Step). IsAfterResponses start p.deadline responses (record { deadline = p.deadline; attempts = p.attempts; ended = p.ended; step = s })) is same in
     let after : IsAfterResponses start p.deadline (responses ++ t ∷ []) (answered p answer ended) =
-    subst (λ (s : Step). IsAfterResponses start p.deadline (responses ++ t ∷ []) (taken_by s p answer ended)) (sym is) (stands_taken start p.deadline p.attempts p.ended at responses t was) in
-    subst (λ (d : ℕ). IsAfterResponses start d (responses ++ t ∷ []) (answered p answer ended)) stands.until after
+    subst (λ (s : Step). IsAfterResponses start p.deadline (responses ++ t ∷ []) (taken_by s p answer ended)) (sym is) (holds_taken start p.deadline p.attempts p.ended at responses t was) in
+    subst (λ (d : ℕ). IsAfterResponses start d (responses ++ t ∷ []) (answered p answer ended)) holds.until after
 
 -- where none is due, nothing changes
 pub answered-over : (p : Progress) (o : Outcome) (answer : Answer) (ended : ℕ) → p.step ≡ Over o → answered p answer ended ≡ p

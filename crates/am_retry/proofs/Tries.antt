@@ -16,7 +16,7 @@ enumerate_from-push n (u ∷ responses) t =
     let e : n + 1 + length responses ≡ n + length (u ∷ responses) = omega arith in
     ap (λ (l : List (ℕ × Response)). (n, u) ∷ l) (enumerate_from-push (n + 1) responses t ∙ ap (λ (k : ℕ). enumerate_from (n + 1) responses ++ (k, t) ∷ []) e)
 
--- lists whose attempts are made at the same moments have the same tries
+-- lists whose attempts are made at the same times have the same tries
 same_tries : (start : ℕ) (one other responses : List Response) (n : ℕ) → ((j : ℕ) → j < n + length responses → attempt_at start one j ≡ attempt_at start other j)
     → map (try_of start one) (enumerate_from n responses) ≡ map (try_of start other) (enumerate_from n responses)
 same_tries start one other [] n same = refl
@@ -33,11 +33,11 @@ one_more_try start responses t =
     ∙ (let e : 0 + length responses ≡ length responses = omega arith in ap (λ (k : ℕ). tries_of start responses ++ try_of start longer (k, t) ∷ []) e)
     ∙ ap (λ (a : ℕ). tries_of start responses ++ (record { attempt = length responses + 1; at = a; answer = t.answer; ended = t.ended }) ∷ []) (attempt_at-append start responses (t ∷ []) (length responses) (omega arith))
 
--- the same in the machine's terms: the number and the moment of the attempt that was due
+-- the same in the machine's terms: the number and the time of the attempt that was due
 pub tries_more : (start deadline at : ℕ) (responses : List Response) (p : Progress) (answer : Answer) (ended : ℕ) → p.step ≡ Attempt at → IsAfterResponses start deadline responses p
     → tries_of start (responses ++ record { answer = answer; ended = ended } ∷ []) ≡ tries_of start responses ++ record { attempt = p.attempts + 1; at = at; answer = answer; ended = ended } ∷ []
-tries_more start deadline at responses p answer ended is stands =
-    let due : StepIsOf start deadline responses (Attempt at) = subst (λ (s : Step). StepIsOf start deadline responses s) is stands.step in
+tries_more start deadline at responses p answer ended is holds =
+    let due : StepIsOf start deadline responses (Attempt at) = subst (λ (s : Step). StepIsOf start deadline responses s) is holds.step in
     one_more_try start responses (record { answer = answer; ended = ended })
-    ∙ ap (λ (k : ℕ). tries_of start responses ++ (record { attempt = k + 1; at = attempt_after start responses; answer = answer; ended = ended }) ∷ []) (sym stands.attempts)
+    ∙ ap (λ (k : ℕ). tries_of start responses ++ (record { attempt = k + 1; at = attempt_after start responses; answer = answer; ended = ended }) ∷ []) (sym holds.attempts)
     ∙ ap (λ (a : ℕ). tries_of start responses ++ (record { attempt = p.attempts + 1; at = a; answer = answer; ended = ended }) ∷ []) (sym due.1)

@@ -1,4 +1,4 @@
--- The attempts of a list of answers: their moments, their ends and the waits between them.
+-- The attempts of a list of answers: their times, their ends and the waits between them.
 use Rattle.std.specs.Prelude.{ℕ, zero, suc, ◌+◌, ◌*◌, ◌/◌, min, max, List, [], ◌∷◌, ◌++◌, length, map, slice_index}
 use Rattle.std.specs.List.{enumerate_from}
 use Rattle.am_retry.specs.declared.outcome.Answer.{Answer}
@@ -22,15 +22,15 @@ abbrev pub wait_of : ℕ → ℕ
 wait_of zero = 500
 wait_of (suc j) = min (3 * wait_of j / 2) 60_000
 
--- the end of an attempt that was made at a moment: the end handed in, but none before that moment and none above the latest
+-- the end of an attempt that was made at a time: the end handed in, but none before that time and none above the latest
 abbrev pub end_of : ℕ → ℕ → ℕ
 end_of at ended = max at (min ended latest)
 
--- the end handed in with the answer at a place, counted from 0
+-- the end handed in with the answer at an index, counted from 0
 abbrev pub handed_in : List Response → ℕ → ℕ
 handed_in responses j = slice_index (map (λ t. t.ended) responses) j
 
--- the moment of the attempt that comes after the first j answers: the start, and after that the end of the attempt before and a wait
+-- the time of the attempt that comes after the first j answers: the start, and after that the end of the attempt before and a wait
 abbrev pub attempt_at : ℕ → List Response → ℕ → ℕ
 attempt_at start responses zero = start
 attempt_at start responses (suc j) = end_of (attempt_at start responses j) (handed_in responses j) + wait_of j
@@ -40,7 +40,7 @@ abbrev pub end_at : ℕ → List Response → ℕ → ℕ
 end_at start responses zero = start
 end_at start responses (suc j) = end_of (attempt_at start responses j) (handed_in responses j)
 
--- the moment of the attempt that comes after all the answers
+-- the time of the attempt that comes after all the answers
 abbrev pub attempt_after : ℕ → List Response → ℕ
 attempt_after start responses = attempt_at start responses (length responses)
 
@@ -48,14 +48,14 @@ attempt_after start responses = attempt_at start responses (length responses)
 abbrev pub end_after : ℕ → List Response → ℕ
 end_after start responses = end_at start responses (length responses)
 
--- an attempt that was made: its number, from 1, its moment, its answer and the end that was handed in
+-- an attempt that was made: its number, from 1, its time, its answer and the end that was handed in
 pub record Try : Type 0 where
   pub attempt : ℕ
   pub at : ℕ
   pub answer : Answer
   pub ended : ℕ
 
--- the attempt that an answer of the list is for, by the answer's place, counted from 0
+-- the attempt that an answer of the list is for, by the answer's index, counted from 0
 abbrev pub try_of : ℕ → List Response → ℕ × Response → Try
 try_of start responses p = record { attempt = p.0 + 1; at = attempt_at start responses p.0; answer = p.1.answer; ended = p.1.ended }
 

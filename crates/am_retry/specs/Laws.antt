@@ -25,7 +25,7 @@ OverExactly =
     → (run start deadline responses ≡ record { deadline = deadline; attempts = attempts; ended = ended; step = Over outcome })
     ↔ Concludes start deadline responses outcome attempts ended
 
--- the next attempt is due at a moment exactly when the answers as a whole let it follow, at this moment
+-- the next attempt is due at a time exactly when the answers as a whole let it follow, at this time
 abbrev pub WaitsExactly : Type 0
 WaitsExactly =
     (start deadline attempts ended at : ℕ) (responses : List Response)
@@ -34,8 +34,8 @@ WaitsExactly =
     × (at ≡ attempt_after start responses))
 
 -- another attempt may follow exactly when no front of the answers has an outcome
-abbrev pub GoesOnExactly : Type 0
-GoesOnExactly =
+abbrev pub ContinuesExactly : Type 0
+ContinuesExactly =
     (start deadline : ℕ) (responses : List Response)
     → HasOutcome start deadline responses Starved
     ↔ ((outcome : Outcome) (attempts ended : ℕ) → Concludes start deadline responses outcome attempts ended → ⊥)
@@ -46,7 +46,7 @@ NeverBoth =
     (start deadline : ℕ) (responses : List Response) (one other : Outcome)
     → HasOutcome start deadline responses one → HasOutcome start deadline responses other → one ≡ other
 
--- one more answer is one more try, at the moment that was due
+-- one more answer is one more try, at the time that was due
 abbrev pub OneMoreTry : Type 0
 OneMoreTry =
     (start : ℕ) (responses : List Response) (t : Response)

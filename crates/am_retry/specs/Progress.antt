@@ -1,4 +1,4 @@
--- What contracts see of the retry machine, and how it stands to the answers that it took.
+-- What contracts see of the retry machine, and how it is to the answers that it took.
 use Rattle.std.specs.Prelude.{◌≡◌, ◌≢◌, ℕ, ◌+◌, ◌-◌, ◌*◌, ◌<◌, ◌≤◌, nat_lt, if◌then◌else◌, List, [], ◌∷◌, length}
 use Rattle.am_retry.specs.declared.outcome.Answer.{Answer}
 use Rattle.am_retry.specs.declared.outcome.Answer.TheVariants.{Done, Again, Never}
@@ -15,7 +15,7 @@ pub record Progress : Type 0 where
   pub ended : ℕ
   pub step : Step
 
--- an attempt is due at this moment, if that is before the deadline
+-- an attempt is due at this time, if that is before the deadline
 abbrev pub due : ℕ → ℕ → Step
 due at deadline = if nat_lt at deadline then Attempt at else Over Expired
 
@@ -29,7 +29,7 @@ step_after Done ended wait deadline = Over Delivered
 step_after Never ended wait deadline = Over Refused
 step_after Again ended wait deadline = due (ended + wait) deadline
 
--- after an answer to the attempt that was due at a moment
+-- after an answer to the attempt that was due at a time
 abbrev pub taken_at : ℕ → Progress → Answer → ℕ → Progress
 taken_at at p answer ended =
     record {
@@ -57,12 +57,12 @@ answered_all p (t ∷ responses) = answered_all (answered p t.answer t.ended) re
 abbrev pub run : ℕ → ℕ → List Response → Progress
 run start deadline responses = answered_all (started start deadline) responses
 
--- what comes next is what follows from the answers as a whole: the next attempt, at its moment, or the outcome that they have
+-- what comes next is what follows from the answers as a whole: the next attempt, at its time, or the outcome that they have
 abbrev pub StepIsOf : ℕ → ℕ → List Response → Step → Type 0
 StepIsOf start deadline responses (Attempt at) = HasOutcome start deadline responses Starved × (at ≡ attempt_after start responses)
 StepIsOf start deadline responses (Over outcome) = HasOutcome start deadline responses outcome × (outcome ≢ Starved)
 
--- a machine that was started so took just these answers, and stands where they lead
+-- a machine that was started so took just these answers, and is where they lead
 pub record IsAfterResponses (start deadline : ℕ) (responses : List Response) (p : Progress) : Type 0 where
   pub until : p.deadline ≡ deadline
   pub attempts : p.attempts ≡ length responses

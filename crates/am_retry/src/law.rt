@@ -1,4 +1,4 @@
-ghost use Rattle.am_retry.specs.Laws.{GoesOnExactly, LimitsAre, NeverBoth, OneMoreTry, OverExactly, WaitsExactly};
+ghost use Rattle.am_retry.specs.Laws.{ContinuesExactly, LimitsAre, NeverBoth, OneMoreTry, OverExactly, WaitsExactly};
 
 /// The machine gives each list of answers, taken one by one, just the outcome that the list has
 /// as a whole, with its attempts and its end; while no front of the list has one, it waits for
@@ -6,7 +6,7 @@ ghost use Rattle.am_retry.specs.Laws.{GoesOnExactly, LimitsAre, NeverBoth, OneMo
 pub fn machine_gives_retry_outcome()
     ensures over { OverExactly }
     ensures waits { WaitsExactly }
-    ensures goes_on { GoesOnExactly }
+    ensures continues { ContinuesExactly }
     ensures unique { NeverBoth }
     ensures tries { OneMoreTry }
 {}

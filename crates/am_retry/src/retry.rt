@@ -18,7 +18,7 @@ const LONGEST_WAIT: u64 = 60_000;
 /// What comes next.
 #[derive(Clone, Copy, Debug, PartialEq, Eq)]
 pub enum Step {
-    /// An attempt is due at this moment.
+    /// An attempt is due at this time.
     Attempt(u64),
     /// No attempt is left to be made.
     Over(Outcome),
@@ -66,7 +66,7 @@ impl Retry {
         requires now { now ≤ latest }
         requires deadline { deadline ≤ latest }
         ensures value { result ≡ started now deadline }
-        ensures stands { IsAfterResponses now deadline [] result }
+        ensures holds { IsAfterResponses now deadline [] result }
     {
         Retry {
             deadline,
@@ -83,7 +83,7 @@ impl Retry {
         ensures in_time { (at : ℕ) → result ≡ Attempt at → at < self.now.deadline }
 
         // Whatever answers were taken: the next attempt is theirs, or the outcome is.
-        ensures stands { (start deadline : ℕ) (responses : List Response)
+        ensures holds { (start deadline : ℕ) (responses : List Response)
             → IsAfterResponses start deadline responses self.now
             → StepIsOf start deadline responses result }
     {
@@ -106,15 +106,15 @@ impl Retry {
         self.ended
     }
 
-    /// Takes the answer to the attempt that is due, and the moment at which it ended. An end before
-    /// the attempt's own moment counts as that moment, and one after 10^15 + 10^12 as this. Where
+    /// Takes the answer to the attempt that is due, and the time at which it ended. An end before
+    /// the attempt's own time counts as that time, and one after 10^15 + 10^12 as this. Where
     /// no attempt is due, nothing changes.
     pub fn answer(&mut self, answer: Answer, ended: u64)
         ensures value { self.new ≡ answered self.old answer ended }
         ensures over { (outcome : Outcome) → self.old.step ≡ Over outcome → self.new ≡ self.old }
 
-        // Whatever answers led to the attempt that is due, the machine stands after one more.
-        ensures stands { (start deadline at : ℕ) (responses : List Response)
+        // Whatever answers led to the attempt that is due, the machine is after one more.
+        ensures holds { (start deadline at : ℕ) (responses : List Response)
             → self.old.step ≡ Attempt at
             → IsAfterResponses start deadline responses self.old
             → IsAfterResponses start deadline (one_more responses answer ended) self.new }
@@ -146,7 +146,7 @@ impl Retry {
     }
 }
 
-/// An attempt at this moment, if it is before the deadline.
+/// An attempt at this time, if it is before the deadline.
 fn due_step(at: u64, deadline: u64) -> Step
     ensures { result ≡ due at deadline }
 {

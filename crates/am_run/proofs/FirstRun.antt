@@ -6,6 +6,6 @@ use Rattle.am_run.specs.FirstRun.{FirstIsLegal, FirstRunReportIs}
 pub first_is_legal : FirstIsLegal
 first_is_legal = (refl, (refl, (refl, (refl, (refl, tt)))))
 
-pub first_is_told : FirstRunReportIs
+pub first_run_is : FirstRunReportIs
 unfolding digits
-first_is_told = refl
+first_run_is = refl

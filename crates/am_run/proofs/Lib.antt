@@ -6,5 +6,5 @@ pub mod Refusals
 pub mod lemmas
 -- the first worked run: the definitions, run on it
 pub mod FirstRun
--- what the reports tell of a flush
+-- what the reports say of a flush
 pub mod Attempts

@@ -6,7 +6,7 @@ use Rattle.am_cli.specs.Read.{IsJson, IsRefusedBy, is_refusal}
 use Rattle.am_cli.specs.declared.fault.FaultKind.TheVariants.{Full}
 use Rattle.am_cli.specs.declared.fault.InputFault.{InputFault}
 use Rattle.am_cli.specs.declared.fault.InputFault.TheVariants.{NoMemory, Refused}
-use Rattle.am_run.specs.Faults.{Refuses, TellsStuck, fault_of_input}
+use Rattle.am_run.specs.Faults.{Refuses, IsStuckInput, fault_of_input}
 use Rattle.am_run.specs.declared.run.TheConstants.{BOARD_ID}
 use Rattle.am_run.specs.declared.fault.RunFault.{RunFault}
 use Rattle.am_scenario.specs.Decoding.{IsScenarioIn, scenario_compares_texts}
@@ -25,18 +25,18 @@ passed_on P (Err f) fault is holds = subst P (sym is) holds
 
 -- want of memory refuses nothing
 pub no_refusal : (fault : InputFault) → fault ≡ NoMemory → IsTrue (is_refusal fault) → ⊥
-no_refusal (Refused place kind) is refusal = cc is
+no_refusal (Refused pointer kind) is refusal = cc is
 no_refusal NoMemory is refusal = cc refusal
 
--- one of reading, where the input tells no scenario
+-- one of reading, where the input says no scenario
 pub unread : (input : List ℕ) (fault : InputFault) → IsJson input
     → (IsTrue (is_refusal fault) → (scenario : Scenario) → IsScenarioIn input scenario → IsTrue (scenario_compares_texts scenario) → ⊥)
     → Refuses input (fault_of_input fault)
-unread input (Refused place kind) json none = (json, λ scenario told without. absurd (none refl scenario told without))
+unread input (Refused pointer kind) json none = (json, λ scenario decoded without. absurd (none refl scenario decoded without))
 unread input NoMemory json none = tt
 
 -- one of running, for want of memory, or because a limit stops the play
-pub unplayed : (input : List ℕ) (fault : InputFault) → IsJson input → IsRefusedBy Full fault → (IsTrue (is_refusal fault) → TellsStuck BOARD_ID input)
+pub unplayed : (input : List ℕ) (fault : InputFault) → IsJson input → IsRefusedBy Full fault → (IsTrue (is_refusal fault) → IsStuckInput BOARD_ID input)
     → Refuses input (fault_of_input fault)
-unplayed input (Refused place kind) json full stuck = (json, λ scenario told without. (full, stuck refl))
+unplayed input (Refused pointer kind) json full stuck = (json, λ scenario decoded without. (full, stuck refl))
 unplayed input NoMemory json full stuck = tt

@@ -8,7 +8,7 @@ use Rattle.am_cli.specs.declared.fault.ParseFault.{ParseFault}
 use Rattle.am_cli.specs.declared.fault.ParseFault.TheVariants as parse
 use Rattle.am_cli.specs.declared.transfer.ReadFault.{ReadFault}
 use Rattle.am_cli.specs.declared.transfer.ReadFault.TheVariants as read
-use Rattle.am_run.specs.WhyFull.{IsStuck}
+use Rattle.am_run.specs.IsCauseOfFull.{IsStuck}
 use Rattle.am_run.specs.declared.run.TheConstants.{BOARD_ID}
 use Rattle.am_run.specs.declared.fault.RunFault.{RunFault}
 use Rattle.am_run.specs.declared.fault.RunFault.TheVariants as run
@@ -20,9 +20,9 @@ abbrev pub fault_of_parse : ParseFault → RunFault
 fault_of_parse (parse.NotJson line column) = run.NotJson
 fault_of_parse parse.NoMemory = run.NoMemory
 
--- a fault of what the input tells is the run's of the same name
+-- a fault of what the input says is the run's of the same name
 abbrev pub fault_of_input : InputFault → RunFault
-fault_of_input (input.Refused place fault_kind) = run.Refused place fault_kind
+fault_of_input (input.Refused pointer fault_kind) = run.Refused pointer fault_kind
 fault_of_input input.NoMemory = run.NoMemory
 
 -- a fault of reading is the run's of the same name
@@ -34,23 +34,23 @@ fault_of_read read.NoMemory = run.NoMemory
 abbrev pub status_of : RunFault → ℕ
 status_of run.Unreadable = 1
 status_of run.NotJson = 2
-status_of (run.Refused place fault_kind) = 2
+status_of (run.Refused pointer fault_kind) = 2
 status_of run.NoMemory = 3
 status_of run.Unwritable = 4
 
--- an input tells a scenario whose play on the board of this id is stopped by a limit
-pub record TellsStuck (id : ℕ) (input : List ℕ) : Type 0 where
+-- an input says a scenario whose play on the board of this id is stopped by a limit
+pub record IsStuckInput (id : ℕ) (input : List ℕ) : Type 0 where
   pub scenario : Scenario
-  pub told : IsScenarioIn input scenario
+  pub decoded : IsScenarioIn input scenario
   pub stuck : IsStuck id scenario
 
--- an input is refused as no JSON only where it is none, and at a place only where it is the text of a JSON value. Where it tells a
--- scenario whose matchers need no regex, it is refused at a place only as full, and a limit stops the play
+-- an input is refused as no JSON only where it is none, and at an index only where it is the text of a JSON value. Where it says a
+-- scenario whose matchers need no regex, it is refused at an index only as full, and a limit stops the play
 abbrev pub Refuses : List ℕ → RunFault → Type 0
 Refuses input run.NotJson = IsNoJson input
-Refuses input (run.Refused place fault_kind) = IsJson input
+Refuses input (run.Refused pointer fault_kind) = IsJson input
     × ((scenario : Scenario) → IsScenarioIn input scenario → IsTrue (scenario_compares_texts scenario)
-    → (fault_kind ≡ Full) × TellsStuck BOARD_ID input)
+    → (fault_kind ≡ Full) × IsStuckInput BOARD_ID input)
 Refuses input run.Unreadable = ⊥
 Refuses input run.NoMemory = Unit {0}
 Refuses input run.Unwritable = ⊥

@@ -52,7 +52,7 @@ config =
 
 abbrev pub notice : NoticeData
 notice =
-    record { desk = 1; ticket = 1; deadline = 330_000; group = group; integration = 0; firing = alert ∷ []; resolved = [] }
+    record { board_id = 1; ticket = 1; deadline = 330_000; group = group; integration = 0; firing = alert ∷ []; resolved = [] }
 
 -- an insert, a begin that opens a flush, one that finds nothing due, the note of the success and the finish
 abbrev pub history : List Record
@@ -66,7 +66,7 @@ history =
 
 -- the notice was delivered by its first attempt
 abbrev pub reports : List Report
-reports = record { desk = 1; ticket = 1; integration = 0; outcome = Delivered; attempts = 1; ended = 30_000 } ∷ []
+reports = record { board_id = 1; ticket = 1; integration = 0; outcome = Delivered; attempts = 1; ended = 30_000 } ∷ []
 
 abbrev pub text : List ℕ
 text =

@@ -9,7 +9,7 @@ use Rattle.am_model.specs.declared.record.Call.{Call}
 use Rattle.am_desk.specs.Known.{Seen}
 use Rattle.am_desk.specs.declared.word.Terms.{Terms}
 use Rattle.am_run.specs.Lanes.{call_at, calls_by, lane_calls}
-use Rattle.am_run.specs.WhyFull.{why_call}
+use Rattle.am_run.specs.IsCauseOfFull.{cause_of_call}
 use Rattle.am_run.specs.declared.lane.LaneState.{LaneState}
 use Rattle.am_scenario.specs.declared.scenario.Lane.{Lane}
 use Rattle.am_scenario.specs.declared.scenario.Phase.{Phase}
@@ -19,7 +19,7 @@ use Rattle.am_scenario.specs.declared.scenario.call.LaneCall.{LaneCall}
 abbrev pub MadeCalls : List Call → Seen → Seen → Type 0
 MadeCalls calls p q = (q.number ≡ p.number) × (calls_by p.number q.log ≡ calls_by p.number p.log ++ calls)
 
--- the first passes have made the calls of these lanes since, at this moment, each those of its lane, and the others none
+-- the first passes have made the calls of these lanes since, at this time, each those of its lane, and the others none
 abbrev pub MadeLanes : ℕ → List Lane → List Seen → List Seen → Type 0
 MadeLanes at [] ps qs = AllZip (MadeCalls []) ps qs
 MadeLanes at (l ∷ ls) [] qs = ⊥
@@ -43,7 +43,7 @@ IsRefusedByLimit s = (k : ℕ) × (fault : Fault) × (s.refused ≡ Some (k, fau
 -- a limit refuses the first of these calls at the legal history that a pass has seen
 abbrev pub RefusesNext : Terms → List LaneCall → Seen → Type 0
 RefusesNext t [] q = ⊥
-RefusesNext t (c ∷ cs) q = IsLegal t.config t.id q.log × (why_call t c q.log ≢ None)
+RefusesNext t (c ∷ cs) q = IsLegal t.config t.id q.log × (cause_of_call t c q.log ≢ None)
 
 -- a state whose calls were run: its pass made the first of them, all if none was refused; if one was by a limit, it is the next
 pub record Ran {N : Type 0} (t : Terms) (at : ℕ) (calls : List LaneCall) (p : Seen) (u : LaneState N) : Type 0 where

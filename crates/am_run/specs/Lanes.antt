@@ -11,18 +11,18 @@ use Rattle.am_scenario.specs.declared.scenario.Phase.{Phase}
 use Rattle.am_scenario.specs.declared.scenario.call.LaneCall.{LaneCall}
 use Rattle.am_scenario.specs.declared.scenario.call.LaneCall.TheVariants as lane
 
--- the board's call that a lane makes at a moment
+-- the board's call that a lane makes at a time
 abbrev pub call_at : ℕ → LaneCall → Call
 call_at at (lane.Insert alert) = call.Insert at alert
 call_at at (lane.Silence silence) = call_of_silence at silence
 call_at at lane.Maintain = call.Maintain at
 
--- the calls of a lane at a moment, in their order; none where there is no such lane
+-- the calls of a lane at a time, in their order; none where there is no such lane
 abbrev pub calls_at : ℕ → Option Lane → List Call
 calls_at at None = []
 calls_at at (Some lane) = map (call_at at) lane.calls.items
 
--- the calls of lane i of a phase, at the phase's moment
+-- the calls of lane i of a phase, at the phase's time
 abbrev pub phase_calls : ℕ → Phase → List Call
 phase_calls i phase = calls_at phase.at (slice_get phase.lanes.items i)
 

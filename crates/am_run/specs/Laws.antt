@@ -7,7 +7,7 @@ use Rattle.am_scenario.specs.Scripts.{IsAsPlanned}
 use Rattle.am_pool.specs.Sendings.{IsSentFrom}
 use Rattle.am_scenario.specs.declared.scenario.script.Script.{Script}
 
--- law: scripts determine the reports on notices that are sent from one moment on
+-- law: scripts determine the reports on notices that are sent from one time on
 abbrev pub ScriptsDetermineReports : Type 0
 ScriptsDetermineReports =
     (scripts : List Script) (start : ℕ) (notices : List NoticeData) (one other : List Report)

@@ -6,10 +6,10 @@ pub mod Lanes
 pub mod Turns
 -- the history of a played scenario, part by part: one for each phase
 pub mod Parts
--- what the report on a scenario that was played tells
+-- what the report on a scenario that was played says
 pub mod Plays
 -- why a scenario isn't played to its end
-pub mod WhyFull
+pub mod IsCauseOfFull
 -- what the passes of the lanes have made, between the phases of a run
 pub mod LaneStates
 -- what the steps of a phase do to the main thread's pass

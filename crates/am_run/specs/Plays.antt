@@ -1,4 +1,4 @@
--- What the report on a scenario that was played tells.
+-- What the report on a scenario that was played says.
 use Rattle.std.specs.Prelude.{◌≡◌, ℕ, ◌+◌, List}
 use Rattle.am_model.specs.declared.record.Record.{Record}
 use Rattle.am_desk.specs.Terms.{terms}
@@ -12,7 +12,7 @@ use Rattle.am_scenario.specs.declared.scenario.Scenario.{Scenario}
 
 -- the text is the report on a legal history of the board of this id, with the scenario's configuration, in which the pass after each
 -- lane's number has made just the calls of that lane, and the pass 0, the main thread's, its turn in each phase, in which each
--- try went as the scripts plan, with the reports that the text tells of; and in which the phases come one after the other, each with
+-- try went as the scripts plan, with the reports that the text says of; and in which the phases come one after the other, each with
 -- the calls of its lanes after the last begin of its turn and before the notes
 pub record IsPlayOf (id : ℕ) (scenario : Scenario) (text : List ℕ) : Type 0 where
   pub history : List Record
@@ -22,8 +22,8 @@ pub record IsPlayOf (id : ℕ) (scenario : Scenario) (text : List ℕ) : Type 0 
       report.reports
   pub parts : SplitsByPhase (terms scenario.config id) scenario.phases.items main.turns history
 
--- the text is the report on the scenario that an input tells, which was played on the board of this id
+-- the text is the report on the scenario that an input says, which was played on the board of this id
 pub record IsPlay (id : ℕ) (input text : List ℕ) : Type 0 where
   pub scenario : Scenario
-  pub told : IsScenarioIn input scenario
+  pub decoded : IsScenarioIn input scenario
   pub played : IsPlayOf id scenario text

@@ -70,7 +70,7 @@ notice_line config n outcome attempts =
 abbrev pub row_line : Config → RowView → List ℕ
 row_line config row =
     codes "row " ++ target_text config row.group row.integration
-    ++ codes " at=" ++ decimal row.moment ++ codes " expiry=" ++ decimal row.expiry
+    ++ codes " at=" ++ decimal row.time ++ codes " expiry=" ++ decimal row.expiry
     ++ lists_text as_it_is row.firing row.resolved ++ codes "\n"
 
 -- whether a group was flushed
@@ -91,7 +91,7 @@ calls_line calls = codes "calls " ++ decimal calls ++ codes "\n"
 abbrev pub outcome_in : NoticeData → List Record → Option Outcome
 outcome_in n later = outcome_of (outcomes_in n.ticket later) n.integration
 
--- how many attempts the first of these reports on a notice tells; none where there is no report
+-- how many attempts the first of these reports on a notice says; none where there is no report
 abbrev pub attempts_on : ℕ → ℕ → List Report → ℕ
 attempts_on ticket integration [] = 0
 attempts_on ticket integration (r ∷ rs) =

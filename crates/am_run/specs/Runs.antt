@@ -23,16 +23,16 @@ abbrev pub lanes_of : {N : Type 0} {names : Ghosts N} → Run N names → List S
 lanes_of run = passes_in run.lane_states.items
 
 -- the lanes and the reports are as they were, and what went wrong stays so
-abbrev pub Keeps : {N : Type 0} {names : Ghosts N} → Run N names → Run N names → Type 0
-Keeps was is = (is.lane_states ≡ was.lane_states) × (is.reports ≡ was.reports) × (HasNoFault is.faults → HasNoFault was.faults)
+abbrev pub Preserves : {N : Type 0} {names : Ghosts N} → Run N names → Run N names → Type 0
+Preserves was is = (is.lane_states ≡ was.lane_states) × (is.reports ≡ was.reports) × (HasNoFault is.faults → HasNoFault was.faults)
 
 -- the main thread's pass and the reports are as they were
 abbrev pub Rests : {N : Type 0} {names : Ghosts N} → Run N names → Run N names → Type 0
 Rests was is = (is.main ≡ was.main) × (is.reports ≡ was.reports)
 
 -- the main thread's pass went on from what it had seen, and no call was refused by a limit
-abbrev pub GoesOn : {N : Type 0} {names : Ghosts N} → Run N names → Run N names → Type 0
-GoesOn was is = IsPrefix was.main.log is.main.log × (EndsAsFull is.faults → EndsAsFull was.faults)
+abbrev pub Continues : {N : Type 0} {names : Ghosts N} → Run N names → Run N names → Type 0
+Continues was is = IsPrefix was.main.log is.main.log × (EndsAsFull is.faults → EndsAsFull was.faults)
 
 -- nothing has gone wrong in it
 abbrev pub IsWell : {N : Type 0} {names : Ghosts N} → Run N names → Type 0
@@ -45,7 +45,7 @@ pub record Gathers {N : Type 0} {names : Ghosts N} (reports : List Report) (was 
   pub more : HasNoFault is.faults → HasNoFault was.faults × (is.reports.items ≡ was.reports.items ++ reports)
   pub full : EndsAsFull is.faults → EndsAsFull was.faults
 
--- the lanes have made their calls at this moment, but where something went wrong
+-- the lanes have made their calls at this time, but where something went wrong
 abbrev pub RunsLanes : {N : Type 0} {names : Ghosts N} → ℕ → List Lane → Run N names → Run N names → Type 0
 RunsLanes at lanes was is = HasNoFault is.faults → HasNoFault was.faults × MadeLanes at lanes (lanes_of was) (lanes_of is)
 

@@ -17,10 +17,10 @@ use Rattle.am_pool.specs.declared.courier.Tried.{Tried}
 use Rattle.am_pool.specs.declared.worker.Job.{Job}
 use Rattle.am_pool.specs.Sendings.{IsSentFrom, end_on, note_at}
 use Rattle.am_run.specs.Turns.{Opened, MainSteps, AreNotesWithRoom, AreAllMainStepsOf, BeginsExhausted, FoundDue, AreMainStepsOf}
-use Rattle.am_run.specs.Turns.{opened_by, outcomes_told, last_end, records_in, report_on, reports_on, to_send}
+use Rattle.am_run.specs.Turns.{opened_by, outcomes_reported, last_end, records_in, report_on, reports_on, to_send}
 use Rattle.am_scenario.specs.declared.scenario.Phase.{Phase}
 
--- a job is to be sent from this moment on
+-- a job is to be sent from this time on
 abbrev pub StartsAt : ℕ → Job → Type 0
 StartsAt at job = job.start ≡ at
 
@@ -46,7 +46,7 @@ opened_of t = record { number = t.number; notices = t.notices }
 abbrev pub IsUnrecorded : TicketData → Type 0
 IsUnrecorded t = t.outcomes ≡ []
 
--- the pass made begins at this moment, none where flushes aren't asked for, and the tickets of their flushes came to the others;
+-- the pass made begins at this time, none where flushes aren't asked for, and the tickets of their flushes came to the others;
 -- if there may be more to begin, all of them found a group due, and else they ended rightly
 pub record Begins (t : Terms) (flush more : Bool) (at : ℕ) (p q : Seen) (ts us : List TicketData) : Type 0 where
   pub begins : List Record
@@ -63,7 +63,7 @@ Grows t p q = (length p.log < length q.log) × (length q.log ≤ t.config.limits
 
 -- a ticket in which the reports on it are recorded
 abbrev pub recorded_all : List Report → TicketData → TicketData
-recorded_all reports t = record t { outcomes = t.outcomes ++ outcomes_told (reports_on t.number reports) }
+recorded_all reports t = record t { outcomes = t.outcomes ++ outcomes_reported (reports_on t.number reports) }
 
 -- whether a notice of a ticket succeeded, as is recorded there
 abbrev pub is_recorded_success : TicketData → NoticeData → Bool
@@ -81,20 +81,20 @@ notes_of at reports t ns = map (note_of at reports t) (filter (is_recorded_succe
 abbrev pub notes_of_all : ℕ → List Report → List TicketData → List Call
 notes_of_all at reports ts = flat_map (λ t. notes_of at reports t t.notices) ts
 
--- the pass noted the notice at this place of a ticket at this moment, but where there was no room
+-- the pass noted the notice at this index of a ticket at this time, but where there was no room
 abbrev pub NotesAt : Terms → ℕ → TicketData → ℕ → Seen → Seen → Type 0
-NotesAt t now ticket place p q =
-    (n : NoticeData) → slice_get ticket.notices place ≡ Some n → Notes t (note_at now ticket n ∷ []) p q
+NotesAt t now ticket index p q =
+    (n : NoticeData) → slice_get ticket.notices index ≡ Some n → Notes t (note_at now ticket n ∷ []) p q
 
 -- the finish of a ticket, when the sending of its notices was over
 abbrev pub finish_with : ℕ → List Report → TicketData → Call
 finish_with at reports t = call.Finish (last_end at (reports_on t.number reports)) t.number t.outcomes
 
--- the pass finished a ticket at this moment
+-- the pass finished a ticket at this time
 abbrev pub FinishesOne : ℕ → TicketData → Seen → Seen → Type 0
 FinishesOne now t p q = (r : Record) × MadeRecords (r ∷ []) p q × (r.call ≡ call.Finish now t.number t.outcomes)
 
--- the notices of these tickets were sent from this moment on, the reports are recorded, and the pass noted the successes
+-- the notices of these tickets were sent from this time on, the reports are recorded, and the pass noted the successes
 pub record Sends (Answers : Tried → Type 0) (t : Terms) (at : ℕ) (reports : List Report) (ts us : List TicketData)
     (p q : Seen) : Type 0 where
   pub sent : AllZip (IsSentFrom Answers at) (to_send (map opened_of ts)) reports

@@ -7,7 +7,7 @@ use Rattle.am_model.specs.declared.notice.Report.{Report}
 use Rattle.am_model.specs.declared.record.Call.{Call}
 use Rattle.am_model.specs.declared.record.Call.TheVariants as call
 use Rattle.am_model.specs.declared.record.Record.{Record}
-use Rattle.am_desk.specs.Calls.{why_begin}
+use Rattle.am_desk.specs.Calls.{cause_of_begin}
 use Rattle.am_desk.specs.Desks.{IsPrefixViewOf}
 use Rattle.am_desk.specs.History.{made}
 use Rattle.am_desk.specs.Known.{Seen}
@@ -18,7 +18,7 @@ use Rattle.am_run.specs.Lanes.{call_at, calls_at}
 use Rattle.am_run.specs.LaneStates.{HaveMade, MadeCalls}
 use Rattle.am_run.specs.Steps.{MadeRecords}
 use Rattle.am_run.specs.Turns.{BeginsExhausted, FoundDue}
-use Rattle.am_run.specs.WhyFull.{why_call}
+use Rattle.am_run.specs.IsCauseOfFull.{cause_of_call}
 use Rattle.am_scenario.specs.declared.scenario.Lane.{Lane}
 use Rattle.am_scenario.specs.declared.scenario.Phase.{Phase}
 use Rattle.am_scenario.specs.declared.scenario.call.LaneCall.{LaneCall}
@@ -29,13 +29,13 @@ pub record BeginsUntilFull (t : Terms) (at : ℕ) (p q : Seen) : Type 0 where
   pub made : MadeRecords begins p q
   pub begun : All (λ r. r.call ≡ call.Begin at) begins
   pub found : All FoundDue begins
-  pub full : why_begin t at q.log ≡ Some HistoryFull
+  pub full : cause_of_begin t at q.log ≡ Some HistoryFull
 
 -- a pass has made the first of these calls since, and no others
 abbrev pub MadeFirstOf : List Call → Seen → Seen → Type 0
 MadeFirstOf calls p q = (done : List Call) × IsPrefix done calls × MadeCalls done p q
 
--- the passes of the lanes from lane i on: each has made the first calls of its lane since, at this moment, and no others
+-- the passes of the lanes from lane i on: each has made the first calls of its lane since, at this time, and no others
 abbrev pub MadeFirst : ℕ → List Lane → ℕ → List Seen → List Seen → Type 0
 MadeFirst at lanes i [] [] = Unit {0}
 MadeFirst at lanes i [] (q ∷ qs) = ⊥
@@ -53,7 +53,7 @@ pub record StopsOf (t : Terms) (at : ℕ) (calls : List Call) (before since : Li
   pub begins : IsPrefix before then.log
   pub ends : IsPrefix then.log since
   pub legal : IsLegal t.config t.id then.log
-  pub refused : why_call t call then.log ≢ None
+  pub refused : cause_of_call t call then.log ≢ None
 
 -- so did one of the passes of the lanes from lane i on
 abbrev pub AnyStops : Terms → ℕ → List Lane → List Record → List Record → ℕ → List Seen → Type 0
@@ -75,7 +75,7 @@ pub record LanesStopBefore (t : Terms) (at : ℕ) (lanes : List Lane) (p q : See
 
 -- a phase stopped at its begins, before its lanes were run
 pub record StopsAtBegin (t : Terms) (phase : Phase) (p q : Seen) (ls ms : List Seen) : Type 0 where
-  pub asked : phase.flush ≡ true
+  pub requested : phase.flush ≡ true
   pub begun : Seen
   pub until : BeginsUntilFull t phase.at p begun
   pub since : IsPrefix begun.log q.log
@@ -86,7 +86,7 @@ pub record StopsAtCall (t : Terms) (phase : Phase) (p q : Seen) (ls ms : List Se
   pub begun : Seen
   pub begins : List Record
   pub made : MadeRecords begins p begun
-  pub asked : All (λ r. (phase.flush ≡ true) × (r.call ≡ call.Begin phase.at)) begins
+  pub requested : All (λ r. (phase.flush ≡ true) × (r.call ≡ call.Begin phase.at)) begins
   pub ended : phase.flush ≡ true → BeginsExhausted t phase.at begun.log begins
   pub stop : LanesStopBefore t phase.at phase.lanes.items begun q ls ms
 

@@ -15,7 +15,7 @@ use Rattle.am_model.specs.declared.record.Record.{Record}
 use Rattle.am_model.specs.declared.record.Reply.{Reply}
 use Rattle.am_model.specs.declared.record.Reply.TheVariants as reply
 use Rattle.am_retry.specs.declared.outcome.Outcome.{Outcome}
-use Rattle.am_desk.specs.Calls.{why_begin}
+use Rattle.am_desk.specs.Calls.{cause_of_begin}
 use Rattle.am_desk.specs.History.{own}
 use Rattle.am_desk.specs.declared.word.Terms.{Terms}
 use Rattle.am_pool.specs.declared.courier.Tried.{Tried}
@@ -27,7 +27,7 @@ pub record Opened : Type 0 where
   pub number : ℕ
   pub notices : List NoticeData
 
--- the flush that a reply tells of, if it tells of one
+-- the flush that a reply says of, if it says of one
 abbrev pub opened_in : Reply → List Opened
 opened_in (reply.Inserted inserted) = []
 opened_in (reply.Silenced silenced) = []
@@ -62,35 +62,35 @@ report_on number integration [] = None
 report_on number integration (r ∷ rs) =
     if (r.ticket == number) && (r.integration == integration) then Some r else report_on number integration rs
 
--- the outcome that a report tells
+-- the outcome that a report says
 abbrev pub outcome_in : Option Report → Option Outcome
 outcome_in None = None
 outcome_in (Some r) = Some r.outcome
 
--- the note of an integration: at the end that its report tells and with the outcome; at this moment where there is none
+-- the note of an integration: at the end that its report says and with the outcome; at this time where there is none
 abbrev pub note_on : ℕ → ℕ → ℕ → Option Report → Call
 note_on at number integration None = call.Note at number integration None
 note_on at number integration (Some r) = call.Note r.ended number integration (Some r.outcome)
 
--- the greatest of this moment and the ends that these reports tell
+-- the greatest of this time and the ends that these reports say
 abbrev pub last_end : ℕ → List Report → ℕ
 last_end at reports = fold max at (map (λ r. r.ended) reports)
 
--- the outcomes that these reports tell, each with its integration
-abbrev pub outcomes_told : List Report → List (ℕ × Outcome)
-outcomes_told reports = map (λ r. (r.integration, r.outcome)) reports
+-- the outcomes that these reports say, each with its integration
+abbrev pub outcomes_reported : List Report → List (ℕ × Outcome)
+outcomes_reported reports = map (λ r. (r.integration, r.outcome)) reports
 
--- the finish of a flush: when all its reports had come and with their outcomes; at this moment where there is none
+-- the finish of a flush: when all its reports had come and with their outcomes; at this time where there is none
 abbrev pub finish_of : ℕ → List Report → Opened → Call
 finish_of at reports o =
-    let told = reports_on o.number reports in
-    call.Finish (last_end at told) o.number (outcomes_told told)
+    let reported = reports_on o.number reports in
+    call.Finish (last_end at reported) o.number (outcomes_reported reported)
 
--- a begin at the moment of a phase, which asks for flushes
+-- a begin at the time of a phase, which asks for flushes
 abbrev pub IsBeginOf : Phase → Record → Type 0
 IsBeginOf phase r = (phase.flush ≡ true) × (r.call ≡ call.Begin phase.at)
 
--- whether a notice of a flush succeeded: it has nothing to send, or its report tells that it was delivered
+-- whether a notice of a flush succeeded: it has nothing to send, or its report says that it was delivered
 abbrev pub is_success : List Report → ℕ → NoticeData → Bool
 is_success reports number n = is_nothing n || is_delivered (outcome_in (report_on number n.integration reports))
 
@@ -107,9 +107,9 @@ all_notes_due at reports opened = flat_map (notes_due at reports) opened
 abbrev pub AtSomePrefix : ℕ → List Record → List Record → (List Record → Type 0) → Type 0
 AtSomePrefix pass history records Holds = (front : List Record) × IsPrefix front history × (own pass front ≡ records) × Holds front
 
--- as many flushes were open as may be: a begin at this moment is refused for it
+-- as many flushes were open as may be: a begin at this time is refused for it
 abbrev pub FailsTooManyOpen : Terms → ℕ → List Record → Type 0
-FailsTooManyOpen t at front = why_begin t at front ≡ Some TooManyOpen
+FailsTooManyOpen t at front = cause_of_begin t at front ≡ Some TooManyOpen
 
 -- a history had no room for one record more, beside those that finish the open flushes
 abbrev pub FailsHistoryFull : Terms → List Record → Type 0
@@ -147,8 +147,8 @@ pub record MainSteps : Type 0 where
 abbrev pub records_in : MainSteps → List Record
 records_in turn = turn.begins ++ turn.notes ++ turn.finishes
 
--- the turn of a phase, of a pass that had made the records before: the begins are at the phase's moment; each notice that has
--- something to send has one report, of a sending from that moment on whose tries are answered so; each success is noted, at the end of
+-- the turn of a phase, of a pass that had made the records before: the begins are at the phase's time; each notice that has
+-- something to send has one report, of a sending from that time on whose tries are answered so; each success is noted, at the end of
 -- its sending, but where there was no room; and each flush is finished once, in their order, at the end of the last. When the begins
 -- end is said of the part of the phase
 pub record AreMainStepsOf (Answers : Tried → Type 0) (t : Terms) (pass : ℕ) (history before : List Record) (phase : Phase)
@@ -173,4 +173,4 @@ pub record AreAllMainStepsOf (Answers : Tried → Type 0) (t : Terms) (pass : �
   pub turns : List MainSteps
   pub each : AreTurnsFrom Answers t pass history [] phases turns
   pub made : own pass history ≡ flat_map records_in turns
-  pub told : reports ≡ flat_map (λ u. u.reports) turns
+  pub reported : reports ≡ flat_map (λ u. u.reports) turns

@@ -12,10 +12,10 @@ pub enum RunFault {
     /// The input is no JSON text in UTF-8.
     #[error("am-run: scenario refused: not JSON")]
     NotJson,
-    /// The scenario is refused; the place is a JSON pointer.
-    #[error("am-run: scenario refused at {place}: {fault_kind}")]
+    /// The scenario is refused; the index is a JSON pointer.
+    #[error("am-run: scenario refused at {pointer}: {fault_kind}")]
     Refused {
-        place: String,
+        pointer: String,
         fault_kind: FaultKind,
     },
     /// Memory was refused.
@@ -65,7 +65,13 @@ impl From<InputFault> for RunFault {
 
     fn from(fault: InputFault) -> RunFault {
         match fault {
-            InputFault::Refused { place, fault_kind } => RunFault::Refused { place, fault_kind },
+            InputFault::Refused {
+                pointer,
+                fault_kind,
+            } => RunFault::Refused {
+                pointer,
+                fault_kind,
+            },
             InputFault::NoMemory => RunFault::NoMemory,
         }
     }

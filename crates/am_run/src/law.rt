@@ -6,7 +6,7 @@ ghost use Rattle.am_run.specs.Laws.{ScriptsDetermineReports};
 ghost use Rattle.am_run.specs.declared.run.TheConstants.{BOARD_ID};
 ghost use Rattle.am_scenario.specs.declared.scenario.TheConstants.{MAX_LANES};
 
-/// The scripts of a scenario determine the reports on notices that are sent from one moment on: two
+/// The scripts of a scenario determine the reports on notices that are sent from one time on: two
 /// lists of such reports are one. It does nothing: what it says is its contract.
 pub fn scripts_determine_reports()
     ensures { ScriptsDetermineReports }
@@ -22,5 +22,5 @@ pub fn limits_are()
 /// out by hand. It does nothing: what it says is its contract.
 pub fn first_run_report_is()
     ensures legal { FirstIsLegal }
-    ensures told { FirstRunReportIs }
+    ensures report { FirstRunReportIs }
 {}

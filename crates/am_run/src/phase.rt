@@ -12,7 +12,7 @@
 ghost use Rattle.std.specs.Prelude.{◌≡◌, ◌<◌, ◌≤◌, ◌+◌, ◌++◌, ◌∷◌, [], ℕ, false};
 ghost use Rattle.std.specs.Prelude.{true, All, IfErr, IfOk, IsTrue, OnOk, Ok, length, map, vec_len};
 ghost use Rattle.std.specs.List.{AllZip, range_with_len};
-ghost use Rattle.am_alerts.specs.declared.limits.TheConstants.{MAX_MOMENT};
+ghost use Rattle.am_alerts.specs.declared.limits.TheConstants.{MAX_TIME};
 ghost use Rattle.am_cli.specs.Read.{IsRefusedBy, is_refusal};
 ghost use Rattle.am_desk.specs.Desks.{AreFresh, IsPrefixViewOf};
 ghost use Rattle.am_desk.specs.History.{made};
@@ -60,7 +60,7 @@ pub struct Run<N: Name> {
 }
 
 impl<N: Name + Send + Sync> Run<N> {
-    ghost use Rattle.am_run.specs.Runs.{Gathers, GoesOn, IsWell, Keeps, Rests, RunsLanes, StopsLanes, lanes_of};
+    ghost use Rattle.am_run.specs.Runs.{Gathers, Continues, IsWell, Preserves, Rests, RunsLanes, StopsLanes, lanes_of};
 
     /// A run on a desk with all its passes. Refused for want of memory.
     pub fn new(alloc: Global, desk: Desk<N>, passes: Vec<Pass<N>>) -> Result<Run<N>, InputFault>
@@ -152,7 +152,7 @@ impl<N: Name + Send + Sync> Run<N> {
 
     /// Begins flushes until no group is due, or as many are open as may be.
     fn begin_all<R: Wait>(&mut self, rt: &R, at: u64, tickets: &mut Vec<OwnTicket<N>>)
-        ensures keeps { Keeps self.old self.new }
+        ensures preserves { Preserves self.old self.new }
         ensures begins { HasNoFault self.new.faults
             → Begins N.terms true false at self.old.main self.new.main tickets.old.items tickets.new.items }
         ensures full { HasNoFault self.old.faults → EndsAsFull self.new.faults
@@ -164,7 +164,7 @@ impl<N: Name + Send + Sync> Run<N> {
 
     /// Begins a flush. Answers whether there may be more to begin.
     fn begin<R: Wait>(&mut self, rt: &R, at: u64, tickets: &mut Vec<OwnTicket<N>>) -> bool
-        ensures keeps { Keeps self.old self.new }
+        ensures preserves { Preserves self.old self.new }
         ensures begins { HasNoFault self.new.faults
             → Begins N.terms true result at self.old.main self.new.main tickets.old.items tickets.new.items }
         ensures grows { IsTrue result → Grows N.terms self.old.main self.new.main }
@@ -207,7 +207,7 @@ impl<N: Name + Send + Sync> Run<N> {
         tickets: &mut Vec<OwnTicket<N>>,
         lanes: Vec<Lane>,
     ) -> Vec<Report>
-        requires start { at ≤ MAX_MOMENT }
+        requires start { at ≤ MAX_TIME }
         requires lanes { vec_len lanes < N.plan.passes }
         ensures lanes { RunsLanes at lanes.items self.old self.new }
         ensures reports { self.new.reports ≡ self.old.reports }
@@ -240,7 +240,7 @@ impl<N: Name + Send + Sync> Run<N> {
         tickets: &[OwnTicket<N>],
         lanes: Vec<Lane>,
     ) -> Vec<Report>
-        requires start { at ≤ MAX_MOMENT }
+        requires start { at ≤ MAX_TIME }
         requires lanes { vec_len lanes < N.plan.passes }
         ensures lanes { RunsLanes at lanes.items self.old self.new }
         ensures reports { self.new.reports ≡ self.old.reports }
@@ -273,7 +273,7 @@ impl<N: Name + Send + Sync> Run<N> {
 
     /// The reports of the couriers.
     fn hear_couriers(&mut self, sent: Result<Vec<Report>, PoolFault>) -> Vec<Report>
-        ensures keeps { Keeps self.old self.new }
+        ensures preserves { Preserves self.old self.new }
         ensures rests { Rests self.old self.new }
         ensures heard { HasNoFault self.new.faults → sent ≡ Ok result }
         ensures fed { HasNoFault self.new.faults → All IsNotStarved result.items }
@@ -312,12 +312,12 @@ impl<N: Name + Send + Sync> Run<N> {
         tickets: &mut Vec<OwnTicket<N>>,
         reports: &[Report],
     )
-        ensures keeps { Keeps self.old self.new }
+        ensures preserves { Preserves self.old self.new }
         ensures recorded { HasNoFault self.new.faults
             → tickets.new.items ≡ map (recorded_all reports.now) tickets.old.items }
         ensures noted { HasNoFault self.new.faults
             → Notes N.terms (notes_of_all at reports.now tickets.new.items) self.old.main self.new.main }
-        ensures goes_on { GoesOn self.old self.new }
+        ensures continues { Continues self.old self.new }
     {
         if !record_all(tickets, reports) {
             self.faults.add_no_memory();
@@ -328,10 +328,10 @@ impl<N: Name + Send + Sync> Run<N> {
 
     /// Notes each success of these flushes.
     fn note_all<R: Wait>(&mut self, rt: &R, at: u64, tickets: &[OwnTicket<N>], reports: &[Report])
-        ensures keeps { Keeps self.old self.new }
+        ensures preserves { Preserves self.old self.new }
         ensures noted { HasNoFault self.new.faults
             → Notes N.terms (notes_of_all at reports.now tickets.now) self.old.main self.new.main }
-        ensures goes_on { GoesOn self.old self.new }
+        ensures continues { Continues self.old self.new }
     {
         for own in tickets {
             self.settle(rt, at, own, reports);
@@ -340,30 +340,30 @@ impl<N: Name + Send + Sync> Run<N> {
 
     /// Notes each success of a flush, when the sending of its notice was over.
     fn settle<R: Wait>(&mut self, rt: &R, at: u64, own: &OwnTicket<N>, reports: &[Report])
-        ensures keeps { Keeps self.old self.new }
+        ensures preserves { Preserves self.old self.new }
         ensures noted { HasNoFault self.new.faults
             → Notes N.terms (notes_of at reports.now own.now own.now.notices) self.old.main self.new.main }
-        ensures goes_on { GoesOn self.old self.new }
+        ensures continues { Continues self.old self.new }
     {
         let ticket = own.ticket();
-        for (place, notice) in ticket.notices().iter().enumerate() {
-            let succeeded = has_succeeded(notice, ticket.outcome(place));
+        for (index, notice) in ticket.notices().iter().enumerate() {
+            let succeeded = has_succeeded(notice, ticket.outcome(index));
             if succeeded {
                 let end = end_on(reports, ticket.number(), notice.integration, at);
-                self.note(rt, end, own, place);
+                self.note(rt, end, own, index);
             }
         }
     }
 
     /// Logs the success of a notice. Where the history has no room the finish logs it.
-    fn note<R: Wait>(&mut self, rt: &R, now: u64, own: &OwnTicket<N>, place: usize)
-        ensures keeps { Keeps self.old self.new }
-        ensures noted { HasNoFault self.new.faults → NotesAt N.terms now own.now place self.old.main self.new.main }
-        ensures goes_on { GoesOn self.old self.new }
+    fn note<R: Wait>(&mut self, rt: &R, now: u64, own: &OwnTicket<N>, index: usize)
+        ensures preserves { Preserves self.old self.new }
+        ensures noted { HasNoFault self.new.faults → NotesAt N.terms now own.now index self.old.main self.new.main }
+        ensures continues { Continues self.old self.new }
     {
         match self
             .desk
-            .note(rt, self.alloc, &mut self.main, own.ticket(), place, now)
+            .note(rt, self.alloc, &mut self.main, own.ticket(), index, now)
         {
             Ok(_) => {}
             Err(NoteFault::HistoryFull) => {}
@@ -379,10 +379,10 @@ impl<N: Name + Send + Sync> Run<N> {
         tickets: Vec<OwnTicket<N>>,
         reports: &[Report],
     )
-        ensures keeps { Keeps self.old self.new }
+        ensures preserves { Preserves self.old self.new }
         ensures finished { HasNoFault self.new.faults
             → Finishes at reports.now tickets.items self.old.main self.new.main }
-        ensures goes_on { GoesOn self.old self.new }
+        ensures continues { Continues self.old self.new }
     {
         let mut left = tickets;
         while !left.is_empty() {
@@ -394,9 +394,9 @@ impl<N: Name + Send + Sync> Run<N> {
     }
 
     fn finish<R: Wait>(&mut self, rt: &R, own: OwnTicket<N>, now: u64)
-        ensures keeps { Keeps self.old self.new }
+        ensures preserves { Preserves self.old self.new }
         ensures finished { HasNoFault self.new.faults → FinishesOne now own self.old.main self.new.main }
-        ensures goes_on { GoesOn self.old self.new }
+        ensures continues { Continues self.old self.new }
     {
         match self.desk.finish_own(rt, &mut self.main, own, now) {
             Ok(_) => {}
@@ -478,7 +478,7 @@ fn put_back<N: Name>(
 /// A close that fails counts as out of memory.
 fn close<N: Name>(desk: Desk<N>, passes: Vec<Pass<N>>) -> Result<Closed, InputFault>
     ensures terms { IfOk result (λ closed. terms_of closed ≡ N.terms) }
-    ensures stand { IfOk result (λ closed. All (λ p. IsPrefixViewOf p closed.history) passes.items) }
+    ensures prefixed { IfOk result (λ closed. All (λ p. IsPrefixViewOf p closed.history) passes.items) }
     ensures others { IfOk result (λ closed. (k : ℕ) → N.plan.passes ≤ k → made k closed.history ≡ 0) }
     ensures legal { IfOk result (λ closed. IsLegal N.terms.config N.terms.id closed.history) }
     ensures refused { IfErr result (λ fault. fault ≡ InputFault.NoMemory) }

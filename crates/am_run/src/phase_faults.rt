@@ -9,7 +9,7 @@ ghost use Rattle.am_run.specs.PhaseFaults.{EndsAsFull, HasNoFault};
 
 use am_board::fault::Fault;
 use am_cli::fault::{FaultKind, InputFault};
-use am_cli::place::JsonPointer;
+use am_cli::pointer::JsonPointer;
 use std::alloc::Global;
 
 /// Which call of a phase was refused.

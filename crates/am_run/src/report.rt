@@ -54,7 +54,7 @@ impl Labelled for Labels {
     }
 }
 
-/// The report on a history, with the rows of the log and the groups that it leaves. The reports tell how
+/// The report on a history, with the rows of the log and the groups that it leaves. The reports say how
 /// many attempts each notice took.
 pub fn report_text(
     alloc: Global,
@@ -144,7 +144,7 @@ struct Sending<'r> {
 }
 
 impl<'r> Sending<'r> {
-    /// What came of this flush, as these reports tell and its finish in these records.
+    /// What came of this flush, as these reports say and its finish in these records.
     fn of(ticket: u64, reports: &'r [Report], later: &'r [Record]) -> Sending<'r>
         ensures ticket { result.ticket ≡ ticket }
         ensures outcomes { result.outcomes.now ≡ outcomes_in ticket later.now }
@@ -203,7 +203,7 @@ fn up_to_last_on(number: u64, reports: &[Report]) -> &[Report]
     }
 }
 
-/// How many attempts the first of these reports on a notice tells.
+/// How many attempts the first of these reports on a notice says.
 fn attempts_on(ticket: u64, integration: u32, reports: &[Report]) -> u64
     ensures { result ≡ attempts_on ticket integration reports.now }
 {
@@ -253,7 +253,7 @@ fn push_row(config: &Config, row: &RowView, out: &mut String) -> Result<(), Allo
     out.push_str("row ")?;
     push_target(config, &row.group, row.integration, out)?;
     out.push_str(" at=")?;
-    push_number(row.moment, out)?;
+    push_number(row.time, out)?;
     out.push_str(" expiry=")?;
     push_number(row.expiry, out)?;
     push_lists(row.firing.as_slice(), row.resolved.as_slice(), out)?;

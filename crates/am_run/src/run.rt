@@ -19,7 +19,7 @@
 //!   lanes were joined, and when a phase ended.
 //! - Where a limit refuses a call, the pass that made it has seen the history at which it does
 //!   (`Stops`). The play ends there, but its desk is closed too: the close shows that nobody made
-//!   other calls (`WhyFull`).
+//!   other calls (`IsCauseOfFull`).
 //! - The list that the pass had seen by then shows where the begins stop for the open flushes, and
 //!   where a note finds no capacity. The closed history begins with each such list. The first has
 //!   just what came before the phase, and its begins.
@@ -35,7 +35,7 @@ ghost use Rattle.am_run.specs.Faults.{Refuses, status_of};
 ghost use Rattle.am_run.specs.Plays.{IsPlay, IsPlayOf};
 ghost use Rattle.am_run.specs.Runs.{HasRun, IsFresh, IsReportOnRun, lanes_of};
 ghost use Rattle.am_run.specs.Stops.{EndsWith, PassesStop};
-ghost use Rattle.am_run.specs.WhyFull.{IsStuck};
+ghost use Rattle.am_run.specs.IsCauseOfFull.{IsStuck};
 ghost use Rattle.am_run.specs.Report.{report_text};
 ghost use Rattle.am_scenario.specs.Decoding.{IsScenarioIn};
 ghost use Rattle.am_run.specs.declared.run.TheConstants.{BOARD_ID};
@@ -49,7 +49,7 @@ use am_board::config::Config;
 use am_board::notice::Report;
 use am_cli::device::{Sink, Source};
 use am_cli::fault::{FaultKind, InputFault};
-use am_cli::place::JsonPointer;
+use am_cli::pointer::JsonPointer;
 use am_cli::reader::parse;
 use am_cli::transfer::{MAX_INPUT, read_all, write_all};
 use am_desk::{Blank, BlankFault, Brand, Closed, Desk, Name, OpenFault, Pass};
@@ -64,11 +64,11 @@ pub const BOARD_ID: u64 = 1;
 
 /// Reads a scenario from the source, runs it and writes its report to the sink.
 ///
-/// The report is that of the scenario which the whole input tells, member by member, played as
+/// The report is that of the scenario which the whole input says, member by member, played as
 /// `play_scenario` says it. It is made whole before its first byte is written: on every fault but
 /// `Unwritable` the sink wasn't asked. An input is refused as `NotJson` only where it is none, and as
-/// `Refused` only where it is the text of a JSON value; it was read whole before. Where that tells a
-/// scenario, and no matcher needs a regex, it is refused at a place only as `Full`, and a limit stops
+/// `Refused` only where it is the text of a JSON value; it was read whole before. Where that says a
+/// scenario, and no matcher needs a regex, it is refused at an index only as `Full`, and a limit stops
 /// the play. Hashes start from `seed`, on which nothing depends.
 pub fn run_scenario<R: AllocGlobal + Threads + Wait + Sync, S: Source, K: Sink>(
     rt: &R,
@@ -76,7 +76,7 @@ pub fn run_scenario<R: AllocGlobal + Threads + Wait + Sync, S: Source, K: Sink>(
     source: &mut S,
     sink: &mut K,
 ) -> Result<(), RunFault>
-    ensures asked { S.asked source.new ≤ S.asked source.old + (MAX_INPUT + 1) }
+    ensures reads { S.reads source.new ≤ S.reads source.old + (MAX_INPUT + 1) }
     ensures unreadable { (result ≡ Err RunFault.Unreadable)
         ↔ ((S.failed source.old < S.failed source.new)
         ⊎ (length (S.given source.old) + MAX_INPUT < length (S.given source.new))) }
@@ -125,14 +125,14 @@ fn read(alloc: Global, input: &[u8]) -> Result<Scenario, RunFault>
 ///
 /// The report is the text of a legal history of the scenario's own configuration. The calls of the
 /// pass i + 1 in the history are just those of lane i, phase after phase, in their order, each at
-/// the moment of its phase. The pass 0 is the main thread's. In each phase that asks for it it begins
-/// flushes at the phase's moment, until no group is due or as many are open as may be. It notes each
+/// the time of its phase. The pass 0 is the main thread's. In each phase that asks for it it begins
+/// flushes at the phase's time, until no group is due or as many are open as may be. It notes each
 /// success at the end of its sending, but where the history has no room when the note's turn comes,
 /// and finishes each flush when the sending of all its notices was over; it makes no other calls.
 /// Attempt k of a notice is answered by the k-th item of the first script for it, or by the last; so
 /// the scripts determine the reports. The history is made of a part for each phase, one after the
 /// other: its begins, then the calls of its lanes, then its notes and finishes. How the calls of two
-/// lanes of a phase stand to each other isn't said.
+/// lanes of a phase are to each other isn't said.
 ///
 /// # Errors
 ///
@@ -140,7 +140,7 @@ fn read(alloc: Global, input: &[u8]) -> Result<Scenario, RunFault>
 /// - `Refused` as `Full`: a limit stopped the play. Clause `full`: the phases before one were played
 ///   to their end. Then the history has no capacity for the next begin of that phase. Or all its
 ///   begins were made, and then the first calls of its lanes, and a limit refuses the next call of a
-///   lane. No clause says that the place is that of the refused call.
+///   lane. No clause says that the index is that of the refused call.
 /// - `NoMemory`. It comes before `Full`. No clause says that a report, a note, a finish or the close
 ///   of the desk never fails: one that did would give `NoMemory`.
 pub fn play_scenario<R: Threads + Wait + Sync>(

@@ -9,7 +9,7 @@
 //! clock, and the attempts start at the phase's own time. There is at most one for each half second
 //! between the two, and they take no memory.
 ghost use Rattle.std.specs.Prelude.{◌≡◌, ◌≤◌, ◌++◌, ◌||◌, All, IfOk, IsTrue, OnOk, map};
-ghost use Rattle.am_alerts.specs.declared.limits.TheConstants.{MAX_MOMENT};
+ghost use Rattle.am_alerts.specs.declared.limits.TheConstants.{MAX_TIME};
 ghost use Rattle.std.specs.List.{AllZip};
 ghost use Rattle.am_model.specs.Finish.{is_delivered};
 ghost use Rattle.am_model.specs.Notice.{is_nothing};
@@ -29,13 +29,13 @@ use std::sync::Wait;
 use std::thread::Threads;
 
 /// The notices of these tickets that have something to send, by ticket and integration, each to be
-/// sent from the moment `at` on.
+/// sent from the time `at` on.
 pub fn jobs_of<'t, N: Name>(
     alloc: Global,
     tickets: &'t [OwnTicket<N>],
     at: u64,
 ) -> Result<Vec<Job<'t>>, AllocError>
-    requires { at ≤ MAX_MOMENT }
+    requires { at ≤ MAX_TIME }
     ensures ready { IfOk result (λ jobs. All IsReady jobs.items) }
     ensures starts { IfOk result (λ jobs. All (StartsAt at) jobs.items) }
     ensures notices { IfOk result (λ jobs. notices_of jobs.items ≡ to_send (map opened_of tickets.now)) }
@@ -49,7 +49,7 @@ pub fn jobs_of<'t, N: Name>(
 
 /// Adds those of the notices that have something to send.
 fn add_jobs<'t>(notices: &'t [Notice], at: u64, jobs: &mut Vec<Job<'t>>) -> Result<(), AllocError>
-    requires start { at ≤ MAX_MOMENT }
+    requires start { at ≤ MAX_TIME }
     requires ready { All IsReady jobs.old.items }
     requires starts { All (StartsAt at) jobs.old.items }
     ensures ready { OnOk result (All IsReady jobs.new.items) }

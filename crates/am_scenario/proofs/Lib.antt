@@ -1,4 +1,4 @@
--- the alert and the silence of a call, of which a JSON value tells one at most
+-- the alert and the silence of a call, of which a JSON value says one at most
 pub mod Calls
 -- bytes that are the text of a scenario
 pub mod Texts

@@ -7,28 +7,28 @@ use Rattle.serde_json.specs.Read.{read}
 use Rattle.am_cli.specs.Configured.{DecodesToConfig}
 use Rattle.am_cli.specs.Read.{Excludes, is_refusal}
 use Rattle.am_cli.specs.declared.fault.InputFault.{InputFault}
-use Rattle.am_cli.specs.declared.reader.Dialect.TheVariants.{Lenient}
+use Rattle.am_cli.specs.declared.reader.Mode.TheVariants.{Lenient}
 use Rattle.am_model.specs.Config.{config_fault}
 use Rattle.am_model.specs.declared.config.Config.{Config}
 use Rattle.am_scenario.specs.Decoding.{DecodesToScenario, HasScenario, IsScenarioIn, scenario_compares_texts}
 use Rattle.am_scenario.specs.declared.scenario.Scenario.{Scenario}
 
 config_there : (found : Option Data) (config : Config) → MatchOption found ⊥ (λ v. DecodesToConfig Lenient v config) → config_fault config ≡ None
-config_there None config told = absurd told
-config_there (Some v) config told = told.sound
+config_there None config decoded = absurd decoded
+config_there (Some v) config decoded = decoded.sound
 
 config_in : (found : Option Members) (scenario : Scenario) → MatchOption found ⊥ (λ ms. HasScenario ms scenario) → config_fault scenario.config ≡ None
-config_in None scenario told = absurd told
-config_in (Some ms) scenario told = config_there (get_member (codes "config") ms) scenario.config told.config
+config_in None scenario decoded = absurd decoded
+config_in (Some ms) scenario decoded = config_there (get_member (codes "config") ms) scenario.config decoded.config
 
 -- its configuration has no fault
 pub sound_config : (input : List ℕ) (scenario : Scenario) → IsScenarioIn input scenario → config_fault scenario.config ≡ None
-sound_config input scenario told = config_in (as_object told.value) scenario told.told
+sound_config input scenario decoded = config_in (as_object decoded.value) scenario decoded.decoded
 
 -- bytes whose value is refused are the text of none
 pub no_text : (input : List ℕ) (value : Data) (fault : InputFault) → read input ≡ Some value
     → Excludes (λ scenario. DecodesToScenario value scenario × IsTrue (scenario_compares_texts scenario)) fault
     → IsTrue (is_refusal fault) → (scenario : Scenario) → IsScenarioIn input scenario → IsTrue (scenario_compares_texts scenario) → ⊥
-no_text input value fault text excluded refusal scenario told without =
-    let same : told.value ≡ value = cc (told.text) in
-    excluded refusal scenario (subst (λ (v : Data). DecodesToScenario v scenario) same told.told, without)
+no_text input value fault text excluded refusal scenario decoded without =
+    let same : decoded.value ≡ value = cc (decoded.text) in
+    excluded refusal scenario (subst (λ (v : Data). DecodesToScenario v scenario) same decoded.decoded, without)

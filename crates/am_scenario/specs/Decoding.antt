@@ -1,4 +1,4 @@
--- What the JSON value of a scenario tells, a line for each member.
+-- What the JSON value of a scenario says, a line for each member.
 use Rattle.std.specs.Prelude.{◌≡◌, ◌≤◌, ◌&&◌, ℕ, Bool, true, false, List, [], Option, Some, None, codes}
 use Rattle.std.specs.List.{list_all}
 use Rattle.serde_json.specs.Data.{Data, no_items, item, string, Members}
@@ -9,8 +9,8 @@ use Rattle.am_alerts.specs.Matcher.{compare_texts}
 use Rattle.am_alerts.specs.declared.limits.TheConstants.{MAX_DURATION}
 use Rattle.am_cli.specs.Configured.{DecodesToConfig, DecodesToLabels, DecodesToMatcher, config_compares_texts}
 use Rattle.am_cli.specs.Decoding.{IsFlag, IsList, IsNumber, IsObject, Has, HasNone, HasOr, answer_text}
-use Rattle.am_cli.specs.declared.reader.Dialect.{Dialect}
-use Rattle.am_cli.specs.declared.reader.Dialect.TheVariants.{Lenient}
+use Rattle.am_cli.specs.declared.reader.Mode.{Mode}
+use Rattle.am_cli.specs.declared.reader.Mode.TheVariants.{Lenient}
 use Rattle.am_mute.specs.Silence.{SilenceData, silence_fault}
 use Rattle.am_scenario.specs.declared.scenario.Lane.{Lane}
 use Rattle.am_scenario.specs.declared.scenario.Phase.{Phase}
@@ -27,7 +27,7 @@ pub record DecodesToPlanned (value : Data) (planned : ScriptedAnswer) : Type 0 w
   pub is_lasting : IsNumber takes planned.takes
   pub within : planned.takes ≤ MAX_DURATION
 
--- what the members of a script tell
+-- what the members of a script say
 pub record HasScript (members : Members) (script : Script) : Type 0 where
   pub ticket : Has IsNumber (codes "ticket") members script.ticket
   pub integration : Has IsNumber (codes "integration") members script.integration
@@ -36,57 +36,57 @@ pub record HasScript (members : Members) (script : Script) : Type 0 where
 abbrev pub DecodesToScript : Data → Script → Type 0
 DecodesToScript value script = IsObject HasScript value script
 
--- a moment, or `null` for none
+-- a time, or `null` for none
 abbrev pub IsEnd : Data → Option ℕ → Type 0
 IsEnd value None = as_null value ≡ Some tt
 IsEnd value (Some end) = IsNumber value end
 
--- what the members of an alert tell
-pub record HasAlert (dialect : Dialect) (members : Members) (alert : AlertData) : Type 0 where
-  pub labels : Has (DecodesToLabels dialect) (codes "labels") members alert.labels
+-- what the members of an alert say
+pub record HasAlert (mode : Mode) (members : Members) (alert : AlertData) : Type 0 where
+  pub labels : Has (DecodesToLabels mode) (codes "labels") members alert.labels
   pub starts : Has IsNumber (codes "starts") members alert.starts
   pub ends : HasOr IsEnd None (codes "ends") members alert.ends
   pub sound : alert_fault alert ≡ None
 
-abbrev pub DecodesToAlert : Dialect → Data → AlertData → Type 0
-DecodesToAlert dialect value alert = IsObject (HasAlert dialect) value alert
+abbrev pub DecodesToAlert : Mode → Data → AlertData → Type 0
+DecodesToAlert mode value alert = IsObject (HasAlert mode) value alert
 
--- what the members of a silence tell
-pub record HasSilence (dialect : Dialect) (members : Members) (silence : SilenceData) : Type 0 where
+-- what the members of a silence say
+pub record HasSilence (mode : Mode) (members : Members) (silence : SilenceData) : Type 0 where
   pub id : Has IsNumber (codes "id") members silence.id
-  pub matchers : Has (IsList (DecodesToMatcher dialect)) (codes "matchers") members silence.matchers
+  pub matchers : Has (IsList (DecodesToMatcher mode)) (codes "matchers") members silence.matchers
   pub start : Has IsNumber (codes "start") members silence.start
   pub end : Has IsNumber (codes "end") members silence.end
   pub sound : silence_fault silence ≡ None
 
-abbrev pub DecodesToSilence : Dialect → Data → SilenceData → Type 0
-DecodesToSilence dialect value silence = IsObject (HasSilence dialect) value silence
+abbrev pub DecodesToSilence : Mode → Data → SilenceData → Type 0
+DecodesToSilence mode value silence = IsObject (HasSilence mode) value silence
 
--- members that tell one call
-abbrev pub HasCall : Dialect → Members → LaneCall → Type 0
-HasCall dialect members (Insert alert) = Has (DecodesToAlert dialect) (codes "insert") members alert
+-- members that say one call
+abbrev pub HasCall : Mode → Members → LaneCall → Type 0
+HasCall mode members (Insert alert) = Has (DecodesToAlert mode) (codes "insert") members alert
     × HasNone (codes "silence") members × HasNone (codes "maintain") members
-HasCall dialect members (Silence silence) = Has (DecodesToSilence dialect) (codes "silence") members silence
+HasCall mode members (Silence silence) = Has (DecodesToSilence mode) (codes "silence") members silence
     × HasNone (codes "insert") members × HasNone (codes "maintain") members
-HasCall dialect members Maintain = HasNone (codes "insert") members × HasNone (codes "silence") members
+HasCall mode members Maintain = HasNone (codes "insert") members × HasNone (codes "silence") members
     × (value : Data) × (get_member (codes "maintain") members ≡ Some value)
 
-abbrev pub DecodesToCall : Dialect → Data → LaneCall → Type 0
-DecodesToCall dialect value call = IsObject (HasCall dialect) value call
+abbrev pub DecodesToCall : Mode → Data → LaneCall → Type 0
+DecodesToCall mode value call = IsObject (HasCall mode) value call
 
-abbrev pub DecodesToLane : Dialect → Data → Lane → Type 0
-DecodesToLane dialect value lane = IsList (DecodesToCall dialect) value lane.calls.items
+abbrev pub DecodesToLane : Mode → Data → Lane → Type 0
+DecodesToLane mode value lane = IsList (DecodesToCall mode) value lane.calls.items
 
--- what the members of a phase tell
-pub record HasPhase (dialect : Dialect) (members : Members) (phase : Phase) : Type 0 where
+-- what the members of a phase say
+pub record HasPhase (mode : Mode) (members : Members) (phase : Phase) : Type 0 where
   pub at : Has IsNumber (codes "at") members phase.at
   pub flush : HasOr IsFlag false (codes "flush") members phase.flush
-  pub lanes : HasOr (IsList (DecodesToLane dialect)) [] (codes "lanes") members phase.lanes.items
+  pub lanes : HasOr (IsList (DecodesToLane mode)) [] (codes "lanes") members phase.lanes.items
 
-abbrev pub DecodesToPhase : Dialect → Data → Phase → Type 0
-DecodesToPhase dialect value phase = IsObject (HasPhase dialect) value phase
+abbrev pub DecodesToPhase : Mode → Data → Phase → Type 0
+DecodesToPhase mode value phase = IsObject (HasPhase mode) value phase
 
--- what the members of a scenario tell
+-- what the members of a scenario say
 pub record HasScenario (members : Members) (scenario : Scenario) : Type 0 where
   pub config : Has (DecodesToConfig Lenient) (codes "config") members scenario.config
   pub workers : HasOr IsNumber 2 (codes "workers") members scenario.workers
@@ -96,11 +96,11 @@ pub record HasScenario (members : Members) (scenario : Scenario) : Type 0 where
 abbrev pub DecodesToScenario : Data → Scenario → Type 0
 DecodesToScenario value scenario = IsObject HasScenario value scenario
 
--- these bytes are the text of a JSON value that tells this scenario
+-- these bytes are the text of a JSON value that says this scenario
 pub record IsScenarioIn (input : List ℕ) (scenario : Scenario) : Type 0 where
   pub value : Data
   pub text : read input ≡ Some value
-  pub told : DecodesToScenario value scenario
+  pub decoded : DecodesToScenario value scenario
 
 -- whether no matcher of a call needs a regex
 abbrev pub call_compares_texts : LaneCall → Bool

@@ -29,7 +29,7 @@ answer_by k (Some script) = answer_to k script.answers.items
 abbrev pub planned_for : List Script → ℕ → ℕ → ℕ → ScriptedAnswer
 planned_for scripts ticket integration k = answer_by k (find (is_script_for ticket integration) scripts)
 
--- how an attempt at this moment goes that is planned so: it ends when it has lasted so long, or at the last moment that 64 bits tell
+-- how an attempt at this time goes that is planned so: it ends when it has lasted so long, or at the last time that 64 bits say
 abbrev pub sent_at : ℕ → ScriptedAnswer → Sent
 sent_at at planned = record { answer = planned.answer; ended = later at planned.takes }
 

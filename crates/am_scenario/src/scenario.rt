@@ -1,10 +1,10 @@
 //! `Scenario` and its parts. `read` makes one, `am_run` runs it.
 ghost use Rattle.std.specs.Prelude.{◌≤◌, vec_len};
 ghost use Rattle.am_scenario.specs.declared.scenario.TheConstants.{MAX_LANES};
-ghost use Rattle.am_alerts.specs.declared.limits.TheConstants.{MAX_MOMENT};
+ghost use Rattle.am_alerts.specs.declared.limits.TheConstants.{MAX_TIME};
 ghost use Rattle.am_pool.specs.declared.limits.TheConstants.{MAX_WORKERS};
 
-use am_alerts::limits::MAX_MOMENT;
+use am_alerts::limits::MAX_TIME;
 use am_model::config::Config;
 use am_pool::MAX_WORKERS;
 
@@ -33,15 +33,15 @@ pub struct Scenario {
     ghost few_workers: { workers ≤ MAX_WORKERS },
 }
 
-/// What happens at one moment: the groups that are due are flushed, if the phase says so, and the
+/// What happens at one time: the groups that are due are flushed, if the phase says so, and the
 /// lanes make their calls.
 #[derive(Drop)]
 pub struct Phase {
-    /// The moment, in milliseconds.
+    /// The time, in milliseconds.
     pub at: u64,
     pub flush: bool,
     pub lanes: Vec<Lane>,
-    ghost at_in_range: { at ≤ MAX_MOMENT },
+    ghost at_in_range: { at ≤ MAX_TIME },
     ghost few_lanes: { vec_len lanes ≤ MAX_LANES },
 }
 

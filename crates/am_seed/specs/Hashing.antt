@@ -8,9 +8,9 @@ use Rattle.std.specs.List.{fold}
 use Rattle.am_seed.specs.declared.hasher.SeededHasher.{SeededHasher}
 use Rattle.am_seed.specs.declared.seed.Seed.{Seed}
 
--- one of the words of a number's seed: SipHash, with both keys 0, of the number and of the word's place
+-- one of the words of a number's seed: SipHash, with both keys 0, of the number and of the word's index
 unfoldable pub word : ℕ → ℕ → ℕ
-word number place = sip.finish (fold sip.write sip.initial (fed.u64 number ++ fed.u8 place))
+word number index = sip.finish (fold sip.write sip.initial (fed.u64 number ++ fed.u8 index))
 
 -- the seed of a number
 abbrev pub seed_of : ℕ → Seed

@@ -56,7 +56,7 @@ fn folded_multiply(a: u64, b: u64) -> u64
     (product & 0xFFFF_FFFF_FFFF_FFFF) as u64 ^ (product >> 64) as u64
 }
 
-/// The four bytes from a place on, the lowest first.
+/// The four bytes from an index on, the lowest first.
 fn read_u32(bytes: &[u8], at: usize) -> u64
     requires { at + 4 ≤ length bytes.now }
     ensures { result ≡ folding.read_u32 bytes.now at }
@@ -64,7 +64,7 @@ fn read_u32(bytes: &[u8], at: usize) -> u64
     u32::from_le_bytes([bytes[at], bytes[at + 1], bytes[at + 2], bytes[at + 3]]) as u64
 }
 
-/// The eight bytes from a place on, the lowest first.
+/// The eight bytes from an index on, the lowest first.
 fn read_u64(bytes: &[u8], at: usize) -> u64
     requires { at + 8 ≤ length bytes.now }
     ensures { result ≡ folding.read_u64 bytes.now at }

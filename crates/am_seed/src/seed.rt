@@ -49,12 +49,12 @@ impl Seed {
 }
 
 /// One of the words of a number's seed, by SipHash: none of them shows another.
-fn word(number: u64, place: u8) -> u64
-    ensures { result ≡ seeded.word number place }
+fn word(number: u64, index: u8) -> u64
+    ensures { result ≡ seeded.word number index }
 {
     let mut hasher = DefaultHasher::new();
     hasher.write_u64(number);
-    hasher.write_u8(place);
+    hasher.write_u8(index);
     hasher.finish()
 }
 

@@ -1,14 +1,14 @@
 //! Reads what Alertmanager answers at `/api/v2/alerts` and `/api/v2/silences`.
 use crate::incident::{Incident, SeenAlert, SeenSilence, SeenSpan};
 use crate::labels::read_labels;
-use crate::moment::{optional_time, required_time};
+use crate::time::{optional_time, required_time};
 use crate::yaml::escape_of;
 use am_cli::fault::{FaultKind, InputFault};
 use am_cli::reader::{Object, Reader};
 use std::alloc::AllocError;
 
 /// How long a story goes on behind the last update of an alert: 5 minutes, in milliseconds.
-const GOES_ON: u64 = 300_000;
+const CONTINUES: u64 = 300_000;
 
 /// Reads the alerts that Alertmanager has. One that has ended by the last update of all has an end.
 pub fn read_alerts(reader: &Reader<'_, '_>) -> Result<Incident, InputFault> {
@@ -20,7 +20,7 @@ pub fn read_alerts(reader: &Reader<'_, '_>) -> Result<Incident, InputFault> {
     Ok(Incident {
         alerts,
         silences: Vec::new(reader.alloc()),
-        end: latest.saturating_add(GOES_ON),
+        end: latest.saturating_add(CONTINUES),
     })
 }
 

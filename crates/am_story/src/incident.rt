@@ -1,5 +1,5 @@
 //! `Incident`: what happened, and the story of it.
-use crate::moment::push_time;
+use crate::time::push_time;
 use crate::yaml::{push_key, push_quoted};
 use am_command::durations::push_duration;
 use std::alloc::{AllocError, Global};

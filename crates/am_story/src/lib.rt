@@ -5,6 +5,6 @@
 pub mod alertmanager;
 pub mod incident;
 mod labels;
-mod moment;
 pub mod prometheus;
+mod time;
 mod yaml;

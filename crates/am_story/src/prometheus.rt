@@ -4,7 +4,7 @@
 //! time between two samples of a series. An alert with a sample at the last time of all still fires at the end.
 use crate::incident::{Incident, SeenAlert, SeenSpan};
 use crate::labels::read_labels;
-use crate::moment::read_seconds;
+use crate::time::read_seconds;
 use am_cli::fault::{FaultKind, InputFault};
 use am_cli::reader::{Object, Reader};
 use std::alloc::{AllocError, Global};
@@ -12,7 +12,7 @@ use std::alloc::{AllocError, Global};
 /// The step where no series has two samples: a minute, in milliseconds.
 const STEP: u64 = 60_000;
 
-/// The label that tells an alert that fires from one that is pending.
+/// The label that says an alert that fires from one that is pending.
 const STATE: &str = "alertstate";
 
 /// The labels that Prometheus adds to those of an alert in `ALERTS`.

@@ -45,7 +45,7 @@ fn push_shown(character: char, out: &mut String) -> Result<(), AllocError> {
     }
 }
 
-/// Returns what stands in double quotes for a character that can't stand there itself, in YAML as in a matcher.
+/// Returns what is in double quotes for a character that can't be there itself, in YAML as in a matcher.
 pub(crate) fn escape_of(character: char) -> Option<&'static str> {
     match character {
         '"' => Some("\\\""),

@@ -1,7 +1,7 @@
 -- TimeFormatData: how times are shown.
 use Rattle.std.specs.Prelude.{ℕ, ◌-◌, ◌/◌, ◌%◌, ◌==◌, nat_lt, List, [], ◌++◌, length, codes, decimal, replicate, if◌then◌else◌}
 
--- the text of each moment, and how wide their column is
+-- the text of each time, and how wide their column is
 pub record TimeFormatData : Type 0 where
   pub text : ℕ → List ℕ
   pub width : ℕ
@@ -18,13 +18,13 @@ three_digits n = (if nat_lt n 100 then codes "0" else []) ++ two_digits n
 abbrev pub fraction_text : ℕ → List ℕ
 fraction_text milliseconds = if milliseconds == 0 then [] else codes "." ++ three_digits milliseconds
 
--- a moment counted from the start: hours, minutes and seconds
+-- a time counted from the start: hours, minutes and seconds
 unfoldable pub counted_text : ℕ → List ℕ
 counted_text at =
     two_digits (at / 3600000) ++ codes ":" ++ two_digits (at / 60000 % 60) ++ codes ":" ++ two_digits (at / 1000 % 60)
     ++ fraction_text (at % 1000)
 
--- moments counted from the start
+-- times counted from the start
 abbrev pub counted : TimeFormatData
 counted = record { text = counted_text; width = 12 }
 
@@ -32,6 +32,6 @@ counted = record { text = counted_text; width = 12 }
 abbrev pub padded_to : ℕ → List ℕ → List ℕ
 padded_to width text = text ++ replicate (width - length text) 32
 
--- a moment in its column
+-- a time in its column
 abbrev pub column : TimeFormatData → ℕ → List ℕ
 column times at = padded_to times.width (times.text at) ++ codes "  "

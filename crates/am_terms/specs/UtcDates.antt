@@ -50,15 +50,15 @@ abbrev pub day_after : ℕ → DayData → DayData
 day_after zero d = d
 day_after (suc n) d = day_after n (next_day d)
 
--- how many milliseconds a moment is behind the beginning of the start's day, but for the whole days of the moment
+-- how many milliseconds a time is behind the beginning of the start's day, but for the whole days of the time
 abbrev pub behind_midnight : StartData → ℕ → ℕ
 behind_midnight start at = start.milliseconds + at % 86400000
 
--- the day of a moment
+-- the day of a time
 abbrev pub day_at : StartData → ℕ → DayData
 day_at start at = day_after (at / 86400000 + behind_midnight start at / 86400000) start.day
 
--- how many milliseconds of its day are over at a moment
+-- how many milliseconds of its day are over at a time
 abbrev pub time_at : StartData → ℕ → ℕ
 time_at start at = behind_midnight start at % 86400000
 
@@ -74,10 +74,10 @@ day_text d = four_digits d.year ++ codes "-" ++ two_digits d.month ++ codes "-" 
 unfoldable pub instant_text : DayData → ℕ → List ℕ
 instant_text d time = day_text d ++ codes "T" ++ counted_text time ++ codes "Z"
 
--- a moment
+-- a time
 abbrev pub dated_text : StartData → ℕ → List ℕ
 dated_text start at = instant_text (day_at start at) (time_at start at)
 
--- moments as dates
+-- times as dates
 abbrev pub dated : StartData → TimeFormatData
 dated start = record { text = dated_text start; width = 24 }

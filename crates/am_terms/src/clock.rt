@@ -13,7 +13,7 @@ pub trait TimeFormat {
     ghost times: { Self → TimeFormatData };
 
     /// Adds the text of a time.
-    fn push_moment(&self, at: u64, out: &mut String) -> Result<(), AllocError>
+    fn push_time(&self, at: u64, out: &mut String) -> Result<(), AllocError>
         ensures { OnOk result (string_bytes out.new ≡ string_bytes out.old ++ (times self.now).text at) };
 
     /// Returns the width of the column of times, in characters.
@@ -28,7 +28,7 @@ pub struct Elapsed;
 impl TimeFormat for Elapsed {
     ghost times = { λ _. counted };
 
-    fn push_moment(&self, at: u64, out: &mut String) -> Result<(), AllocError> {
+    fn push_time(&self, at: u64, out: &mut String) -> Result<(), AllocError> {
         push_counted(at, out)
     }
 
@@ -90,7 +90,7 @@ pub fn push_column<C: TimeFormat>(clock: &C, at: u64, out: &mut String) -> Resul
     ensures { OnOk result (string_bytes out.new ≡ string_bytes out.old ++ column (C.times clock.now) at) }
 {
     let start = out.len();
-    clock.push_moment(at, out)?;
+    clock.push_time(at, out)?;
     let shown = out.len().saturating_sub(start);
     push_blanks(clock.width().saturating_sub(shown), out)?;
     out.push_str("  ")

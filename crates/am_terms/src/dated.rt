@@ -57,7 +57,7 @@ impl UtcDates {
     /// That is a time as `2026-11-23T00:00:00Z` or `2026-11-23T01:00:00+01:00` (RFC 3339), in the
     /// years 0 to 9999 of UTC. Parts of a millisecond are dropped.
     pub fn read(text: &str) -> Option<UtcDates>
-        ensures told { IfSome result (IsReadFrom text.now) }
+        ensures decoded { IfSome result (IsReadFrom text.now) }
         ensures refused { result ≡ None → (start : StartData) → IsReadFrom text.now start → ⊥ }
     {
         let start = text.parse::<Timestamp>().ok()?;
@@ -65,7 +65,7 @@ impl UtcDates {
     }
 
     fn from_utc(start: DateTime) -> Option<UtcDates>
-        ensures told { IfSome result (IsStartAt start) }
+        ensures decoded { IfSome result (IsStartAt start) }
         ensures refused { result ≡ None → start.date.year <ℤ pos 0 }
     {
         let year = u64::try_from(start.year()).ok()?;
@@ -79,7 +79,7 @@ impl UtcDates {
         Some(UtcDates { day, milliseconds })
     }
 
-    /// The day of a moment.
+    /// The day of a time.
     fn day_at(&self, at: u64) -> Day
         ensures { result ≡ day_at self.now at }
     {
@@ -87,7 +87,7 @@ impl UtcDates {
         self.day.after(at / DAY + behind / DAY)
     }
 
-    /// How many milliseconds of its day are over at a moment.
+    /// How many milliseconds of its day are over at a time.
     fn time_at(&self, at: u64) -> u64
         ensures { result ≡ time_at self.now at }
     {
@@ -179,7 +179,7 @@ fn is_leap_year(year: u64) -> bool
 impl TimeFormat for UtcDates {
     ghost times = { dated };
 
-    fn push_moment(&self, at: u64, out: &mut String) -> Result<(), AllocError> {
+    fn push_time(&self, at: u64, out: &mut String) -> Result<(), AllocError> {
         let day = self.day_at(at);
         push_instant(&day, self.time_at(at), out)
     }

@@ -12,7 +12,7 @@ use std::alloc::{AllocError, Global};
 #[derive(Drop)]
 pub struct PreviewedBegin {
     /// The position of the begin's record in the history.
-    pub place: usize,
+    pub index: usize,
     /// What it was to do, and why. It was computed before the begin.
     pub preview: SharedPreview,
 }

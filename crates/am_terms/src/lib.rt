@@ -1,14 +1,14 @@
 //! What a story, its play and the texts on it share: what a rehearsal is made of, what happens in
 //! it, how times are shown, and what is expected. `am_input` reads a story by it, `am_rehearsal`
-//! plays it, and `am_timeline` tells of it, so each of these is proved without the others. All times
+//! plays it, and `am_timeline` says of it, so each of these is proved without the others. All times
 //! are in milliseconds from the start of the rehearsal.
 #![tactic(auto)]
 
 pub mod clock;
 pub mod dated;
+pub mod dispatcher_change;
 pub mod event;
 pub mod expectation;
-pub mod handover;
 pub mod law;
 mod like;
 pub mod rehearsal;

@@ -37,8 +37,8 @@ fn are_same_muted(some: &[MutedAlert], others: &[MutedAlert]) -> bool
     if some.len() != others.len() {
         return false;
     }
-    for place in 0..some.len() {
-        if !is_same_muted(&some[place], &others[place]) {
+    for index in 0..some.len() {
+        if !is_same_muted(&some[index], &others[index]) {
             return false;
         }
     }

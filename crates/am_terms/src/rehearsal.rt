@@ -28,7 +28,7 @@ pub struct Rehearsal {
     /// The outages. If two cover an attempt, the first one answers.
     pub outages: Vec<Outage>,
     ghost ends: { until ≤ MAX_UNTIL },
-    ghost goes_on: { 1 ≤ maintain },
+    ghost continues: { 1 ≤ maintain },
 }
 
 /// An action and its time.

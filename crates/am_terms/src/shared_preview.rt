@@ -16,7 +16,7 @@ use std::sync::Arc;
 /// What a begin would do with the group that it would take. Contracts see it as a `Preview`.
 #[derive(Drop)]
 pub struct SharedPreview {
-    moment: u64,
+    time: u64,
     /// A preview like it, at some time.
     like: Arc<Preview>,
 }
@@ -29,7 +29,7 @@ impl Model for SharedPreview {
 
     ghost view = { λ s.
         record {
-          moment = s.moment;
+          time = s.time;
           group = (arc_value s.like).group;
           muted = (arc_value s.like).muted;
           reasons = (arc_value s.like).reasons;
@@ -41,9 +41,9 @@ impl SharedPreview {
     pub fn new(alloc: Global, preview: Preview) -> Result<SharedPreview, Preview>
         ensures { MatchResult result (λ shared. shared ≡ preview) (λ back. back ≡ preview) }
     {
-        let moment = preview.moment;
+        let time = preview.time;
         match Arc::new(alloc, preview) {
-            Ok(like) => Ok(SharedPreview { moment, like }),
+            Ok(like) => Ok(SharedPreview { time, like }),
             Err(failed) => Err(failed.value),
         }
     }
@@ -61,7 +61,7 @@ impl SharedPreview {
         }
         let like = Arc::try_clone(&self.like)?;
         Ok(Some(SharedPreview {
-            moment: preview.moment,
+            time: preview.time,
             like,
         }))
     }
@@ -74,10 +74,10 @@ impl SharedPreview {
     }
 
     /// Returns the time of the begin, in milliseconds.
-    pub fn moment(&self) -> u64
-        ensures { result ≡ self.now.moment }
+    pub fn time(&self) -> u64
+        ensures { result ≡ self.now.time }
     {
-        self.moment
+        self.time
     }
 
     /// Returns the group that it would take.

@@ -7,11 +7,11 @@ use Rattle.std.specs.Option.{option_and_then, option_or}
 use Rattle.std.proofs.lemmas.Bool.{le-ltb, lt-ltb, ltb-false}
 use Rattle.std.proofs.lemmas.Option.{slice_get_past}
 use Rattle.std.proofs.lemmas.Bool.Decides.{nat_tests}
-use Rattle.am_alerts.specs.declared.limits.TheConstants.{MAX_MOMENT}
+use Rattle.am_alerts.specs.declared.limits.TheConstants.{MAX_TIME}
 use Rattle.am_model.specs.declared.config.Config.{Config}
 use Rattle.am_model.specs.declared.group.GroupName.{GroupName}
 use Rattle.am_model.specs.declared.record.Record.{Record}
-use Rattle.am_model.specs.look_back.Past.{Past, moment_at, past_of}
+use Rattle.am_model.specs.look_back.Past.{Past, time_at, past_of}
 use Rattle.am_model.specs.Records.{now_of}
 use Rattle.am_timeline.specs.declared.logbook.log.LastEntry.{LastEntry}
 use Rattle.am_timeline.specs.declared.logbook.log.Log.{Log}
@@ -32,8 +32,8 @@ option_or-None None = refl
 option_or-None (Some x) = refl
 
 -- a number that isn't this one is below it or below the next
-lt_other : (p place : ℕ) → (place == p) ≡ false → nat_lt p place ≡ nat_lt p (place + 1)
-lt_other p place e = grind (arith, nat_tests)
+lt_other : (p index : ℕ) → (index == p) ≡ false → nat_lt p index ≡ nat_lt p (index + 1)
+lt_other p index e = grind (arith, nat_tests)
 
 -- the entries of some integrations of a flush, and of one more
 pub each-more : (here : Bool) (k i : ℕ) (value : ℕ → Option ℕ) (old : Option ℕ)
@@ -55,27 +55,27 @@ each-more true k i value old = by (k == i) refl
     by false e = ap (λ (b : Bool). option_or (if b then value i else None) old) (lt_other i k e)
 
 -- the entries of some records, and of one more
-pub table-more : (config : Config) (history : List Record) (place : ℕ) (x : Record) (p i : ℕ) → slice_get history place ≡ Some x
-    → option_or (if place == p then expired_before config i (past_of (take place history)) x else None)
-    (if nat_lt p place then expired config history p i else None)
-    ≡ (if nat_lt p (place + 1) then expired config history p i else None)
-table-more config history place x p i at = by (place == p) refl
+pub table-more : (config : Config) (history : List Record) (index : ℕ) (x : Record) (p i : ℕ) → slice_get history index ≡ Some x
+    → option_or (if index == p then expired_before config i (past_of (take index history)) x else None)
+    (if nat_lt p index then expired config history p i else None)
+    ≡ (if nat_lt p (index + 1) then expired config history p i else None)
+table-more config history index x p i at = by (index == p) refl
   where
-    by : (same : Bool) → (place == p) ≡ same
-        → option_or (if same then expired_before config i (past_of (take place history)) x else None)
-        (if nat_lt p place then expired config history p i else None)
-        ≡ (if nat_lt p (place + 1) then expired config history p i else None)
+    by : (same : Bool) → (index == p) ≡ same
+        → option_or (if same then expired_before config i (past_of (take index history)) x else None)
+        (if nat_lt p index then expired config history p i else None)
+        ≡ (if nat_lt p (index + 1) then expired config history p i else None)
     by true e =
-        let is : place ≡ p = eqb-true place p e in
-        let before : nat_lt p place ≡ false = le-ltb p place (omega arith) in
-        let within : nat_lt p (place + 1) ≡ true = lt-ltb p (place + 1) (omega arith) in
-        let here : Option ℕ = expired_before config i (past_of (take place history)) x in
+        let is : index ≡ p = eqb-true index p e in
+        let before : nat_lt p index ≡ false = le-ltb p index (omega arith) in
+        let within : nat_lt p (index + 1) ≡ true = lt-ltb p (index + 1) (omega arith) in
+        let here : Option ℕ = expired_before config i (past_of (take index history)) x in
         ap (λ (b : Bool). option_or here (if b then expired config history p i else None)) before
         ∙ option_or-None here
-        ∙ sym (ap (λ (o : Option Record). option_and_then (expired_before config i (past_of (take place history))) o) at)
+        ∙ sym (ap (λ (o : Option Record). option_and_then (expired_before config i (past_of (take index history))) o) at)
         ∙ ap (λ (n : ℕ). expired config history n i) is
         ∙ ap (λ (b : Bool). if b then expired config history p i else None) (sym within)
-    by false e = ap (λ (b : Bool). if b then expired config history p i else None) (lt_other p place e)
+    by false e = ap (λ (b : Bool). if b then expired config history p i else None) (lt_other p index e)
 
 -- the entries of all records
 pub table-all : (config : Config) (history : List Record) (n p i : ℕ) → n ≡ length history
@@ -90,15 +90,15 @@ table-all config history n p i all = by (nat_lt p n) refl
         (slice_get_past history p past))
 
 -- the entry of an integration that had expired when a record began a flush, by what is kept of the past
-pub expired_before-is : (config : Config) (log : Log) (past : Past) (r : Record) (name : GroupName) (t place p i : ℕ)
-    → Follows log past → flush_group r.reply ≡ Some name → t ≡ max log.clock (min (now_of r.call) MAX_MOMENT)
-    → (if (place == p) && nat_lt i (count_integrations config name)
+pub expired_before-is : (config : Config) (log : Log) (past : Past) (r : Record) (name : GroupName) (t index p i : ℕ)
+    → Follows log past → flush_group r.reply ≡ Some name → t ≡ max log.clock (min (now_of r.call) MAX_TIME)
+    → (if (index == p) && nat_lt i (count_integrations config name)
     then expiry_of config name t (get same_log_key log.logged (record { group = name; integration = i })) else None)
-    ≡ (if place == p then expired_before config i past r else None)
-expired_before-is config log past r name t place p i f group clock = by (place == p)
+    ≡ (if index == p then expired_before config i past r else None)
+expired_before-is config log past r name t index p i f group clock = by (index == p)
   where
-    at : t ≡ moment_at (r ∷ past)
-    at = clock ∙ ap (λ (c : ℕ). max c (min (now_of r.call) MAX_MOMENT)) f.clock
+    at : t ≡ time_at (r ∷ past)
+    at = clock ∙ ap (λ (c : ℕ). max c (min (now_of r.call) MAX_TIME)) f.clock
 
     value : (if nat_lt i (count_integrations config name)
         then expiry_of config name t (get same_log_key log.logged (record { group = name; integration = i })) else None)
@@ -107,7 +107,7 @@ expired_before-is config log past r name t place p i f group clock = by (place =
         ap (λ (o : Option LastEntry). if nat_lt i (count_integrations config name) then expiry_of config name t o else None)
         (f.logged name i)
         ∙ ap (λ (c : ℕ). expired_at config i c past name) at
-        ∙ sym (ap (λ (o : Option GroupName). option_and_then (expired_at config i (moment_at (r ∷ past)) past) o) group)
+        ∙ sym (ap (λ (o : Option GroupName). option_and_then (expired_at config i (time_at (r ∷ past)) past) o) group)
 
     by : (here : Bool)
         → (if here && nat_lt i (count_integrations config name)
@@ -117,9 +117,9 @@ expired_before-is config log past r name t place p i f group clock = by (place =
     by false = refl
 
 -- and where no flush begins
-pub expired_before-none : (config : Config) (past : Past) (r : Record) (place p i : ℕ) (old : Option ℕ) → flush_group r.reply ≡ None
-    → old ≡ option_or (if place == p then expired_before config i past r else None) old
-expired_before-none config past r place p i old none =
-    let at : GroupName → Option ℕ = expired_at config i (moment_at (r ∷ past)) past in
-    keep-is (place == p) old
-    ∙ ap (λ (o : Option GroupName). option_or (if place == p then option_and_then at o else None) old) (sym none)
+pub expired_before-none : (config : Config) (past : Past) (r : Record) (index p i : ℕ) (old : Option ℕ) → flush_group r.reply ≡ None
+    → old ≡ option_or (if index == p then expired_before config i past r else None) old
+expired_before-none config past r index p i old none =
+    let at : GroupName → Option ℕ = expired_at config i (time_at (r ∷ past)) past in
+    keep-is (index == p) old
+    ∙ ap (λ (o : Option GroupName). option_or (if index == p then option_and_then at o else None) old) (sym none)

@@ -18,9 +18,9 @@ use Rattle.am_terms.specs.TimeFormatData.{TimeFormatData}
 use Rattle.am_timeline.specs.Playback.{PlaybackData}
 use Rattle.am_timeline.specs.declared.runs.Run.{Run}
 use Rattle.am_timeline.proofs.Reversed.{reverse_more}
-use Rattle.am_timeline.specs.Runs.{FlushData, HasLines, are_same_lines, folds_of, grown, is_like_last, kept_run, last_moment, likes, lines_by, number_with, run_of, runs_begun, runs_with, single, starts_from, starts_with}
+use Rattle.am_timeline.specs.Runs.{FlushData, HasLines, are_same_lines, folds_of, grown, is_like_last, kept_run, last_time, likes, lines_by, number_with, run_of, runs_begun, runs_with, single, starts_from, starts_with}
 
--- what a map has from one place on
+-- what a map has from one index on
 pub drop_map-at : {X Y : Type 0} (f : X → Y) (xs : List X) (i : ℕ) (x : X) → i < length xs → x ≡ get_or xs i x
     → drop i (map f xs) ≡ f x ∷ drop (i + 1) (map f xs)
 drop_map-at {X} {Y} f xs i x inside is =
@@ -28,13 +28,13 @@ drop_map-at {X} {Y} f xs i x inside is =
     ∙ ap (λ (l : List X). map f l) (drop_more xs i x inside ∙ ap (λ (y : X). y ∷ drop (i + 1) xs) (sym is))
     ∙ ap (λ (l : List Y). f x ∷ l) (sym (drop-map f (i + 1) xs))
 
--- what is kept of the begin at a place has its lines
-pub HasLines-of : (all : Bool) (playback : PlaybackData) (times : TimeFormatData) (place : ℕ) (b : PreviewedBegin) (number : ℕ)
-    → place < length playback.begins → b ≡ get_or playback.begins place b
-    → HasLines all playback times (place, (lines_by all playback times b, number))
-HasLines-of all playback times place b number inside is =
+-- what is kept of the begin at an index has its lines
+pub HasLines-of : (all : Bool) (playback : PlaybackData) (times : TimeFormatData) (index : ℕ) (b : PreviewedBegin) (number : ℕ)
+    → index < length playback.begins → b ≡ get_or playback.begins index b
+    → HasLines all playback times (index, (lines_by all playback times b, number))
+HasLines-of all playback times index b number inside is =
     subst (λ (o : Option PreviewedBegin). IfSome o (λ c. lines_by all playback times b ≡ lines_by all playback times c))
-    (sym (slice_get_read playback.begins (length playback.begins) place b refl inside is)) refl
+    (sym (slice_get_read playback.begins (length playback.begins) index b refl inside is)) refl
 
 -- a table with one more entry
 pub IfSome-if : {X : Type 0} (P : X → Type 0) (n : Bool) (k : X) (old new : Option X) → new ≡ (if n then Some k else old) → P k → IfSome old P
@@ -45,7 +45,7 @@ IfSome-if P n k old new is one others = subst (λ o. IfSome o P) (sym is) (by n)
     by true = one
     by false = others
 
--- what is kept of one more flush, save its place
+-- what is kept of one more flush, save its index
 pub kept_run-if : (n : Bool) (k : ℕ × (List ℕ × ℕ)) (held : Option (ℕ × (List ℕ × ℕ)))
     → kept_run (if n then Some k else held) ≡ (if n then Some k.1 else kept_run held)
 kept_run-if true k held = refl
@@ -102,7 +102,7 @@ first-by f before last is =
 
 -- a run with these flushes too
 abbrev with_more : Run → List FlushData → Run
-with_more r more = record { count = length more + r.count; until = last_moment r.until more }
+with_more r more = record { count = length more + r.count; until = last_time r.until more }
 
 -- the run of a number, which is of a group, with those of the later flushes that are of it too
 abbrev completed : Option (List ℕ × ℕ) → ℕ → GroupName → List FlushData → Run → Run
@@ -191,13 +191,13 @@ joins-apart old f later k lines found =
 complete-join : (old new : GroupName → Option (List ℕ × ℕ)) (f : FlushData) (later : List FlushData) (k : ℕ) (lines : List ℕ)
     → old f.group ≡ Some (lines, k) → are_same_lines lines f.lines ≡ true → Moves old new f k
     → (number n : ℕ) (groups : List GroupName) (runs : List Run) → k ≡ number + n → slice_get groups n ≡ Some f.group
-    → complete new later number groups (grown n f.moment runs) ≡ complete old (f ∷ later) number groups runs
+    → complete new later number groups (grown n f.time runs) ≡ complete old (f ∷ later) number groups runs
 complete-join old new f later k lines found same moves number n [] runs is named = refl
 complete-join old new f later k lines found same moves number zero (g ∷ groups) [] is named = refl
 complete-join old new f later k lines found same moves number (suc n) (g ∷ groups) [] is named = refl
 complete-join old new f later k lines found same moves number zero (g ∷ groups) (r ∷ runs) is named =
     let own : (k == number) ≡ true = eq-eqb k number (omega (arith, is)) in
-    let grew : Run = record { count = r.count + 1; until = f.moment } in
+    let grew : Run = record { count = r.count + 1; until = f.time } in
     let own_name : g ≡ f.group = cc named in
     let alike : lines ≡ f.lines = (bytes_eq-Decides lines f.lines).0 (and_parts _ _ same).1 in
     let more = likes f.group lines later in
@@ -207,7 +207,7 @@ complete-join old new f later k lines found same moves number zero (g ∷ groups
     (moves f.group ∙ ap (λ (b : Bool). if b then Some (f.lines, k) else old f.group) (same_name_equiv.refl f.group))
     ∙ ap (λ (b : Bool). if b then with_more grew (likes f.group f.lines later) else grew) own
     ∙ ap (λ (l : List ℕ). with_more grew (likes f.group l later)) (sym alike)
-    ∙ (λ i. record { count = count i; until = last_moment f.moment more })
+    ∙ (λ i. record { count = count i; until = last_time f.time more })
     ∙ ap (λ (b : Bool). with_more r (if b then f ∷ more else [])) (sym same)
     ∙ ap (λ (b : Bool). with_more r (if b then (if are_same_lines lines f.lines then f ∷ more else []) else more)) (sym (same_name_equiv.refl f.group))
     ∙ ap (λ (b : Bool). if b then with_more r (likes f.group lines (f ∷ later)) else r) (sym own)
@@ -262,16 +262,16 @@ complete-push table later number (h ∷ groups) (s ∷ runs) g r same =
 -- a flush that isn't like the last one of its group begins a run
 complete-begin : (old new : GroupName → Option (List ℕ × ℕ)) (f : FlushData) (later : List FlushData) (groups : List GroupName) (runs : List Run)
     → length groups ≡ length runs → is_like_last f.lines (old f.group) ≡ false → Moves old new f (length runs)
-    → complete new later 0 (groups ++ f.group ∷ []) (runs ++ single f.moment ∷ []) ≡ complete old (f ∷ later) 0 groups runs ++ run_of f later ∷ []
+    → complete new later 0 (groups ++ f.group ∷ []) (runs ++ single f.time ∷ []) ≡ complete old (f ∷ later) 0 groups runs ++ run_of f later ∷ []
 complete-begin old new f later groups runs same unlike moves =
     let kept = complete-apart old new f later (length runs) moves (begins-apart old f later (length runs) unlike) 0 groups runs
     (λ j low high. ne_eqb (length runs) j (omega (arith, same, high))) in
     let own : (length runs == 0 + length runs) ≡ true = eq-eqb (length runs) (0 + length runs) (omega arith) in
-    let begun : completed (new f.group) (0 + length runs) f.group later (single f.moment) ≡ run_of f later =
-    ap (λ (o : Option (List ℕ × ℕ)). completed o (0 + length runs) f.group later (single f.moment))
+    let begun : completed (new f.group) (0 + length runs) f.group later (single f.time) ≡ run_of f later =
+    ap (λ (o : Option (List ℕ × ℕ)). completed o (0 + length runs) f.group later (single f.time))
     (moves f.group ∙ ap (λ (b : Bool). if b then Some (f.lines, length runs) else old f.group) (same_name_equiv.refl f.group))
-    ∙ ap (λ (b : Bool). if b then with_more (single f.moment) (likes f.group f.lines later) else single f.moment) own in
-    complete-push new later 0 groups runs f.group (single f.moment) same ∙ (λ i. kept i ++ begun i ∷ [])
+    ∙ ap (λ (b : Bool). if b then with_more (single f.time) (likes f.group f.lines later) else single f.time) own in
+    complete-push new later 0 groups runs f.group (single f.time) same ∙ (λ i. kept i ++ begun i ∷ [])
 
 -- the groups of the runs so far, with a flush
 abbrev pub groups_with : FlushData → Option (List ℕ × ℕ) → List GroupName → List GroupName
@@ -281,19 +281,19 @@ groups_with f last groups = if is_like_last f.lines last then groups else groups
 complete-step : (old new : GroupName → Option (List ℕ × ℕ)) (f : FlushData) (later : List FlushData) (groups : List GroupName) (runs : List Run)
     → length groups ≡ length runs → IfSome (old f.group) (λ l. slice_get groups l.1 ≡ Some f.group)
     → Moves old new f (number_with f.lines (length runs) (old f.group))
-    → complete new later 0 (groups_with f (old f.group) groups) (runs_with f.moment f.lines (old f.group) runs)
+    → complete new later 0 (groups_with f (old f.group) groups) (runs_with f.time f.lines (old f.group) runs)
     ≡ (if is_like_last f.lines (old f.group) then complete old (f ∷ later) 0 groups runs else complete old (f ∷ later) 0 groups runs ++ run_of f later ∷ [])
 complete-step old new f later groups runs same known moves = by (old f.group) refl known moves
   where
     by : (o : Option (List ℕ × ℕ)) → old f.group ≡ o → IfSome o (λ l. slice_get groups l.1 ≡ Some f.group)
         → Moves old new f (number_with f.lines (length runs) o)
-        → complete new later 0 (groups_with f o groups) (runs_with f.moment f.lines o runs)
+        → complete new later 0 (groups_with f o groups) (runs_with f.time f.lines o runs)
         ≡ (if is_like_last f.lines o then complete old (f ∷ later) 0 groups runs else complete old (f ∷ later) 0 groups runs ++ run_of f later ∷ [])
     by None is known moves = complete-begin old new f later groups runs same (ap (λ (o : Option (List ℕ × ℕ)). is_like_last f.lines o) is) moves
     by (Some last) is known moves = either (are_same_lines last.0 f.lines) refl moves
       where
         either : (l : Bool) → are_same_lines last.0 f.lines ≡ l → Moves old new f (if l then last.1 else length runs)
-            → complete new later 0 (if l then groups else groups ++ f.group ∷ []) (if l then grown last.1 f.moment runs else runs ++ single f.moment ∷ [])
+            → complete new later 0 (if l then groups else groups ++ f.group ∷ []) (if l then grown last.1 f.time runs else runs ++ single f.time ∷ [])
             ≡ (if l then complete old (f ∷ later) 0 groups runs else complete old (f ∷ later) 0 groups runs ++ run_of f later ∷ [])
         either true alike moves = complete-join old new f later last.1 last.0 is alike moves 0 last.1 groups runs (omega arith) known
         either false alike moves =
@@ -305,7 +305,7 @@ pub runs-step : (old new : GroupName → Option (List ℕ × ℕ)) (f : FlushDat
     → Moves old new f (number_with f.lines (length runs) (old f.group))
     → option_map (λ l. l.0) (old f.group) ≡ last_lines f.group before
     → complete old (f ∷ later) 0 groups runs ++ runs_begun (folds_of before (f ∷ later)) ≡ whole
-    → complete new later 0 (groups_with f (old f.group) groups) (runs_with f.moment f.lines (old f.group) runs) ++ runs_begun (folds_of (f ∷ before) later) ≡ whole
+    → complete new later 0 (groups_with f (old f.group) groups) (runs_with f.time f.lines (old f.group) runs) ++ runs_begun (folds_of (f ∷ before) later) ≡ whole
 runs-step old new f before later groups runs whole same known moves lines so_far =
     ap (λ (l : List Run). l ++ rest) (complete-step old new f later groups runs same known moves)
     ∙ by (is_like_last f.lines (old f.group)) (first-by f before (old f.group) lines)
@@ -325,36 +325,36 @@ runs-step old new f before later groups runs whole same known moves lines so_far
         ∙ ap (λ (b : Bool). done ++ (if b then run_of f later ∷ rest else rest)) (sym first)
 
 -- where the runs of the flushes so far begin, with where those of the rest do
-pub starts-step : (f : FlushData) (before later : List FlushData) (last : Option (List ℕ × ℕ)) (place : ℕ) (starts whole : List ℕ)
+pub starts-step : (f : FlushData) (before later : List FlushData) (last : Option (List ℕ × ℕ)) (index : ℕ) (starts whole : List ℕ)
     → option_map (λ l. l.0) last ≡ last_lines f.group before
-    → starts ++ starts_from place (folds_of before (f ∷ later)) ≡ whole
-    → starts_with place f.lines last starts ++ starts_from (place + 1) (folds_of (f ∷ before) later) ≡ whole
-starts-step f before later last place starts whole lines so_far =
+    → starts ++ starts_from index (folds_of before (f ∷ later)) ≡ whole
+    → starts_with index f.lines last starts ++ starts_from (index + 1) (folds_of (f ∷ before) later) ≡ whole
+starts-step f before later last index starts whole lines so_far =
     by (is_like_last f.lines last) (first-by f before last lines) ∙ so_far
   where
     rest : List ℕ
-    rest = starts_from (place + 1) (folds_of (f ∷ before) later)
+    rest = starts_from (index + 1) (folds_of (f ∷ before) later)
 
     by : (l : Bool) → ((run_of f before).count == 1) ≡ not l
-        → (if l then starts else starts ++ place ∷ []) ++ rest ≡ starts ++ (if (run_of f before).count == 1 then place ∷ rest else rest)
-    by true first = ap (λ (b : Bool). starts ++ (if b then place ∷ rest else rest)) (sym first)
+        → (if l then starts else starts ++ index ∷ []) ++ rest ≡ starts ++ (if (run_of f before).count == 1 then index ∷ rest else rest)
+    by true first = ap (λ (b : Bool). starts ++ (if b then index ∷ rest else rest)) (sym first)
     by false first =
-        append_assoc starts (place ∷ []) rest ∙ ap (λ (b : Bool). starts ++ (if b then place ∷ rest else rest)) (sym first)
+        append_assoc starts (index ∷ []) rest ∙ ap (λ (b : Bool). starts ++ (if b then index ∷ rest else rest)) (sym first)
 
 -- one more of each
 both : (groups : List GroupName) (runs : List Run) (f : FlushData) → length groups ≡ length runs
-    → length (groups ++ f.group ∷ []) ≡ length (runs ++ single f.moment ∷ [])
+    → length (groups ++ f.group ∷ []) ≡ length (runs ++ single f.time ∷ [])
 both groups runs f same =
-    length-append groups (f.group ∷ []) ∙ ap (λ (n : ℕ). n + 1) same ∙ sym (length-append runs (single f.moment ∷ []))
+    length-append groups (f.group ∷ []) ∙ ap (λ (n : ℕ). n + 1) same ∙ sym (length-append runs (single f.time ∷ []))
 
 -- there is a group for each run
 pub groups-step : (f : FlushData) (last : Option (List ℕ × ℕ)) (groups : List GroupName) (runs : List Run) → length groups ≡ length runs
-    → length (groups_with f last groups) ≡ length (runs_with f.moment f.lines last runs)
+    → length (groups_with f last groups) ≡ length (runs_with f.time f.lines last runs)
 groups-step f None groups runs same = both groups runs f same
 groups-step f (Some last) groups runs same = by (are_same_lines last.0 f.lines)
   where
     by : (l : Bool) → length (if l then groups else groups ++ f.group ∷ [])
-        ≡ length (if l then grown last.1 f.moment runs else runs ++ single f.moment ∷ [])
+        ≡ length (if l then grown last.1 f.time runs else runs ++ single f.time ∷ [])
     by true = same ∙ sym (length-set runs last.1 _)
     by false = both groups runs f same
 
@@ -419,26 +419,26 @@ lines-step old new f before number held moves name =
     by false = held name
 
 -- no run has more flushes than there are so far
-pub counts-step : (moment place : ℕ) (lines : List ℕ) (last : Option (List ℕ × ℕ)) (runs : List Run) → All (λ r. r.count ≤ place) runs
+pub counts-step : (time index : ℕ) (lines : List ℕ) (last : Option (List ℕ × ℕ)) (runs : List Run) → All (λ r. r.count ≤ index) runs
     → IfSome last (λ l. l.1 < length runs)
-    → All (λ r. r.count ≤ place + 1) (runs_with moment lines last runs)
-counts-step moment place lines last runs few inside = by last inside
+    → All (λ r. r.count ≤ index + 1) (runs_with time lines last runs)
+counts-step time index lines last runs few inside = by last inside
   where
-    more : All (λ (r : Run). r.count ≤ place + 1) runs
-    more = All-weaker (λ (r : Run). r.count ≤ place) (λ (r : Run). r.count ≤ place + 1) (λ r h. omega (arith, h)) runs few
+    more : All (λ (r : Run). r.count ≤ index + 1) runs
+    more = All-weaker (λ (r : Run). r.count ≤ index) (λ (r : Run). r.count ≤ index + 1) (λ r h. omega (arith, h)) runs few
 
-    begun : All (λ (r : Run). r.count ≤ place + 1) (runs ++ single moment ∷ [])
-    begun = All-push (λ (r : Run). r.count ≤ place + 1) runs (single moment) more (omega arith)
+    begun : All (λ (r : Run). r.count ≤ index + 1) (runs ++ single time ∷ [])
+    begun = All-push (λ (r : Run). r.count ≤ index + 1) runs (single time) more (omega arith)
 
-    by : (o : Option (List ℕ × ℕ)) → IfSome o (λ l. l.1 < length runs) → All (λ r. r.count ≤ place + 1) (runs_with moment lines o runs)
+    by : (o : Option (List ℕ × ℕ)) → IfSome o (λ l. l.1 < length runs) → All (λ r. r.count ≤ index + 1) (runs_with time lines o runs)
     by None inside = begun
     by (Some l) inside = either (are_same_lines l.0 lines)
       where
-        was : (get_or runs l.1 (single moment)).count ≤ place
-        was = All-get_or (λ (r : Run). r.count ≤ place) runs l.1 (single moment) inside few
+        was : (get_or runs l.1 (single time)).count ≤ index
+        was = All-get_or (λ (r : Run). r.count ≤ index) runs l.1 (single time) inside few
 
-        either : (s : Bool) → All (λ (r : Run). r.count ≤ place + 1) (if s then grown l.1 moment runs else runs ++ single moment ∷ [])
-        either true = All-set (λ (r : Run). r.count ≤ place + 1) runs l.1 _ (omega (arith, was)) more
+        either : (s : Bool) → All (λ (r : Run). r.count ≤ index + 1) (if s then grown l.1 time runs else runs ++ single time ∷ [])
+        either true = All-set (λ (r : Run). r.count ≤ index + 1) runs l.1 _ (omega (arith, was)) more
         either false = begun
 
 -- a number that a table has is one of a run
@@ -447,33 +447,33 @@ pub inside-held : (last : Option (List ℕ × ℕ)) (groups : List GroupName) (s
 inside-held None groups size name same known = known
 inside-held (Some l) groups size name same known = let inside = slice_get_within groups l.1 name known in omega (arith, inside, same)
 
--- the same of what is kept with a place
+-- the same of what is kept with an index
 pub inside-kept : (held : Option (ℕ × (List ℕ × ℕ))) (size : ℕ) → IfSome (kept_run held) (λ l. l.1 < size) → IfSome held (λ h. h.1.1 < size)
 inside-kept None size inside = inside
 inside-kept (Some h) size inside = inside
 
 -- one more flush before
-pub before_more : (f : PreviewedBegin → FlushData) (begins : List PreviewedBegin) (place : ℕ) (b : PreviewedBegin) → place < length begins → b ≡ get_or begins place b
-    → reverse (take (place + 1) (map f begins)) ≡ f b ∷ reverse (take place (map f begins))
-before_more f begins place b inside is =
-    let within : place < length (map f begins) = omega (arith, inside, length-map begins f) in
-    let here : get_or (map f begins) place (f b) ≡ f b = get_or-map f begins place b (f b) inside ∙ ap f (sym is) in
-    reverse_more (map f begins) place (f b) within ∙ ap (λ (g : FlushData). g ∷ reverse (take place (map f begins))) here
+pub before_more : (f : PreviewedBegin → FlushData) (begins : List PreviewedBegin) (index : ℕ) (b : PreviewedBegin) → index < length begins → b ≡ get_or begins index b
+    → reverse (take (index + 1) (map f begins)) ≡ f b ∷ reverse (take index (map f begins))
+before_more f begins index b inside is =
+    let within : index < length (map f begins) = omega (arith, inside, length-map begins f) in
+    let here : get_or (map f begins) index (f b) ≡ f b = get_or-map f begins index b (f b) inside ∙ ap f (sym is) in
+    reverse_more (map f begins) index (f b) within ∙ ap (λ (g : FlushData). g ∷ reverse (take index (map f begins))) here
 
 -- where the runs begin, once no flush is left
-pub starts-done : (flushes before : List FlushData) (place : ℕ) (starts whole : List ℕ) → length flushes ≤ place
-    → starts ++ starts_from place (folds_of before (drop place flushes)) ≡ whole → starts ≡ whole
-starts-done flushes before place starts whole past so_far =
+pub starts-done : (flushes before : List FlushData) (index : ℕ) (starts whole : List ℕ) → length flushes ≤ index
+    → starts ++ starts_from index (folds_of before (drop index flushes)) ≡ whole → starts ≡ whole
+starts-done flushes before index starts whole past so_far =
     sym (append-nil starts)
-    ∙ ap (λ (l : List FlushData). starts ++ starts_from place (folds_of before l)) (sym (drop_all place flushes past))
+    ∙ ap (λ (l : List FlushData). starts ++ starts_from index (folds_of before l)) (sym (drop_all index flushes past))
     ∙ so_far
 
 -- the runs, once no flush is left
-pub runs-done : (table : GroupName → Option (List ℕ × ℕ)) (groups : List GroupName) (flushes before : List FlushData) (place : ℕ) (runs whole : List Run)
-    → length groups ≡ length runs → length flushes ≤ place
-    → complete table (drop place flushes) 0 groups runs ++ runs_begun (folds_of before (drop place flushes)) ≡ whole → runs ≡ whole
-runs-done table groups flushes before place runs whole same past so_far =
+pub runs-done : (table : GroupName → Option (List ℕ × ℕ)) (groups : List GroupName) (flushes before : List FlushData) (index : ℕ) (runs whole : List Run)
+    → length groups ≡ length runs → length flushes ≤ index
+    → complete table (drop index flushes) 0 groups runs ++ runs_begun (folds_of before (drop index flushes)) ≡ whole → runs ≡ whole
+runs-done table groups flushes before index runs whole same past so_far =
     sym (complete-done table 0 groups runs same)
     ∙ sym (append-nil (complete table [] 0 groups runs))
-    ∙ ap (λ (l : List FlushData). complete table l 0 groups runs ++ runs_begun (folds_of before l)) (sym (drop_all place flushes past))
+    ∙ ap (λ (l : List FlushData). complete table l 0 groups runs ++ runs_begun (folds_of before l)) (sym (drop_all index flushes past))
     ∙ so_far

@@ -10,10 +10,10 @@ use Rattle.am_model.specs.declared.record.Reply.{Reply}
 use Rattle.am_model.specs.declared.record.Reply.TheVariants as reply_is
 use Rattle.am_model.specs.declared.views.RowView.{RowView}
 use Rattle.am_model.specs.Configured.{expiry_at}
-use Rattle.am_model.specs.Upkeep.{has_expired}
+use Rattle.am_model.specs.Maintenance.{has_expired}
 use Rattle.am_model.specs.look_back.Entry.{begin_named, begins_group, entry_in, logs, row_loaded, row_of_begin}
 use Rattle.am_model.specs.look_back.Entry.{row_of_flush, unless_collected}
-use Rattle.am_model.specs.look_back.Past.{Past, begin_of, is_flush_of, moment_at}
+use Rattle.am_model.specs.look_back.Past.{Past, begin_of, is_flush_of, time_at}
 use Rattle.am_model.proofs.states.Alike.{same_name-is}
 use Rattle.am_timeline.specs.declared.logbook.log.LastEntry.TheVariants.{Logged}
 use Rattle.am_timeline.specs.LastEntry.{LastEntriesAreRows, entry_of_row, expiry_in, last_entry}
@@ -40,7 +40,7 @@ flush-expiry config t i begun name past reply_is.Noted is = let h : false ≡ tr
 begin-expiry : (config : Config) (t i : ℕ) (name : GroupName) (begin : Past) → begins_group name begin ≡ true
     → expiry_if (row_of_begin config t i begin) ≡ Some (expiry_at config name t)
 begin-expiry config t i name [] is = let h : false ≡ true = is in cc
-begin-expiry config t i name (r ∷ past) is = flush-expiry config t i (moment_at (r ∷ past)) name past r.reply is
+begin-expiry config t i name (r ∷ past) is = flush-expiry config t i (time_at (r ∷ past)) name past r.reply is
 
 -- a call that logs a success names a flush of the group
 logs-names : (name : GroupName) (i : ℕ) (past : Past) (call : Call) → logs name i past call ≡ true
@@ -83,7 +83,7 @@ last_entries_are_rows config name i (r ∷ past) row at =
     by (λ e. last_entries_are_rows config name i past row e) (logs name i past r.call) refl (row_loaded name i r) at
   where
     t : ℕ
-    t = moment_at (r ∷ past)
+    t = time_at (r ∷ past)
 
     begun : Option RowView
     begun = row_of_begin config t i (begin_named past r.call)

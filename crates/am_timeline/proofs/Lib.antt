@@ -18,7 +18,7 @@ pub mod Reversed
 pub mod Likeness
 -- runs of like flushes, by a table of the last flush of each group
 pub mod Folds
--- where runs begin, in order, and the run that begins at a place
+-- where runs begin, in order, and the run that begins at an index
 pub mod Starts
 -- the groups of the alerts that matchers match, found one alert and one route at a time
 pub mod Filters

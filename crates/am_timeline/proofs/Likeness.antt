@@ -9,34 +9,34 @@ use Rattle.am_model.specs.declared.group.GroupName.{GroupName}
 use Rattle.am_model.specs.declared.preview.MutedAlert.{MutedAlert}
 use Rattle.am_model.specs.declared.preview.Preview.{Preview}
 use Rattle.am_model.specs.declared.reason.Reason.{Reason}
-use Rattle.am_model.specs.look_back.Reasons.{asks}
+use Rattle.am_model.specs.look_back.Reasons.{notifies}
 use Rattle.am_model.specs.Notice.{NoticeData}
 use Rattle.am_terms.specs.declared.event.PreviewedBegin.{PreviewedBegin}
 use Rattle.am_terms.specs.TimeFormatData.{TimeFormatData}
 use Rattle.am_timeline.specs.Alike.{AreAlike, is_unasked}
 use Rattle.am_timeline.specs.Playback.{PlaybackData, notices_at}
 use Rattle.am_timeline.specs.Runs.{lines_by, sends_nothing, start_frame}
-use Rattle.am_timeline.specs.Timeline.{FrameData, begun_lines, asked_lines, is_sent_nothing, muted_line, no_integrations_line, not_sent_line, nothing_left, nothing_left_line, quiet_line, quiet_lines, reason_text}
+use Rattle.am_timeline.specs.Timeline.{FrameData, begun_lines, notified_lines, is_sent_nothing, muted_line, no_integrations_line, not_sent_line, nothing_left, nothing_left_line, quiet_line, quiet_lines, reason_text}
 
 -- a preview
 abbrev preview_of : ℕ → GroupName → List MutedAlert → List Reason → Preview
-preview_of moment group muted reasons = record { moment = moment; group = group; muted = muted; reasons = reasons }
+preview_of time group muted reasons = record { time = time; group = group; muted = muted; reasons = reasons }
 
 -- a line on an integration that isn't asked is the same at another time, with other notices
 quiet_line-timeless : (config : Config) (times : TimeFormatData) (frame : FrameData) (t u : ℕ) (g : GroupName) (m : List MutedAlert) (rs : List Reason)
     (some others : List NoticeData) (position : ℕ) (r : Reason) → is_unasked r ≡ true
     → quiet_line config times frame (preview_of t g m rs) some position r ≡ quiet_line config times frame (preview_of u g m rs) others position r
-quiet_line-timeless config times frame t u g m rs some others position r h = by (asks r) h
+quiet_line-timeless config times frame t u g m rs some others position r h = by (notifies r) h
   where
-    told : List ℕ
-    told = not_sent_line config times frame (preview_of t g m rs) position (codes "all resolved, which it isn't sent")
+    sent_line : List ℕ
+    sent_line = not_sent_line config times frame (preview_of t g m rs) position (codes "all resolved, which it isn't sent")
 
     quiet : List ℕ
     quiet = not_sent_line config times frame (preview_of t g m rs) position (reason_text times r)
 
     by : (b : Bool) → not b ≡ true
-        → (if b then (if is_sent_nothing some position then told else []) else quiet)
-        ≡ (if b then (if is_sent_nothing others position then told else []) else quiet)
+        → (if b then (if is_sent_nothing some position then sent_line else []) else quiet)
+        ≡ (if b then (if is_sent_nothing others position then sent_line else []) else quiet)
     by true h = cc
     by false h = refl
 
@@ -56,7 +56,7 @@ quiet_lines-timeless config times frame t u g m rs some others position (r ∷ r
 abbrev shown : Config → TimeFormatData → FrameData → Preview → List NoticeData → List ℕ
 shown config times frame o notices =
     if nothing_left o.reasons then nothing_left_line config times frame o
-    else muted_line config times frame o ++ asked_lines config times frame o notices
+    else muted_line config times frame o ++ notified_lines config times frame o notices
 
 -- they are the same at another time, with other notices, where no integration is asked
 shown-timeless : (config : Config) (times : TimeFormatData) (frame : FrameData) (t u : ℕ) (g : GroupName) (m : List MutedAlert) (rs : List Reason)
@@ -72,8 +72,8 @@ shown-timeless config times frame t u g m rs some others h =
 shown-alike : (config : Config) (times : TimeFormatData) (frame : FrameData) (o p : Preview) (some others : List NoticeData) → AreAlike o p
     → shown config times frame o some ≡ shown config times frame p others
 shown-alike config times frame o p some others alike =
-    shown-timeless config times frame o.moment p.moment o.group o.muted o.reasons some others alike.1
-    ∙ (λ i. shown config times frame (preview_of p.moment (alike.0.0 i) (alike.0.1 i) (alike.0.2 i)) others)
+    shown-timeless config times frame o.time p.time o.group o.muted o.reasons some others alike.1
+    ∙ (λ i. shown config times frame (preview_of p.time (alike.0.0 i) (alike.0.1 i) (alike.0.2 i)) others)
 
 -- begins with previews that are alike are compared by the same lines, where neither sends anything or all have lines
 pub lines_by-alike : (all : Bool) (playback : PlaybackData) (times : TimeFormatData) (b c : PreviewedBegin) → AreAlike b.preview c.preview
@@ -83,7 +83,7 @@ lines_by-alike all playback times b c alike h = by all h
   where
     same : begun_lines playback times start_frame c ≡ begun_lines playback times start_frame b
     same =
-        sym (shown-alike playback.config times start_frame b.preview c.preview (notices_at playback.history b.place) (notices_at playback.history c.place) alike)
+        sym (shown-alike playback.config times start_frame b.preview c.preview (notices_at playback.history b.index) (notices_at playback.history c.index) alike)
 
     quiet : (x y : Bool) → (x && y) ≡ true
         → (if y then begun_lines playback times start_frame c else []) ≡ (if x then begun_lines playback times start_frame b else [])

@@ -7,14 +7,14 @@ use Rattle.std.specs.List.{list_any}
 use Rattle.std.specs.Option.{option_map_or, option_or}
 use Rattle.std.proofs.lemmas.Bool.{and_parts}
 use Rattle.std.proofs.lemmas.List.Folds.{list_any_more}
-use Rattle.am_alerts.specs.declared.limits.TheConstants.{MAX_MOMENT}
+use Rattle.am_alerts.specs.declared.limits.TheConstants.{MAX_TIME}
 use Rattle.am_retry.specs.declared.outcome.Outcome.{Outcome}
 use Rattle.am_model.specs.declared.group.GroupName.{GroupName}
 use Rattle.am_model.specs.declared.record.Call.{Call}
 use Rattle.am_model.specs.declared.record.Call.TheVariants.{Insert, Silence, Begin, Finish, Maintain, Forget, Load, Note}
 use Rattle.am_model.specs.declared.record.Record.{Record}
-use Rattle.am_model.specs.look_back.Entry.{asked_and_succeeded, begins_group, logs}
-use Rattle.am_model.specs.look_back.Past.{Past, begin_of, is_flush, is_flush_of, is_note, moment_at, was_noted}
+use Rattle.am_model.specs.look_back.Entry.{notified_and_succeeded, begins_group, logs}
+use Rattle.am_model.specs.look_back.Past.{Past, begin_of, is_flush, is_flush_of, is_note, time_at, was_noted}
 use Rattle.am_model.specs.Notice.{NoticeData}
 use Rattle.am_model.specs.Records.{now_of}
 use Rattle.am_timeline.specs.declared.logbook.log.LastEntry.{LastEntry}
@@ -97,7 +97,7 @@ finish_by last number outcomes name integration flush =
 abbrev finish_in : Past → ℕ → List (ℕ × Outcome) → GroupName → ℕ → Past → Bool
 finish_in last number outcomes name integration begin =
     begins_group name begin
-    && (asked_and_succeeded number outcomes last integration begin && not (was_noted number integration last))
+    && (notified_and_succeeded number outcomes last integration begin && not (was_noted number integration last))
 
 -- a finish logs by the record of its flush what it logs by looking back
 finish_logs-is : (last : Past) (number : ℕ) (outcomes : List (ℕ × Outcome)) (name : GroupName) (integration : ℕ) (past : Past)
@@ -153,10 +153,10 @@ in_table log name integration = get same_log_key log.logged (record { group = na
 abbrev is_noted : Log → ℕ → ℕ → Bool
 is_noted log number integration = contains same_note_key log.noted (record { number = number; integration = integration })
 
--- the entry after a record, where it logs a success at this moment or doesn't, and this was the entry before
+-- the entry after a record, where it logs a success at this time or doesn't, and this was the entry before
 abbrev entry_after : GroupName → ℕ → Record → ℕ → Option LastEntry → Bool → Option LastEntry
-entry_after name integration r moment old success =
-    if success then Some (entries.Logged moment) else option_or (entry_loaded name integration r) old
+entry_after name integration r time old success =
+    if success then Some (entries.Logged time) else option_or (entry_loaded name integration r) old
 
 -- what is kept of a past, and of one more record
 pub follows-more : (log new : Log) (r : Record) (past : Past)
@@ -165,10 +165,10 @@ pub follows-more : (log new : Log) (r : Record) (past : Past)
     → ((name : GroupName) (integration : ℕ) → in_table new name integration
     ≡ entry_after name integration r new.clock (in_table log name integration)
     (logs_by (λ (k : ℕ). get nat_eq log.begun k) (is_noted log) name integration r.call))
-    → new.clock ≡ max log.clock (min (now_of r.call) MAX_MOMENT)
+    → new.clock ≡ max log.clock (min (now_of r.call) MAX_TIME)
     → Follows log past → Follows new (r ∷ past)
 follows-more log new r past begun noted logged clock f =
-    let at : new.clock ≡ moment_at (r ∷ past) = clock ∙ ap (λ (t : ℕ). max t (min (now_of r.call) MAX_MOMENT)) f.clock in
+    let at : new.clock ≡ time_at (r ∷ past) = clock ∙ ap (λ (t : ℕ). max t (min (now_of r.call) MAX_TIME)) f.clock in
     let flushes : (λ (k : ℕ). get nat_eq log.begun k) ≡ flush_in past = λ j k. f.begun k j in
     let notes : is_noted log ≡ (λ (k i : ℕ). was_noted k i past) = λ j k i. f.noted k i j in
     record {
@@ -184,7 +184,7 @@ follows-more log new r past begun noted logged clock f =
           notes
           ∙ ap (λ (b : Bool). entry_after name integration r new.clock old b) (logs_by-is name integration past r.call)
           ∙ ap (λ (t : ℕ). entry_after name integration r t old (logs name integration past r.call)) at
-          ∙ ap (λ (o : Option LastEntry). entry_after name integration r (moment_at (r ∷ past)) o (logs name integration past r.call))
+          ∙ ap (λ (o : Option LastEntry). entry_after name integration r (time_at (r ∷ past)) o (logs name integration past r.call))
           (f.logged name integration);
       clock = at;
     }

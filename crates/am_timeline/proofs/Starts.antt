@@ -1,4 +1,4 @@
--- Where runs begin, in order, and the run that begins at a place.
+-- Where runs begin, in order, and the run that begins at an index.
 use Rattle.std.proofs.Common.{◌≡◌, ◌∙◌, ◌<◌, ◌≤◌, ◌||◌, ◌⊎◌, inl, inr, ℕ, suc, ◌+◌, Bool, true, false, not, List, [], ◌∷◌, Option, Some, None, ap, sym, refl, get_or, length, arith, if◌then◌else◌}
 use Rattle.std.specs.Prelude.{is_some, nat_lt, slice_get, zero}
 use Rattle.std.specs.Option.{option_map_or}
@@ -13,58 +13,58 @@ use Rattle.am_timeline.specs.Playback.{PlaybackData}
 use Rattle.am_timeline.specs.declared.runs.Run.{Run}
 use Rattle.am_timeline.specs.Runs.{FlushData, Fold, IsRising, event_lines_by_runs, first_runs, folded_event_lines, folded_lines, folds_of, run_at, run_lines, runs_begun, starts_from}
 
--- no place is before the first one
-rising-low : (low : ℕ) (places : List ℕ) → IsRising low places → (i : ℕ) → i < length places → low ≤ get_or places i 0
+-- no index is before the first one
+rising-low : (low : ℕ) (indexes : List ℕ) → IsRising low indexes → (i : ℕ) → i < length indexes → low ≤ get_or indexes i 0
 rising-low low [] rising i inside = absurd (omega (arith, inside))
-rising-low low (p ∷ places) rising zero inside = rising.0
-rising-low low (p ∷ places) rising (suc i) inside =
-    let rest = rising-low (p + 1) places rising.1 i (omega (arith, inside)) in
+rising-low low (p ∷ indexes) rising zero inside = rising.0
+rising-low low (p ∷ indexes) rising (suc i) inside =
+    let rest = rising-low (p + 1) indexes rising.1 i (omega (arith, inside)) in
     let first : low ≤ p = rising.0 in
     omega (arith, rest, first)
 
--- places in order don't fall
-pub rising-order : (low : ℕ) (places : List ℕ) → IsRising low places → (i j : ℕ) → i ≤ j → j < length places → get_or places i 0 ≤ get_or places j 0
+-- indexes in order don't fall
+pub rising-order : (low : ℕ) (indexes : List ℕ) → IsRising low indexes → (i j : ℕ) → i ≤ j → j < length indexes → get_or indexes i 0 ≤ get_or indexes j 0
 rising-order low [] rising i j order inside = absurd (omega (arith, inside))
-rising-order low (p ∷ places) rising zero zero order inside = omega arith
-rising-order low (p ∷ places) rising zero (suc j) order inside =
-    let rest = rising-low (p + 1) places rising.1 j (omega (arith, inside)) in
+rising-order low (p ∷ indexes) rising zero zero order inside = omega arith
+rising-order low (p ∷ indexes) rising zero (suc j) order inside =
+    let rest = rising-low (p + 1) indexes rising.1 j (omega (arith, inside)) in
     omega (arith, rest)
-rising-order low (p ∷ places) rising (suc i) zero order inside = absurd (omega (arith, order))
-rising-order low (p ∷ places) rising (suc i) (suc j) order inside =
-    rising-order (p + 1) places rising.1 i j (omega (arith, order)) (omega (arith, inside))
+rising-order low (p ∷ indexes) rising (suc i) zero order inside = absurd (omega (arith, order))
+rising-order low (p ∷ indexes) rising (suc i) (suc j) order inside =
+    rising-order (p + 1) indexes rising.1 i j (omega (arith, order)) (omega (arith, inside))
 
--- the run that begins at a place is the one of the place's number
-pub run_at-found : (low : ℕ) (places : List ℕ) (runs : List Run) (place i : ℕ) (d : Run) → IsRising low places → length places ≡ length runs
-    → i < length places → get_or places i 0 ≡ place → run_at place places runs ≡ Some (get_or runs i d)
-run_at-found low [] runs place i d rising same inside is = absurd (omega (arith, inside))
-run_at-found low (p ∷ places) [] place i d rising same inside is = absurd (omega (arith, same))
-run_at-found low (p ∷ places) (s ∷ runs) place zero d rising same inside is =
-    ap (λ (b : Bool). if b then Some s else run_at place places runs) (eq-eqb p place is)
-run_at-found low (p ∷ places) (s ∷ runs) place (suc i) d rising same inside is =
-    let after = rising-low (p + 1) places rising.1 i (omega (arith, inside)) in
-    ap (λ (b : Bool). if b then Some s else run_at place places runs) (ne_eqb p place (omega (arith, after, is)))
-    ∙ run_at-found (p + 1) places runs place i d rising.1 (omega (arith, same)) (omega (arith, inside)) is
+-- the run that begins at an index is the one of the index's number
+pub run_at-found : (low : ℕ) (indexes : List ℕ) (runs : List Run) (index i : ℕ) (d : Run) → IsRising low indexes → length indexes ≡ length runs
+    → i < length indexes → get_or indexes i 0 ≡ index → run_at index indexes runs ≡ Some (get_or runs i d)
+run_at-found low [] runs index i d rising same inside is = absurd (omega (arith, inside))
+run_at-found low (p ∷ indexes) [] index i d rising same inside is = absurd (omega (arith, same))
+run_at-found low (p ∷ indexes) (s ∷ runs) index zero d rising same inside is =
+    ap (λ (b : Bool). if b then Some s else run_at index indexes runs) (eq-eqb p index is)
+run_at-found low (p ∷ indexes) (s ∷ runs) index (suc i) d rising same inside is =
+    let after = rising-low (p + 1) indexes rising.1 i (omega (arith, inside)) in
+    ap (λ (b : Bool). if b then Some s else run_at index indexes runs) (ne_eqb p index (omega (arith, after, is)))
+    ∙ run_at-found (p + 1) indexes runs index i d rising.1 (omega (arith, same)) (omega (arith, inside)) is
 
--- no run begins at a place that isn't there
-pub run_at-missing : (places : List ℕ) (runs : List Run) (place : ℕ) → ((k : ℕ) → k < length places → get_or places k 0 ≡ place → ⊥)
-    → run_at place places runs ≡ None
-run_at-missing [] runs place missing = refl
-run_at-missing (p ∷ places) [] place missing = refl
-run_at-missing (p ∷ places) (s ∷ runs) place missing =
-    ap (λ (b : Bool). if b then Some s else run_at place places runs) (ne_eqb p place (missing 0 (omega arith)))
-    ∙ run_at-missing places runs place (λ k inside. missing (suc k) (omega (arith, inside)))
+-- no run begins at an index that isn't there
+pub run_at-missing : (indexes : List ℕ) (runs : List Run) (index : ℕ) → ((k : ℕ) → k < length indexes → get_or indexes k 0 ≡ index → ⊥)
+    → run_at index indexes runs ≡ None
+run_at-missing [] runs index missing = refl
+run_at-missing (p ∷ indexes) [] index missing = refl
+run_at-missing (p ∷ indexes) (s ∷ runs) index missing =
+    ap (λ (b : Bool). if b then Some s else run_at index indexes runs) (ne_eqb p index (missing 0 (omega arith)))
+    ∙ run_at-missing indexes runs index (λ k inside. missing (suc k) (omega (arith, inside)))
 
 -- nor at one between two that follow each other
-pub run_at-gap : (places : List ℕ) (runs : List Run) (place i : ℕ) → ((k : ℕ) → k < i → get_or places k 0 < place)
-    → ((k : ℕ) → i ≤ k → k < length places → place < get_or places k 0) → run_at place places runs ≡ None
-run_at-gap places runs place i low high =
-    run_at-missing places runs place (λ k inside is. either k is (cases_lt k i) inside)
+pub run_at-gap : (indexes : List ℕ) (runs : List Run) (index i : ℕ) → ((k : ℕ) → k < i → get_or indexes k 0 < index)
+    → ((k : ℕ) → i ≤ k → k < length indexes → index < get_or indexes k 0) → run_at index indexes runs ≡ None
+run_at-gap indexes runs index i low high =
+    run_at-missing indexes runs index (λ k inside is. either k is (cases_lt k i) inside)
   where
-    either : (k : ℕ) → get_or places k 0 ≡ place → (k < i) ⊎ (i ≤ k) → k < length places → ⊥
+    either : (k : ℕ) → get_or indexes k 0 ≡ index → (k < i) ⊎ (i ≤ k) → k < length indexes → ⊥
     either k is (inl below) inside = let less = low k below in omega (arith, less, is)
     either k is (inr above) inside = let more = high k above inside in omega (arith, more, is)
 
--- the places of what begins a run are in order
+-- the indexes of what begins a run are in order
 pub starts-rising : (low n : ℕ) (folds : List Fold) → low ≤ n → IsRising low (starts_from n folds)
 starts-rising low n [] below = tt
 starts-rising low n (f ∷ folds) below =
@@ -90,43 +90,43 @@ starts-length n (f ∷ folds) = by f.is_first (starts-length (n + 1) folds)
 abbrev run_begun : Fold → Option Run
 run_begun f = if f.is_first then Some f.run else None
 
--- no run begins before the first of these places
-run_at-before : (place n : ℕ) (folds : List Fold) → place < n → run_at place (starts_from n folds) (runs_begun folds) ≡ None
-run_at-before place n [] below = refl
-run_at-before place n (f ∷ folds) below = by f.is_first (run_at-before place (n + 1) folds (omega (arith, below)))
+-- no run begins before the first of these indexes
+run_at-before : (index n : ℕ) (folds : List Fold) → index < n → run_at index (starts_from n folds) (runs_begun folds) ≡ None
+run_at-before index n [] below = refl
+run_at-before index n (f ∷ folds) below = by f.is_first (run_at-before index (n + 1) folds (omega (arith, below)))
   where
-    by : (b : Bool) → run_at place (starts_from (n + 1) folds) (runs_begun folds) ≡ None
-        → run_at place (if b then n ∷ starts_from (n + 1) folds else starts_from (n + 1) folds) (if b then f.run ∷ runs_begun folds else runs_begun folds) ≡ None
-    by true rest = ap (λ (e : Bool). if e then Some f.run else run_at place (starts_from (n + 1) folds) (runs_begun folds)) (ne_eqb n place (omega (arith, below))) ∙ rest
+    by : (b : Bool) → run_at index (starts_from (n + 1) folds) (runs_begun folds) ≡ None
+        → run_at index (if b then n ∷ starts_from (n + 1) folds else starts_from (n + 1) folds) (if b then f.run ∷ runs_begun folds else runs_begun folds) ≡ None
+    by true rest = ap (λ (e : Bool). if e then Some f.run else run_at index (starts_from (n + 1) folds) (runs_begun folds)) (ne_eqb n index (omega (arith, below))) ∙ rest
     by false rest = rest
 
--- the run that begins at a place is the one that the flush there begins
-run_at-from : (folds : List Fold) (n k place : ℕ) → place ≡ n + k
-    → run_at place (starts_from n folds) (runs_begun folds) ≡ option_map_or run_begun (slice_get folds k) None
-run_at-from [] n k place is = refl
-run_at-from (f ∷ folds) n zero place is = by f.is_first
+-- the run that begins at an index is the one that the flush there begins
+run_at-from : (folds : List Fold) (n k index : ℕ) → index ≡ n + k
+    → run_at index (starts_from n folds) (runs_begun folds) ≡ option_map_or run_begun (slice_get folds k) None
+run_at-from [] n k index is = refl
+run_at-from (f ∷ folds) n zero index is = by f.is_first
   where
-    by : (b : Bool) → run_at place (if b then n ∷ starts_from (n + 1) folds else starts_from (n + 1) folds) (if b then f.run ∷ runs_begun folds else runs_begun folds)
+    by : (b : Bool) → run_at index (if b then n ∷ starts_from (n + 1) folds else starts_from (n + 1) folds) (if b then f.run ∷ runs_begun folds else runs_begun folds)
         ≡ (if b then Some f.run else None)
-    by true = ap (λ (e : Bool). if e then Some f.run else run_at place (starts_from (n + 1) folds) (runs_begun folds)) (eq-eqb n place (omega (arith, is)))
-    by false = run_at-before place (n + 1) folds (omega (arith, is))
-run_at-from (f ∷ folds) n (suc k) place is = by f.is_first (run_at-from folds (n + 1) k place (omega (arith, is)))
+    by true = ap (λ (e : Bool). if e then Some f.run else run_at index (starts_from (n + 1) folds) (runs_begun folds)) (eq-eqb n index (omega (arith, is)))
+    by false = run_at-before index (n + 1) folds (omega (arith, is))
+run_at-from (f ∷ folds) n (suc k) index is = by f.is_first (run_at-from folds (n + 1) k index (omega (arith, is)))
   where
-    by : (b : Bool) → run_at place (starts_from (n + 1) folds) (runs_begun folds) ≡ option_map_or run_begun (slice_get folds k) None
-        → run_at place (if b then n ∷ starts_from (n + 1) folds else starts_from (n + 1) folds) (if b then f.run ∷ runs_begun folds else runs_begun folds)
+    by : (b : Bool) → run_at index (starts_from (n + 1) folds) (runs_begun folds) ≡ option_map_or run_begun (slice_get folds k) None
+        → run_at index (if b then n ∷ starts_from (n + 1) folds else starts_from (n + 1) folds) (if b then f.run ∷ runs_begun folds else runs_begun folds)
         ≡ option_map_or run_begun (slice_get folds k) None
-    by true rest = ap (λ (e : Bool). if e then Some f.run else run_at place (starts_from (n + 1) folds) (runs_begun folds)) (ne_eqb n place (omega (arith, is))) ∙ rest
+    by true rest = ap (λ (e : Bool). if e then Some f.run else run_at index (starts_from (n + 1) folds) (runs_begun folds)) (ne_eqb n index (omega (arith, is))) ∙ rest
     by false rest = rest
 
 -- the same from the start
-run_at-is : (folds : List Fold) (place : ℕ) → run_at place (starts_from 0 folds) (runs_begun folds) ≡ option_map_or run_begun (slice_get folds place) None
-run_at-is folds place = run_at-from folds 0 place place (omega arith)
+run_at-is : (folds : List Fold) (index : ℕ) → run_at index (starts_from 0 folds) (runs_begun folds) ≡ option_map_or run_begun (slice_get folds index) None
+run_at-is folds index = run_at-from folds 0 index index (omega arith)
 
 -- the lines on an event go by the runs and where they begin
 pub event_lines-by : (playback : PlaybackData) (times : TimeFormatData) (folds : List Fold) (e : Event)
     → event_lines_by_runs playback times (first_runs folds) e ≡ folded_event_lines playback times folds e
 event_lines-by playback times folds (Sent begin report) = refl
-event_lines-by playback times folds (Begun place) = by (slice_get playback.begins place)
+event_lines-by playback times folds (Begun index) = by (slice_get playback.begins index)
   where
     lines : (b : PreviewedBegin) (o : Option Fold)
         → option_map_or (run_lines playback times b) (option_map_or run_begun o None) [] ≡ option_map_or (folded_lines playback times b) o []
@@ -139,16 +139,16 @@ event_lines-by playback times folds (Begun place) = by (slice_get playback.begin
         own false = refl
 
     by : (o : Option PreviewedBegin)
-        → option_map_or (λ b. option_map_or (run_lines playback times b) (run_at place (starts_from 0 folds) (runs_begun folds)) []) o []
-        ≡ option_map_or (λ b. option_map_or (folded_lines playback times b) (slice_get folds place) []) o []
+        → option_map_or (λ b. option_map_or (run_lines playback times b) (run_at index (starts_from 0 folds) (runs_begun folds)) []) o []
+        ≡ option_map_or (λ b. option_map_or (folded_lines playback times b) (slice_get folds index) []) o []
     by None = refl
     by (Some b) =
-        ap (λ (r : Option Run). option_map_or (run_lines playback times b) r []) (run_at-is folds place) ∙ lines b (slice_get folds place)
+        ap (λ (r : Option Run). option_map_or (run_lines playback times b) r []) (run_at-is folds index) ∙ lines b (slice_get folds index)
 
 -- what a list has past its end, and within
-within : (folds : List Fold) (place : ℕ) → not (nat_lt place (length folds)) || is_some (option_map_or run_begun (slice_get folds place) None)
-    ≡ option_map_or (λ f. f.is_first) (slice_get folds place) true
-within folds place = either (cases_lt place (length folds))
+within : (folds : List Fold) (index : ℕ) → not (nat_lt index (length folds)) || is_some (option_map_or run_begun (slice_get folds index) None)
+    ≡ option_map_or (λ f. f.is_first) (slice_get folds index) true
+within folds index = either (cases_lt index (length folds))
   where
     none : Fold
     none = record { is_first = true; run = record { count = 0; until = 0 } }
@@ -163,23 +163,23 @@ within folds place = either (cases_lt place (length folds))
         ∙ own f.is_first f.run
         ∙ ap (λ (x : Option Fold). option_map_or (λ f. f.is_first) x true) (sym is)
 
-    either : (place < length folds) ⊎ (length folds ≤ place)
-        → not (nat_lt place (length folds)) || is_some (option_map_or run_begun (slice_get folds place) None)
-        ≡ option_map_or (λ f. f.is_first) (slice_get folds place) true
+    either : (index < length folds) ⊎ (length folds ≤ index)
+        → not (nat_lt index (length folds)) || is_some (option_map_or run_begun (slice_get folds index) None)
+        ≡ option_map_or (λ f. f.is_first) (slice_get folds index) true
     either (inl inside) =
-        ap (λ (b : Bool). not b || is_some (option_map_or run_begun (slice_get folds place) None)) (lt-ltb place (length folds) inside)
-        ∙ there (slice_get folds place) (get_or folds place none) (slice_get-get_or folds place none inside)
+        ap (λ (b : Bool). not b || is_some (option_map_or run_begun (slice_get folds index) None)) (lt-ltb index (length folds) inside)
+        ∙ there (slice_get folds index) (get_or folds index none) (slice_get-get_or folds index none inside)
     either (inr past) =
-        ap (λ (b : Bool). not b || is_some (option_map_or run_begun (slice_get folds place) None)) (le-ltb place (length folds) past)
-        ∙ ap (λ (x : Option Fold). option_map_or (λ f. f.is_first) x true) (sym (slice_get_past folds place past))
+        ap (λ (b : Bool). not b || is_some (option_map_or run_begun (slice_get folds index) None)) (le-ltb index (length folds) past)
+        ∙ ap (λ (x : Option Fold). option_map_or (λ f. f.is_first) x true) (sym (slice_get_past folds index past))
 
 -- an event says something new by the runs and where they begin
 pub is_new-by : (folds : List Fold) (count : ℕ) (e : Event) → count ≡ length folds → is_new count (first_runs folds) e ≡ is_change folds e
 is_new-by folds count (Sent begin report) is = refl
-is_new-by folds count (Begun place) is =
-    ap (λ (n : ℕ). not (nat_lt place n) || is_some (run_at place (starts_from 0 folds) (runs_begun folds))) is
-    ∙ ap (λ (r : Option Run). not (nat_lt place (length folds)) || is_some r) (run_at-is folds place)
-    ∙ within folds place
+is_new-by folds count (Begun index) is =
+    ap (λ (n : ℕ). not (nat_lt index n) || is_some (run_at index (starts_from 0 folds) (runs_begun folds))) is
+    ∙ ap (λ (r : Option Run). not (nat_lt index (length folds)) || is_some r) (run_at-is folds index)
+    ∙ within folds index
 
 -- something becomes of each flush
 pub folds_of-length : (before flushes : List FlushData) → length (folds_of before flushes) ≡ length flushes

@@ -3,12 +3,12 @@ use Rattle.std.specs.Prelude.{Bool, IsTrue, not}
 use Rattle.std.specs.List.{list_all}
 use Rattle.am_model.specs.declared.preview.Preview.{Preview}
 use Rattle.am_model.specs.declared.reason.Reason.{Reason}
-use Rattle.am_model.specs.look_back.Reasons.{asks}
+use Rattle.am_model.specs.look_back.Reasons.{notifies}
 use Rattle.am_terms.specs.Like.{IsLike}
 
 -- whether nobody is notified for a reason
 abbrev pub is_unasked : Reason → Bool
-is_unasked reason = not (asks reason)
+is_unasked reason = not (notifies reason)
 
 -- previews that are like each other, with reasons for which nobody is notified
 abbrev pub AreAlike : Preview → Preview → Type 0

@@ -2,6 +2,6 @@
 use Rattle.std.specs.Prelude.{Bool, ◌&&◌, ◌==◌}
 use Rattle.am_timeline.specs.declared.logbook.entries.FlushKey.{FlushKey}
 
--- whether two keys are of one place and integration
+-- whether two keys are of one index and integration
 abbrev pub same_flush_key : FlushKey → FlushKey → Bool
-same_flush_key a b = (a.place == b.place) && (a.integration == b.integration)
+same_flush_key a b = (a.index == b.index) && (a.integration == b.integration)

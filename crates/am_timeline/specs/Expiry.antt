@@ -8,7 +8,7 @@ use Rattle.am_model.specs.declared.record.Reply.{Reply}
 use Rattle.am_model.specs.declared.record.Reply.TheVariants.{Inserted, Silenced, NothingDue, Quiet, Flush}
 use Rattle.am_model.specs.declared.record.Reply.TheVariants.{Finished, Maintained, Forgotten, Loaded, Noted}
 use Rattle.am_model.specs.Configured.{route_of, integrations_named}
-use Rattle.am_model.specs.look_back.Past.{Past, moment_at, past_of}
+use Rattle.am_model.specs.look_back.Past.{Past, time_at, past_of}
 use Rattle.am_timeline.specs.declared.logbook.log.LastEntry.{LastEntry}
 use Rattle.am_timeline.specs.LastEntry.{expiry_in, last_entry}
 
@@ -45,9 +45,9 @@ expired_at config integration t past name =
 -- the same by the record that begins a flush of the group, after a past
 abbrev pub expired_before : Config → ℕ → Past → Record → Option ℕ
 expired_before config integration past r =
-    option_and_then (expired_at config integration (moment_at (r ∷ past)) past) (flush_group r.reply)
+    option_and_then (expired_at config integration (time_at (r ∷ past)) past) (flush_group r.reply)
 
--- expired: the same by the flush that began at a place
+-- expired: the same by the flush that began at an index
 abbrev pub expired : Config → List Record → ℕ → ℕ → Option ℕ
-expired config history place integration =
-    option_and_then (expired_before config integration (past_of (take place history))) (slice_get history place)
+expired config history index integration =
+    option_and_then (expired_before config integration (past_of (take index history))) (slice_get history index)

@@ -22,7 +22,7 @@ use Rattle.am_model.specs.declared.reason.Reason.{Reason}
 use Rattle.am_model.specs.declared.reason.Reason.TheVariants.{FirstNotice, NewAlert, AllResolved, NewlyResolved, Repeat, NothingLeft}
 use Rattle.am_model.specs.declared.reason.Reason.TheVariants.{NothingFiring, NotYet, RouteMuted}
 use Rattle.am_model.specs.Configured.{route_of, integration_text}
-use Rattle.am_model.specs.look_back.Reasons.{asks}
+use Rattle.am_model.specs.look_back.Reasons.{notifies}
 use Rattle.am_model.specs.Notice.{NoticeData}
 use Rattle.am_terms.specs.declared.event.Event.{Event}
 use Rattle.am_terms.specs.declared.event.Event.TheVariants.{Begun, Sent}
@@ -44,7 +44,7 @@ text_at name text = (name, string text)
 abbrev pub number_at : List ℕ → ℕ → Member
 number_at name n = (name, number (unsigned n))
 
--- members put into an object one after another: each goes to its place in the order of the names, and in place of one of its name
+-- members put into an object one after another: each goes to its index in the order of the names, and in place of one of its name
 unfoldable pub put_all : Members → List Member → Members
 put_all old [] = old
 put_all old (m ∷ more) = put_all (put m.0 m.1 old) more
@@ -122,7 +122,7 @@ reason_members (RouteMuted until) = timed_members (codes "route muted") (codes "
 abbrev pub expiry_members : ℕ → List Member
 expiry_members at = timed_members (codes "log entry expired") (codes "expired") at
 
--- why a notice was sent, where the log entry had expired at this moment, if it had
+-- why a notice was sent, where the log entry had expired at this time, if it had
 abbrev pub sent_reason_members : Option ℕ → Reason → List Member
 sent_reason_members expiry reason = option_map_or expiry_members (expiry_if_first expiry reason) (reason_members reason)
 
@@ -145,7 +145,7 @@ late_members s = if is_late s then number_at (codes "deadline") s.notice.deadlin
 abbrev pub outcome_members : SentData → List Member
 outcome_members s =
     text_at (codes "outcome") (outcome_word s.outcome) ∷ number_at (codes "attempts") s.report.attempts
-    ∷ number_at (codes "since") s.begin.preview.moment ∷ late_members s
+    ∷ number_at (codes "since") s.begin.preview.time ∷ late_members s
 
 -- the alerts of a notice that fire, and those that are resolved
 abbrev pub content_members : NoticeData → List Member
@@ -162,9 +162,9 @@ unfoldable pub sent_members : PlaybackData → TimeFormatData → SentData → R
 sent_members playback times s reason =
     sending_members playback.config times s ++ sent_reason_members (expiry_before playback s) reason ++ content_members s.notice
 
--- a begin, of which this is told
+-- a begin, of which this is reported
 abbrev pub begun_members : Config → TimeFormatData → List ℕ → Preview → List Member
-begun_members config times event o = event_members config times event o.moment o.group
+begun_members config times event o = event_members config times event o.time o.group
 
 -- the muted alerts of a begin
 abbrev pub muted_member : Preview → Member
@@ -179,17 +179,17 @@ unfoldable pub left_members : Config → TimeFormatData → Preview → List Mem
 left_members config times o =
     begun_members config times (codes "quiet") o ++ text_at (codes "reason") (codes "nothing left") ∷ muted_member o ∷ []
 
--- a group's receiver that is told nothing, since it has no integrations
+-- a group's receiver that is sent nothing, since it has no integrations
 unfoldable pub unasked_members : Config → TimeFormatData → Preview → List Member
 unasked_members config times o =
     begun_members config times (codes "quiet") o ++ receiver_member config o.group ∷ text_at (codes "reason") (codes "no integrations") ∷ []
 
--- why an integration is told nothing
+-- why an integration is sent nothing
 abbrev pub quiet_reason_members : Reason → List Member
 quiet_reason_members reason =
-    if asks reason then text_at (codes "reason") (codes "all resolved, which it isn't sent") ∷ [] else reason_members reason
+    if notifies reason then text_at (codes "reason") (codes "all resolved, which it isn't sent") ∷ [] else reason_members reason
 
--- an integration that is told nothing, and why
+-- an integration that is sent nothing, and why
 unfoldable pub quiet_members : Config → TimeFormatData → Preview → ℕ → Reason → List Member
 quiet_members config times o position reason =
     begun_members config times (codes "quiet") o ++ integration_members config o.group position ++ quiet_reason_members reason
@@ -210,7 +210,7 @@ members_line members = uncontrolled (compact_text (object members)) ++ codes "\n
 abbrev pub object_line : List Member → List ℕ
 object_line members = members_line (put_all no_members members)
 
--- the line on a notice whose sending came to its end, with the reason that was told of its integration; nothing where none was
+-- the line on a notice whose sending came to its end, with the reason that was reported of its integration; nothing where none was
 abbrev pub json_of_sent : PlaybackData → TimeFormatData → SentData → List ℕ
 json_of_sent playback times s =
     option_map_or (λ reason. object_line (sent_members playback times s reason))
@@ -223,7 +223,7 @@ json_of_muted config times o = if length o.muted == 0 then [] else object_line (
 -- the line on an integration at a begin: nothing where there is something to send
 abbrev pub json_of_quiet : Config → TimeFormatData → Preview → List NoticeData → ℕ → Reason → List ℕ
 json_of_quiet config times o notices position reason =
-    if asks reason && not (is_sent_nothing notices position) then [] else object_line (quiet_members config times o position reason)
+    if notifies reason && not (is_sent_nothing notices position) then [] else object_line (quiet_members config times o position reason)
 
 -- the lines on the integrations from a position on, at a begin
 abbrev pub json_of_reasons : Config → TimeFormatData → Preview → List NoticeData → ℕ → List Reason → List ℕ
@@ -232,17 +232,17 @@ json_of_reasons config times o notices position (reason ∷ reasons) =
     json_of_quiet config times o notices position reason ++ json_of_reasons config times o notices (position + 1) reasons
 
 -- the lines on the integrations at a begin at which something is left, or of which there is none
-abbrev pub json_of_asked : Config → TimeFormatData → Preview → List NoticeData → List ℕ
-json_of_asked config times o notices =
+abbrev pub json_of_notified : Config → TimeFormatData → Preview → List NoticeData → List ℕ
+json_of_notified config times o notices =
     if length o.reasons == 0 then object_line (unasked_members config times o)
     else json_of_reasons config times o notices 0 o.reasons
 
--- the lines on a begin: which alerts are muted, and who is told nothing
+-- the lines on a begin: which alerts are muted, and who is sent nothing
 abbrev pub json_of_begun : PlaybackData → TimeFormatData → PreviewedBegin → List ℕ
 json_of_begun playback times begin =
     if nothing_left begin.preview.reasons then object_line (left_members playback.config times begin.preview)
     else json_of_muted playback.config times begin.preview
-    ++ json_of_asked playback.config times begin.preview (notices_at playback.history begin.place)
+    ++ json_of_notified playback.config times begin.preview (notices_at playback.history begin.index)
 
 -- the lines on an event
 abbrev pub json_of_event : PlaybackData → TimeFormatData → Event → List ℕ

@@ -7,7 +7,7 @@ use Rattle.am_model.specs.declared.record.Record.{Record}
 use Rattle.am_model.specs.declared.views.RowView.{RowView}
 use Rattle.am_model.specs.Configured.{expiry_at}
 use Rattle.am_model.specs.look_back.Entry.{entry_in, logs, row_loaded}
-use Rattle.am_model.specs.look_back.Past.{Past, moment_at}
+use Rattle.am_model.specs.look_back.Past.{Past, time_at}
 use Rattle.am_timeline.specs.declared.logbook.log.LastEntry.{LastEntry}
 use Rattle.am_timeline.specs.declared.logbook.log.LastEntry.TheVariants.{Logged, Loaded}
 
@@ -23,7 +23,7 @@ entry_loaded name integration r = option_map entry_of_row (row_loaded name integ
 abbrev pub last_entry : GroupName → ℕ → Past → Option LastEntry
 last_entry name integration [] = None
 last_entry name integration (r ∷ past) =
-    if logs name integration past r.call then Some (Logged (moment_at (r ∷ past)))
+    if logs name integration past r.call then Some (Logged (time_at (r ∷ past)))
     else option_or (entry_loaded name integration r) (last_entry name integration past)
 
 -- when an entry of a group expires: that of a success as the configuration says, that of a row when the row does

@@ -10,7 +10,7 @@ use Rattle.am_model.specs.declared.record.Call.{Call}
 use Rattle.am_model.specs.declared.record.Call.TheVariants.{Insert, Silence, Begin, Finish, Maintain, Forget, Load, Note}
 use Rattle.am_model.specs.declared.record.Record.{Record}
 use Rattle.am_model.specs.Finish.{is_delivered}
-use Rattle.am_model.specs.look_back.Past.{Past, is_flush, is_flush_of, moment_at, notices_in, was_noted}
+use Rattle.am_model.specs.look_back.Past.{Past, is_flush, is_flush_of, time_at, notices_in, was_noted}
 use Rattle.am_model.specs.Notice.{NoticeData, is_nothing}
 use Rattle.am_model.specs.State.{same_name}
 use Rattle.am_model.specs.Ticket.{outcome_of}
@@ -61,4 +61,4 @@ pub record Follows (log : Log) (past : Past) : Type 0 where
       → contains same_note_key log.noted (record { number = number; integration = integration }) ≡ was_noted number integration past
   pub logged : (name : GroupName) (integration : ℕ)
       → get same_log_key log.logged (record { group = name; integration = integration }) ≡ last_entry name integration past
-  pub clock : log.clock ≡ moment_at past
+  pub clock : log.clock ≡ time_at past

@@ -42,27 +42,27 @@ pub record SentData : Type 0 where
   pub outcome : Outcome
   pub report : Report
 
--- the notices of the record at a place; none where no flush was opened there
+-- the notices of the record at an index; none where no flush was opened there
 abbrev pub notices_at : List Record → ℕ → List NoticeData
-notices_at history place = option_map_or (λ r. notices_in r.reply) (slice_get history place) []
+notices_at history index = option_map_or (λ r. notices_in r.reply) (slice_get history index) []
 
 -- the notice for an integration, if there is one
 abbrev pub notice_for : ℕ → List NoticeData → Option NoticeData
 notice_for integration notices = find (λ n. n.integration == integration) notices
 
--- what a notice that was begun at a place came to, as the finish of its flush in the later records says
+-- what a notice that was begun at an index came to, as the finish of its flush in the later records says
 abbrev pub outcome_after : List Record → ℕ → NoticeData → Option Outcome
-outcome_after history place n = outcome_of (outcomes_in n.ticket (drop (place + 1) history)) n.integration
+outcome_after history index n = outcome_of (outcomes_in n.ticket (drop (index + 1) history)) n.integration
 
 -- a notice that a report is on, with what it came to
 abbrev pub sent_as : List Record → PreviewedBegin → Report → NoticeData → Option SentData
 sent_as history begin report n =
-    option_map (λ outcome. record { begin = begin; notice = n; outcome = outcome; report = report }) (outcome_after history begin.place n)
+    option_map (λ outcome. record { begin = begin; notice = n; outcome = outcome; report = report }) (outcome_after history begin.index n)
 
 -- the notice of a begin that a report is on, if there is one
 abbrev pub sent_by : List Record → Report → PreviewedBegin → Option SentData
 sent_by history report begin =
-    option_and_then (sent_as history begin report) (notice_for report.integration (notices_at history begin.place))
+    option_and_then (sent_as history begin report) (notice_for report.integration (notices_at history begin.index))
 
 -- the notice whose sending came to its end by this, if there is one
 abbrev pub sent_of : PlaybackData → Event → Option SentData

@@ -20,16 +20,16 @@ use Rattle.am_terms.specs.TimeFormatData.{TimeFormatData}
 -- a flush: its group, when it began, and its lines, if it sends nothing
 pub record FlushData : Type 0 where
   pub group : GroupName
-  pub moment : ℕ
+  pub time : ℕ
   pub lines : List ℕ
 
 -- whether a begin sends nothing: no notice of its flush has an alert
 abbrev pub sends_nothing : List Record → PreviewedBegin → Bool
-sends_nothing history begin = list_all is_nothing (notices_at history begin.place)
+sends_nothing history begin = list_all is_nothing (notices_at history begin.index)
 
 -- the frame of lines that are compared: all have the time of the rehearsal's start
 abbrev pub start_frame : FrameData
-start_frame = record { moment = 0; ending = codes "\n" }
+start_frame = record { time = 0; ending = codes "\n" }
 
 -- the lines of a begin that sends nothing, as if it were at the rehearsal's start; nothing where it sends something
 abbrev pub quiet_text : PlaybackData → TimeFormatData → PreviewedBegin → List ℕ
@@ -44,7 +44,7 @@ lines_by all playback times begin =
 -- the flush of a begin
 abbrev pub flush_by : Bool → PlaybackData → TimeFormatData → PreviewedBegin → FlushData
 flush_by all playback times begin =
-    record { group = begin.preview.group; moment = begin.preview.moment; lines = lines_by all playback times begin }
+    record { group = begin.preview.group; time = begin.preview.time; lines = lines_by all playback times begin }
 
 -- the flush of each begin
 abbrev pub flushes_by : Bool → PlaybackData → TimeFormatData → List FlushData
@@ -61,14 +61,14 @@ likes group lines (f ∷ later) =
     if same_name f.group group then (if are_same_lines lines f.lines then f ∷ likes group lines later else [])
     else likes group lines later
 
--- the moment of the last of these flushes, or this one where there is none
-abbrev pub last_moment : ℕ → List FlushData → ℕ
-last_moment moment [] = moment
-last_moment moment (f ∷ later) = last_moment f.moment later
+-- the time of the last of these flushes, or this one where there is none
+abbrev pub last_time : ℕ → List FlushData → ℕ
+last_time time [] = time
+last_time time (f ∷ later) = last_time f.time later
 
 -- a flush and these that are like it, as a run
 abbrev pub run_with : FlushData → List FlushData → Run
-run_with f more = record { count = length more + 1; until = last_moment f.moment more }
+run_with f more = record { count = length more + 1; until = last_time f.time more }
 
 -- the run that a flush begins, if these follow it
 abbrev pub run_of : FlushData → List FlushData → Run
@@ -103,7 +103,7 @@ run_text times run = if run.count == 1 then [] else count_text times run
 
 -- the frame of a run's lines
 abbrev pub run_frame : TimeFormatData → Run → PreviewedBegin → FrameData
-run_frame times run begin = record { moment = begin.preview.moment; ending = run_text times run ++ codes "\n" }
+run_frame times run begin = record { time = begin.preview.time; ending = run_text times run ++ codes "\n" }
 
 -- the lines on a begin: those of its run, if it begins it
 abbrev pub folded_lines : PlaybackData → TimeFormatData → PreviewedBegin → Fold → List ℕ
@@ -133,38 +133,38 @@ begins_folded playback times = folds_of [] (flushes_by false playback times)
 abbrev pub short_timeline_text : PlaybackData → TimeFormatData → List ℕ
 short_timeline_text playback times = flat_map (folded_event_lines playback times (begins_folded playback times)) playback.events
 
--- the places of those that begin their runs, if these are from this place on
+-- the indexes of those that begin their runs, if these are from this index on
 abbrev pub starts_from : ℕ → List Fold → List ℕ
-starts_from place [] = []
-starts_from place (f ∷ folds) = if f.is_first then place ∷ starts_from (place + 1) folds else starts_from (place + 1) folds
+starts_from index [] = []
+starts_from index (f ∷ folds) = if f.is_first then index ∷ starts_from (index + 1) folds else starts_from (index + 1) folds
 
 -- the runs that these begin
 abbrev pub runs_begun : List Fold → List Run
 runs_begun [] = []
 runs_begun (f ∷ folds) = if f.is_first then f.run ∷ runs_begun folds else runs_begun folds
 
--- the places of those that begin their runs, and the runs
+-- the indexes of those that begin their runs, and the runs
 abbrev pub first_runs : List Fold → List ℕ × List Run
 first_runs folds = (starts_from 0 folds, runs_begun folds)
 
--- the run that begins at a place, if one does
+-- the run that begins at an index, if one does
 abbrev pub run_at : ℕ → List ℕ → List Run → Option Run
-run_at place [] runs = None
-run_at place (start ∷ starts) [] = None
-run_at place (start ∷ starts) (r ∷ runs) = if start == place then Some r else run_at place starts runs
+run_at index [] runs = None
+run_at index (start ∷ starts) [] = None
+run_at index (start ∷ starts) (r ∷ runs) = if start == index then Some r else run_at index starts runs
 
--- places in order, each one once, from this one on
+-- indexes in order, each one once, from this one on
 abbrev pub IsRising : ℕ → List ℕ → Type 0
 IsRising low [] = Unit {0}
-IsRising low (p ∷ places) = (low ≤ p) × IsRising (p + 1) places
+IsRising low (p ∷ indexes) = (low ≤ p) × IsRising (p + 1) indexes
 
 -- the lines on a begin that begins a run
 abbrev pub run_lines : PlaybackData → TimeFormatData → PreviewedBegin → Run → List ℕ
 run_lines playback times begin run = begun_lines playback times (run_frame times run begin) begin
 
--- the lines on a begin, which is at this place: those of the run that begins there, if one does
+-- the lines on a begin, which is at this index: those of the run that begins there, if one does
 abbrev pub lines_by_runs : PlaybackData → TimeFormatData → List ℕ × List Run → ℕ → PreviewedBegin → List ℕ
-lines_by_runs playback times folds place begin = option_map_or (run_lines playback times begin) (run_at place folds.0 folds.1) []
+lines_by_runs playback times folds index begin = option_map_or (run_lines playback times begin) (run_at index folds.0 folds.1) []
 
 -- the lines on an event, with these runs
 abbrev pub event_lines_by_runs : PlaybackData → TimeFormatData → List ℕ × List Run → Event → List ℕ
@@ -173,15 +173,15 @@ event_lines_by_runs playback times folds (Begun begin) =
 event_lines_by_runs playback times folds (Sent begin report) =
     option_map_or (sent_line playback times) (sent_of playback (Sent begin report)) []
 
--- a run of one flush that began at this moment
+-- a run of one flush that began at this time
 abbrev pub single : ℕ → Run
-single moment = record { count = 1; until = moment }
+single time = record { count = 1; until = time }
 
--- these runs, where the one of a number has one more flush, which began at this moment
+-- these runs, where the one of a number has one more flush, which began at this time
 abbrev pub grown : ℕ → ℕ → List Run → List Run
-grown number moment runs = set runs number (record { count = (get_or runs number (single moment)).count + 1; until = moment })
+grown number time runs = set runs number (record { count = (get_or runs number (single time)).count + 1; until = time })
 
--- what is kept of the last flush of a group, save its place: its lines, and the number of its run
+-- what is kept of the last flush of a group, save its index: its lines, and the number of its run
 abbrev pub kept_run : Option (ℕ × (List ℕ × ℕ)) → Option (List ℕ × ℕ)
 kept_run last = option_map (λ l. l.1) last
 
@@ -195,25 +195,25 @@ abbrev pub number_with : List ℕ → ℕ → Option (List ℕ × ℕ) → ℕ
 number_with lines size None = size
 number_with lines size (Some last) = if are_same_lines last.0 lines then last.1 else size
 
--- what is kept of a flush at a place with these lines
+-- what is kept of a flush at an index with these lines
 abbrev pub kept_of : ℕ → List ℕ → ℕ → Option (List ℕ × ℕ) → ℕ × (List ℕ × ℕ)
-kept_of place lines size last = (place, (lines, number_with lines size last))
+kept_of index lines size last = (index, (lines, number_with lines size last))
 
--- the runs so far, with a flush at a moment with these lines
+-- the runs so far, with a flush at a time with these lines
 abbrev pub runs_with : ℕ → List ℕ → Option (List ℕ × ℕ) → List Run → List Run
-runs_with moment lines None runs = runs ++ single moment ∷ []
-runs_with moment lines (Some last) runs = if are_same_lines last.0 lines then grown last.1 moment runs else runs ++ single moment ∷ []
+runs_with time lines None runs = runs ++ single time ∷ []
+runs_with time lines (Some last) runs = if are_same_lines last.0 lines then grown last.1 time runs else runs ++ single time ∷ []
 
--- the places of the first flushes of the runs so far, with a flush at a place with these lines
+-- the indexes of the first flushes of the runs so far, with a flush at an index with these lines
 abbrev pub starts_with : ℕ → List ℕ → Option (List ℕ × ℕ) → List ℕ → List ℕ
-starts_with place lines last starts = if is_like_last lines last then starts else starts ++ place ∷ []
+starts_with index lines last starts = if is_like_last lines last then starts else starts ++ index ∷ []
 
--- what is kept has the lines of the begin at its place
+-- what is kept has the lines of the begin at its index
 abbrev pub HasLines : Bool → PlaybackData → TimeFormatData → ℕ × (List ℕ × ℕ) → Type 0
 HasLines all playback times n = IfSome (slice_get playback.begins n.0) (λ b. n.1.0 ≡ lines_by all playback times b)
 
--- the begin at a place is compared by the same lines as this one
+-- the begin at an index is compared by the same lines as this one
 abbrev pub IsComparedAs : Bool → PlaybackData → PreviewedBegin → ℕ → Type 0
-IsComparedAs all playback begin place =
+IsComparedAs all playback begin index =
     (times : TimeFormatData)
-    → IsSomeAnd (slice_get playback.begins place) (λ b. lines_by all playback times b ≡ lines_by all playback times begin)
+    → IsSomeAnd (slice_get playback.begins index) (λ b. lines_by all playback times b ≡ lines_by all playback times begin)

@@ -32,7 +32,7 @@ abbrev pub end_of : Event → Option ℕ
 end_of (Begun begin) = None
 end_of (Sent begin report) = Some report.ended
 
--- the moment of an event, `none` where there is none
+-- the time of an event, `none` where there is none
 abbrev pub end_text : TimeFormatData → Option Event → List ℕ
 end_text times event = option_map_or times.text (option_and_then end_of event) (codes "none")
 

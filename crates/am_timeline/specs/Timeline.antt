@@ -17,7 +17,7 @@ use Rattle.am_model.specs.declared.reason.Reason.{Reason}
 use Rattle.am_model.specs.declared.reason.Reason.TheVariants.{FirstNotice, NewAlert, AllResolved, NewlyResolved, Repeat, NothingLeft}
 use Rattle.am_model.specs.declared.reason.Reason.TheVariants.{NothingFiring, NotYet, RouteMuted}
 use Rattle.am_model.specs.Configured.{route_of, integration_text}
-use Rattle.am_model.specs.look_back.Reasons.{asks}
+use Rattle.am_model.specs.look_back.Reasons.{notifies}
 use Rattle.am_model.specs.Notice.{NoticeData, is_nothing}
 use Rattle.am_terms.specs.declared.event.Event.{Event}
 use Rattle.am_terms.specs.declared.event.Event.TheVariants.{Begun, Sent}
@@ -31,7 +31,7 @@ use Rattle.am_terms.specs.TimeFormatData.{TimeFormatData, column}
 abbrev pub labels_of : AlertData → List Label
 labels_of a = a.labels
 
--- the front of a line: the moment, and a word
+-- the front of a line: the time, and a word
 abbrev pub time_text : TimeFormatData → ℕ → List ℕ → List ℕ
 time_text times at word = column times at ++ word
 
@@ -91,7 +91,7 @@ expiry_if_first expiry (RouteMuted until) = None
 abbrev pub expired_text : TimeFormatData → ℕ → List ℕ
 expired_text times at = codes "log entry expired at " ++ times.text at
 
--- why a notice was sent, where the log entry had expired at this moment, if it had
+-- why a notice was sent, where the log entry had expired at this time, if it had
 abbrev pub sent_reason_text : TimeFormatData → Option ℕ → Reason → List ℕ
 sent_reason_text times expiry reason = option_map_or (expired_text times) (expiry_if_first expiry reason) (reason_text times reason)
 
@@ -130,13 +130,13 @@ late_text times s = if is_late s then past_text times s.notice.deadline else []
 abbrev pub delivered_text : Config → TimeFormatData → SentData → List ℕ
 delivered_text config times s =
     time_text times s.report.ended (codes "notice  ") ++ target_shown config s.notice.group s.notice.integration
-    ++ codes " delivered" ++ retries_text times s.report.attempts s.begin.preview.moment ++ late_text times s
+    ++ codes " delivered" ++ retries_text times s.report.attempts s.begin.preview.time ++ late_text times s
 
 -- that a notice wasn't delivered, and what it came to
 abbrev pub failed_text : Config → TimeFormatData → SentData → List ℕ → List ℕ
 failed_text config times s word =
     time_text times s.report.ended (codes "failed  ") ++ target_shown config s.notice.group s.notice.integration
-    ++ word ++ attempts_text times s.report.attempts s.begin.preview.moment ++ late_text times s
+    ++ word ++ attempts_text times s.report.attempts s.begin.preview.time ++ late_text times s
 
 -- what a notice came to
 abbrev pub outcome_text : Outcome → Config → TimeFormatData → SentData → List ℕ
@@ -153,14 +153,14 @@ content_text times expiry reason n =
 
 -- when the log entry expired whose lack a notice found, if it had
 abbrev pub expiry_before : PlaybackData → SentData → Option ℕ
-expiry_before playback s = expired playback.config playback.history s.begin.place s.notice.integration
+expiry_before playback s = expired playback.config playback.history s.begin.index s.notice.integration
 
 -- a notice that was sent for a reason
 abbrev pub line_for : PlaybackData → TimeFormatData → SentData → Reason → List ℕ
 line_for playback times s reason =
     outcome_text s.outcome playback.config times s ++ content_text times (expiry_before playback s) reason s.notice
 
--- a notice whose sending came to its end, with the reason that was told of its integration; nothing where none was
+-- a notice whose sending came to its end, with the reason that was reported of its integration; nothing where none was
 abbrev pub sent_line : PlaybackData → TimeFormatData → SentData → List ℕ
 sent_line playback times s =
     option_map_or (line_for playback times s) (slice_get s.begin.preview.reasons s.notice.integration) []
@@ -189,18 +189,18 @@ muted_text times muted = join_by (muted_alert_text times) (codes "; ") muted
 
 -- how a line on a begin is framed: the time at its front, and what ends it
 pub record FrameData : Type 0 where
-  pub moment : ℕ
+  pub time : ℕ
   pub ending : List ℕ
 
 -- the frame of a line of its own: the time of its begin, and a line feed
 abbrev pub own_frame : Preview → FrameData
-own_frame o = record { moment = o.moment; ending = codes "\n" }
+own_frame o = record { time = o.time; ending = codes "\n" }
 
 -- a begin that some alerts of its group are muted at
 abbrev pub muted_line : Config → TimeFormatData → FrameData → Preview → List ℕ
 muted_line config times frame o =
     if length o.muted == 0 then []
-    else time_text times frame.moment (codes "muted   ") ++ group_shown config o.group ++ codes ": " ++ muted_text times o.muted
+    else time_text times frame.time (codes "muted   ") ++ group_shown config o.group ++ codes ": " ++ muted_text times o.muted
     ++ frame.ending
 
 -- what is left of a group: no alerts, or muted ones
@@ -210,18 +210,18 @@ nothing_left_text times muted = if length muted == 0 then codes "no alerts" else
 -- a begin at which nothing is left of its group
 abbrev pub nothing_left_line : Config → TimeFormatData → FrameData → Preview → List ℕ
 nothing_left_line config times frame o =
-    time_text times frame.moment (codes "quiet   ") ++ group_shown config o.group ++ codes ": " ++ nothing_left_text times o.muted
+    time_text times frame.time (codes "quiet   ") ++ group_shown config o.group ++ codes ": " ++ nothing_left_text times o.muted
     ++ frame.ending
 
--- a group's receiver that is told nothing, and why
+-- a group's receiver that is sent nothing, and why
 abbrev pub no_integrations_line : Config → TimeFormatData → FrameData → Preview → List ℕ → List ℕ
 no_integrations_line config times frame o why =
-    time_text times frame.moment (codes "quiet   ") ++ group_receiver_text config o.group ++ codes ": " ++ why ++ frame.ending
+    time_text times frame.time (codes "quiet   ") ++ group_receiver_text config o.group ++ codes ": " ++ why ++ frame.ending
 
--- an integration that is told nothing
+-- an integration that is sent nothing
 abbrev pub not_sent_text : Config → TimeFormatData → FrameData → Preview → ℕ → List ℕ
 not_sent_text config times frame o position =
-    time_text times frame.moment (codes "quiet   ") ++ target_shown config o.group position ++ codes ": "
+    time_text times frame.time (codes "quiet   ") ++ target_shown config o.group position ++ codes ": "
 
 -- the same, and why
 abbrev pub not_sent_line : Config → TimeFormatData → FrameData → Preview → ℕ → List ℕ → List ℕ
@@ -234,7 +234,7 @@ is_sent_nothing notices position = option_map_or is_nothing (notice_for position
 -- an integration at a begin: nothing where there is something to send
 abbrev pub quiet_line : Config → TimeFormatData → FrameData → Preview → List NoticeData → ℕ → Reason → List ℕ
 quiet_line config times frame o notices position reason =
-    if asks reason
+    if notifies reason
     then (if is_sent_nothing notices position
     then not_sent_line config times frame o position (codes "all resolved, which it isn't sent") else [])
     else not_sent_line config times frame o position (reason_text times reason)
@@ -262,17 +262,17 @@ abbrev pub nothing_left : List Reason → Bool
 nothing_left reasons = not (length reasons == 0) && list_all is_left reasons
 
 -- the integrations at a begin at which something is left, or of which there is none
-abbrev pub asked_lines : Config → TimeFormatData → FrameData → Preview → List NoticeData → List ℕ
-asked_lines config times frame o notices =
+abbrev pub notified_lines : Config → TimeFormatData → FrameData → Preview → List NoticeData → List ℕ
+notified_lines config times frame o notices =
     if length o.reasons == 0 then no_integrations_line config times frame o (codes "no integrations")
     else quiet_lines config times frame o notices 0 o.reasons
 
--- a begin: which alerts are muted, and who is told nothing
+-- a begin: which alerts are muted, and who is sent nothing
 abbrev pub begun_lines : PlaybackData → TimeFormatData → FrameData → PreviewedBegin → List ℕ
 begun_lines playback times frame begin =
     if nothing_left begin.preview.reasons then nothing_left_line playback.config times frame begin.preview
     else muted_line playback.config times frame begin.preview
-    ++ asked_lines playback.config times frame begin.preview (notices_at playback.history begin.place)
+    ++ notified_lines playback.config times frame begin.preview (notices_at playback.history begin.index)
 
 -- the lines on a begin, each with its own time
 abbrev pub own_lines : PlaybackData → TimeFormatData → PreviewedBegin → List ℕ

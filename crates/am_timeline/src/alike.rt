@@ -1,4 +1,4 @@
-//! Whether the previews of two flushes tell that their lines are the same. `runs` then makes the lines of one of them alone.
+//! Whether the previews of two flushes say that their lines are the same. `runs` then makes the lines of one of them alone.
 ghost use Rattle.std.specs.Prelude.{◌≡◌, IsTrue};
 ghost use Rattle.std.specs.List.{list_all};
 ghost use Rattle.am_timeline.specs.Alike.{AreAlike, is_unasked};
@@ -22,5 +22,5 @@ fn are_unasked(reasons: &[Reason]) -> bool
 fn is_unasked(reason: &Reason) -> bool
     ensures { result ≡ is_unasked reason.now }
 {
-    !reason.asks()
+    !reason.notifies()
 }

@@ -2,7 +2,7 @@
 //! calls it.
 ghost use Rattle.std.specs.Prelude.{◌≡◌, ◌++◌, OnOk, string_bytes};
 ghost use Rattle.std.specs.List.{list_all};
-ghost use Rattle.am_timeline.specs.Timeline.{asked_lines, begun_lines, is_left};
+ghost use Rattle.am_timeline.specs.Timeline.{notified_lines, begun_lines, is_left};
 ghost use Rattle.am_timeline.specs.Timeline.{is_sent_nothing, nothing_left_line, nothing_left_text, muted_line};
 ghost use Rattle.am_timeline.specs.Timeline.{nothing_left, quiet_line, quiet_lines};
 ghost use Rattle.am_timeline.specs.Timeline.{reason_text, no_integrations_line, not_sent_line, not_sent_text};
@@ -37,8 +37,8 @@ pub(crate) fn push_begun<C: TimeFormat>(
         return push_left(playback.config, clock, frame, &begin.preview, out);
     }
     push_muted_line(playback.config, clock, frame, &begin.preview, out)?;
-    let notices = notices_at(playback.history, begin.place);
-    push_asked(playback.config, clock, frame, &begin.preview, notices, out)
+    let notices = notices_at(playback.history, begin.index);
+    push_notified(playback.config, clock, frame, &begin.preview, notices, out)
 }
 
 /// Returns whether nothing is left of a group, by the reasons of its receiver's integrations.
@@ -74,7 +74,7 @@ fn push_left<C: TimeFormat>(
     ensures { OnOk result (string_bytes out.new
         ≡ string_bytes out.old ++ nothing_left_line config.now (C.times clock.now) frame.now preview.now) }
 {
-    push_time(clock, frame.moment, "quiet   ", out)?;
+    push_time(clock, frame.time, "quiet   ", out)?;
     push_group(config, preview.group(), out)?;
     out.push_str(": ")?;
     push_muted_or_none(clock, preview.muted(), out)?;
@@ -109,7 +109,7 @@ fn push_muted_line<C: TimeFormat>(
     if preview.muted().len() == 0 {
         return Ok(());
     }
-    push_time(clock, frame.moment, "muted   ", out)?;
+    push_time(clock, frame.time, "muted   ", out)?;
     push_group(config, preview.group(), out)?;
     out.push_str(": ")?;
     push_muted(clock, preview.muted(), out)?;
@@ -117,7 +117,7 @@ fn push_muted_line<C: TimeFormat>(
 }
 
 /// Adds the lines on the integrations at a begin.
-fn push_asked<C: TimeFormat>(
+fn push_notified<C: TimeFormat>(
     config: &Config,
     clock: &C,
     frame: &Frame<'_>,
@@ -126,7 +126,7 @@ fn push_asked<C: TimeFormat>(
     out: &mut String,
 ) -> Result<(), AllocError>
     ensures { OnOk result (string_bytes out.new
-        ≡ string_bytes out.old ++ asked_lines config.now (C.times clock.now) frame.now preview.now notices.now) }
+        ≡ string_bytes out.old ++ notified_lines config.now (C.times clock.now) frame.now preview.now notices.now) }
 {
     if preview.reasons().len() == 0 {
         return push_unasked(config, clock, frame, preview, "no integrations", out);
@@ -167,8 +167,8 @@ fn push_quiet<C: TimeFormat>(
     ensures { OnOk result (string_bytes out.new ≡ string_bytes out.old
         ++ quiet_line config.now (C.times clock.now) frame.now preview.now notices.now position reason.now) }
 {
-    if !reason.asks() {
-        return push_not_asked(config, clock, frame, preview, position, reason, out);
+    if !reason.notifies() {
+        return push_not_notified(config, clock, frame, preview, position, reason, out);
     }
     if is_sent_nothing(notices, position) {
         let why = "all resolved, which it isn't sent";
@@ -177,7 +177,7 @@ fn push_quiet<C: TimeFormat>(
     Ok(())
 }
 
-fn push_not_asked<C: TimeFormat>(
+fn push_not_notified<C: TimeFormat>(
     config: &Config,
     clock: &C,
     frame: &Frame<'_>,
@@ -222,7 +222,7 @@ fn push_untold_front<C: TimeFormat>(
     ensures { OnOk result (string_bytes out.new ≡ string_bytes out.old
         ++ not_sent_text config.now (C.times clock.now) frame.now preview.now position) }
 {
-    push_time(clock, frame.moment, "quiet   ", out)?;
+    push_time(clock, frame.time, "quiet   ", out)?;
     push_target(config, preview.group(), position, out)?;
     out.push_str(": ")
 }
@@ -249,7 +249,7 @@ fn push_unasked<C: TimeFormat>(
     ensures { OnOk result (string_bytes out.new
         ≡ string_bytes out.old ++ no_integrations_line config.now (C.times clock.now) frame.now preview.now why.now) }
 {
-    push_time(clock, frame.moment, "quiet   ", out)?;
+    push_time(clock, frame.time, "quiet   ", out)?;
     push_group_receiver(config, preview.group(), out)?;
     out.push_str(": ")?;
     out.push_str(why)?;

@@ -1,9 +1,9 @@
 //! What the delivered notices of two rehearsals of one story differ in, as text. `am_rehearse` prints it.
 //!
-//! Two notices are the same if they are for one integration of one receiver and tell the same alerts. One integration is
+//! Two notices are the same if they are for one integration of one receiver and say the same alerts. One integration is
 //! the one of the same kind that has as many of its kind before it in its receiver: one of another kind beside it changes
 //! its position, and nothing here. Of the same notices those of one time are paired first. Of what is left the first of
-//! one rehearsal is paired with the first of the other, and so on: these have moved. An alert is told if a delivered
+//! one rehearsal is paired with the first of the other, and so on: these have moved. An alert is reported if a delivered
 //! notice has it, as firing or as resolved, as for `am_undelivered`. Cost: the notices of both, sorted.
 use crate::alerts::push_alerts;
 use crate::groups::push_integration;
@@ -25,7 +25,7 @@ const HOUR: u64 = 3_600_000;
 #[derive(Drop)]
 pub struct Comparison {
     /// A line for each notice that differs, by time; then a line for each receiver that differs, and for each alert that
-    /// only one of the two rehearsals tells of.
+    /// only one of the two rehearsals says of.
     pub text: String,
     /// Whether a notice differs.
     pub differs: bool,
@@ -40,7 +40,7 @@ enum Side {
 
 /// A delivered notice.
 #[derive(Drop)]
-struct Told {
+struct SentNotice {
     side: Side,
     /// When its sending ended, in milliseconds.
     at: u64,
@@ -61,9 +61,9 @@ struct Difference {
     line: String,
 }
 
-/// An alert that a delivered notice tells, as firing or as resolved.
+/// An alert that a delivered notice says, as firing or as resolved.
 #[derive(Drop)]
-struct Heard {
+struct ListedAlert {
     side: Side,
     alert: String,
 }
@@ -91,7 +91,7 @@ struct HourCounts {
     counts: Counts,
 }
 
-/// The notices that tell an alert.
+/// The notices that say an alert.
 #[derive(Drop)]
 struct AlertCounts<'t> {
     alert: &'t str,
@@ -105,34 +105,48 @@ pub fn compare_notices<C: TimeFormat>(
     new: &Playback<'_>,
     clock: &C,
 ) -> Result<Comparison, AllocError> {
-    let mut told = Vec::new(alloc);
-    let mut heard = Vec::new(alloc);
-    add_notices(alloc, Side::Old, old, clock, &mut told, &mut heard)?;
-    add_notices(alloc, Side::New, new, clock, &mut told, &mut heard)?;
-    told.sort_unstable_by(by_content);
-    let differences = differences_of(alloc, told.as_slice(), clock)?;
+    let mut sent_notices = Vec::new(alloc);
+    let mut listed_alerts = Vec::new(alloc);
+    add_notices(
+        alloc,
+        Side::Old,
+        old,
+        clock,
+        &mut sent_notices,
+        &mut listed_alerts,
+    )?;
+    add_notices(
+        alloc,
+        Side::New,
+        new,
+        clock,
+        &mut sent_notices,
+        &mut listed_alerts,
+    )?;
+    sent_notices.sort_unstable_by(by_content);
+    let differences = differences_of(alloc, sent_notices.as_slice(), clock)?;
     let differs = !differences.is_empty();
     let mut text = String::new(alloc);
     if differs {
         push_differences(differences, &mut text)?;
         let mut summary = String::new(alloc);
-        told.sort_unstable_by(by_receiver);
-        push_receivers(alloc, told.as_slice(), clock, &mut summary)?;
-        heard.sort_unstable_by(by_alert);
-        push_heard(alloc, heard.as_slice(), &mut summary)?;
+        sent_notices.sort_unstable_by(by_receiver);
+        push_receivers(alloc, sent_notices.as_slice(), clock, &mut summary)?;
+        listed_alerts.sort_unstable_by(by_alert);
+        push_listed(alloc, listed_alerts.as_slice(), &mut summary)?;
         if !summary.is_empty() {
             text.push('\n')?;
             text.push_str(summary.as_str())?;
         }
     } else {
-        let count = told.len() / 2;
+        let count = sent_notices.len() / 2;
         write!(text, "no difference in {count} notices\n")?;
     }
     Ok(Comparison { text, differs })
 }
 
 /// The same notices follow each other by time, and of one time the old ones come first.
-fn by_content(one: &Told, other: &Told) -> Ordering {
+fn by_content(one: &SentNotice, other: &SentNotice) -> Ordering {
     one.ranked
         .as_str()
         .cmp(other.ranked.as_str())
@@ -141,7 +155,7 @@ fn by_content(one: &Told, other: &Told) -> Ordering {
         .then(number(one.side).cmp(&number(other.side)))
 }
 
-fn by_receiver(one: &Told, other: &Told) -> Ordering {
+fn by_receiver(one: &SentNotice, other: &SentNotice) -> Ordering {
     one.receiver
         .as_str()
         .cmp(other.receiver.as_str())
@@ -154,7 +168,7 @@ fn by_time(one: &Difference, other: &Difference) -> Ordering {
         .then(one.line.as_str().cmp(other.line.as_str()))
 }
 
-fn by_alert(one: &Heard, other: &Heard) -> Ordering {
+fn by_alert(one: &ListedAlert, other: &ListedAlert) -> Ordering {
     one.alert.as_str().cmp(other.alert.as_str())
 }
 
@@ -165,36 +179,36 @@ fn number(side: Side) -> u8 {
     }
 }
 
-/// Adds the delivered notices of a rehearsal, and the alerts that they tell.
+/// Adds the delivered notices of a rehearsal, and the alerts that they say.
 fn add_notices<C: TimeFormat>(
     alloc: Global,
     side: Side,
     playback: &Playback<'_>,
     clock: &C,
-    told: &mut Vec<Told>,
-    heard: &mut Vec<Heard>,
+    sent_notices: &mut Vec<SentNotice>,
+    listed_alerts: &mut Vec<ListedAlert>,
 ) -> Result<(), AllocError> {
     for event in playback.events {
         if let Some(sent) = sent_of(playback, event) {
             if sent.is_delivered() {
-                told.push(told_by(alloc, side, playback, clock, &sent)?)?;
-                add_heard(alloc, side, sent.notice, heard)?;
+                sent_notices.push(sent_notice_by(alloc, side, playback, clock, &sent)?)?;
+                add_listed(alloc, side, sent.notice, listed_alerts)?;
             }
         }
     }
     Ok(())
 }
 
-fn told_by<C: TimeFormat>(
+fn sent_notice_by<C: TimeFormat>(
     alloc: Global,
     side: Side,
     playback: &Playback<'_>,
     clock: &C,
     sent: &Sent<'_>,
-) -> Result<Told, AllocError> {
+) -> Result<SentNotice, AllocError> {
     let config = playback.config;
     let notice = sent.notice;
-    let place = notice.integration as usize;
+    let index = notice.integration as usize;
     let mut receiver = String::new(alloc);
     push_text(
         config.route_of(&notice.group).receiver.as_str(),
@@ -203,16 +217,16 @@ fn told_by<C: TimeFormat>(
     let mut target = receiver.clone()?;
     target.push(' ')?;
     let mut ranked = target.clone()?;
-    push_integration(config, &notice.group, place, &mut target)?;
-    push_ranked(config.integrations_of(&notice.group), place, &mut ranked)?;
+    push_integration(config, &notice.group, index, &mut target)?;
+    push_ranked(config.integrations_of(&notice.group), index, &mut ranked)?;
     let mut alerts = String::new(alloc);
     push_alerts("; firing ", notice.firing.as_slice(), &mut alerts)?;
     push_alerts("; resolved ", notice.resolved.as_slice(), &mut alerts)?;
     let mut reason = String::new(alloc);
-    if let Some(why) = sent.begin.preview.reasons().get(place) {
+    if let Some(why) = sent.begin.preview.reasons().get(index) {
         push_sent_reason(clock, expiry_before(playback, sent), why, &mut reason)?;
     }
-    Ok(Told {
+    Ok(SentNotice {
         side,
         at: sent.report.ended,
         receiver,
@@ -223,64 +237,64 @@ fn told_by<C: TimeFormat>(
     })
 }
 
-/// Adds the kind of the integration at a place, `/`, and how many of its kind come before it.
+/// Adds the kind of the integration at an index, `/`, and how many of its kind come before it.
 fn push_ranked(
     integrations: &[Integration],
-    place: usize,
+    index: usize,
     out: &mut String,
 ) -> Result<(), AllocError> {
-    let kind = kind_at(integrations, place);
+    let kind = kind_at(integrations, index);
     let mut rank = 0usize;
     for (other, integration) in integrations.iter().enumerate() {
-        if other < place && integration.kind.as_str() == kind {
+        if other < index && integration.kind.as_str() == kind {
             rank = rank.saturating_add(1);
         }
     }
     write!(out, "{kind}/{rank}")
 }
 
-/// Adds the alerts that a delivered notice tells, as firing and as resolved.
-fn add_heard(
+/// Adds the alerts that a delivered notice says, as firing and as resolved.
+fn add_listed(
     alloc: Global,
     side: Side,
     notice: &Notice,
-    heard: &mut Vec<Heard>,
+    listed_alerts: &mut Vec<ListedAlert>,
 ) -> Result<(), AllocError> {
-    add_alerts(alloc, side, notice.firing.as_slice(), heard)?;
-    add_alerts(alloc, side, notice.resolved.as_slice(), heard)
+    add_alerts(alloc, side, notice.firing.as_slice(), listed_alerts)?;
+    add_alerts(alloc, side, notice.resolved.as_slice(), listed_alerts)
 }
 
 fn add_alerts(
     alloc: Global,
     side: Side,
     alerts: &[Alert],
-    heard: &mut Vec<Heard>,
+    listed_alerts: &mut Vec<ListedAlert>,
 ) -> Result<(), AllocError> {
     for alert in alerts {
         let mut text = String::new(alloc);
         push_set(alert.labels(), &mut text)?;
-        heard.push(Heard { side, alert: text })?;
+        listed_alerts.push(ListedAlert { side, alert: text })?;
     }
     Ok(())
 }
 
 /// Returns whether two notices are the same, at whatever time.
-fn is_same(one: &Told, other: &Told) -> bool {
+fn is_same(one: &SentNotice, other: &SentNotice) -> bool {
     one.ranked.as_str() == other.ranked.as_str() && one.alerts.as_str() == other.alerts.as_str()
 }
 
 /// Returns the lines on what differs among notices in the order of `by_content`.
 fn differences_of<C: TimeFormat>(
     alloc: Global,
-    told: &[Told],
+    sent_notices: &[SentNotice],
     clock: &C,
 ) -> Result<Vec<Difference>, AllocError> {
-    let paired = paired_at_once(alloc, told)?;
+    let paired = paired_at_once(alloc, sent_notices)?;
     let mut lines = Vec::new(alloc);
     // The same notices of one rehearsal, of which those from `next` on wait for one of the other.
-    let mut waiting: Vec<&Told> = Vec::new(alloc);
+    let mut waiting: Vec<&SentNotice> = Vec::new(alloc);
     let mut next = 0usize;
-    for (notice, is_paired) in told.iter().zip(paired.as_slice()) {
+    for (notice, is_paired) in sent_notices.iter().zip(paired.as_slice()) {
         let is_other = match waiting.last() {
             None => false,
             Some(last) => !is_same(last, notice),
@@ -304,12 +318,12 @@ fn differences_of<C: TimeFormat>(
     Ok(lines)
 }
 
-/// Returns of each notice whether it is paired with the same notice of the other rehearsal at the same time, which stands
+/// Returns of each notice whether it is paired with the same notice of the other rehearsal at the same time, which is
 /// beside it.
-fn paired_at_once(alloc: Global, told: &[Told]) -> Result<Vec<bool>, AllocError> {
+fn paired_at_once(alloc: Global, sent_notices: &[SentNotice]) -> Result<Vec<bool>, AllocError> {
     let mut paired: Vec<bool> = Vec::new(alloc);
-    let mut last: Option<&Told> = None;
-    for notice in told {
+    let mut last: Option<&SentNotice> = None;
+    for notice in sent_notices {
         let mut is_paired = false;
         if let (Some(before), Some(was_paired)) = (last, paired.last_mut()) {
             if !*was_paired
@@ -330,7 +344,7 @@ fn paired_at_once(alloc: Global, told: &[Told]) -> Result<Vec<bool>, AllocError>
 /// Adds a line for each of these notices from `next` on, which only one rehearsal has.
 fn push_alone<C: TimeFormat>(
     alloc: Global,
-    waiting: &[&Told],
+    waiting: &[&SentNotice],
     next: usize,
     clock: &C,
     lines: &mut Vec<Difference>,
@@ -354,8 +368,8 @@ fn push_alone<C: TimeFormat>(
 /// Adds a line on a notice that has moved from the time that one rehearsal has to that of the other.
 fn push_moved<C: TimeFormat>(
     alloc: Global,
-    one: &Told,
-    other: &Told,
+    one: &SentNotice,
+    other: &SentNotice,
     clock: &C,
     lines: &mut Vec<Difference>,
 ) -> Result<(), AllocError> {
@@ -368,7 +382,7 @@ fn push_moved<C: TimeFormat>(
     }
     let mut line = String::new(alloc);
     line.push_str("~ ")?;
-    clock.push_moment(old.at, &mut line)?;
+    clock.push_time(old.at, &mut line)?;
     line.push_str(" -> ")?;
     push_column(clock, new.at, &mut line)?;
     push_content(new, &mut line)?;
@@ -376,7 +390,7 @@ fn push_moved<C: TimeFormat>(
     Ok(())
 }
 
-fn push_content(notice: &Told, line: &mut String) -> Result<(), AllocError> {
+fn push_content(notice: &SentNotice, line: &mut String) -> Result<(), AllocError> {
     write!(
         line,
         "{}: {}{}\n",
@@ -412,7 +426,7 @@ impl Counts {
 
 impl<'t> ReceiverCounts<'t> {
     /// Counts a notice, which comes in the order of time.
-    fn count(&mut self, notice: &Told) -> Result<(), AllocError> {
+    fn count(&mut self, notice: &SentNotice) -> Result<(), AllocError> {
         self.all.count(notice.side);
         let hour = notice.at / HOUR;
         let is_known = match self.hours.last() {
@@ -435,11 +449,11 @@ impl<'t> ReceiverCounts<'t> {
 /// Adds a line for each receiver whose notices differ in number in some hour, and one for each such hour.
 fn push_receivers<C: TimeFormat>(
     alloc: Global,
-    told: &[Told],
+    sent_notices: &[SentNotice],
     clock: &C,
     text: &mut String,
 ) -> Result<(), AllocError> {
-    let receivers = counted(alloc, told)?;
+    let receivers = counted(alloc, sent_notices)?;
     for receiver in &receivers {
         if receiver.hours.iter().any(|hour| hour.counts.differ()) {
             let Counts { old, new } = receiver.all;
@@ -463,9 +477,9 @@ fn push_hours<C: TimeFormat>(
         if hour.counts.differ() {
             let start = hour.hour.saturating_mul(HOUR);
             text.push_str("  ")?;
-            clock.push_moment(start, text)?;
+            clock.push_time(start, text)?;
             text.push_str(" to ")?;
-            clock.push_moment(start.saturating_add(HOUR), text)?;
+            clock.push_time(start.saturating_add(HOUR), text)?;
             let Counts { old, new } = hour.counts;
             write!(text, ": {old} -> {new}\n")?;
         }
@@ -474,9 +488,12 @@ fn push_hours<C: TimeFormat>(
 }
 
 /// Returns the counts of each receiver, of notices in the order of `by_receiver`.
-fn counted<'t>(alloc: Global, told: &'t [Told]) -> Result<Vec<ReceiverCounts<'t>>, AllocError> {
+fn counted<'t>(
+    alloc: Global,
+    sent_notices: &'t [SentNotice],
+) -> Result<Vec<ReceiverCounts<'t>>, AllocError> {
     let mut receivers: Vec<ReceiverCounts<'t>> = Vec::new(alloc);
-    for notice in told {
+    for notice in sent_notices {
         let receiver = notice.receiver.as_str();
         let is_known = match receivers.last() {
             None => false,
@@ -496,11 +513,15 @@ fn counted<'t>(alloc: Global, told: &'t [Told]) -> Result<Vec<ReceiverCounts<'t>
     Ok(receivers)
 }
 
-/// Adds a line for each alert that only one of the rehearsals tells of; they come in the order of `by_alert`.
-fn push_heard(alloc: Global, heard: &[Heard], text: &mut String) -> Result<(), AllocError> {
+/// Adds a line for each alert that only one of the rehearsals says of; they come in the order of `by_alert`.
+fn push_listed(
+    alloc: Global,
+    listed_alerts: &[ListedAlert],
+    text: &mut String,
+) -> Result<(), AllocError> {
     let mut alerts: Vec<AlertCounts<'_>> = Vec::new(alloc);
-    for told in heard {
-        let alert = told.alert.as_str();
+    for listed in listed_alerts {
+        let alert = listed.alert.as_str();
         let is_known = match alerts.last() {
             None => false,
             Some(last) => last.alert == alert,
@@ -512,15 +533,15 @@ fn push_heard(alloc: Global, heard: &[Heard], text: &mut String) -> Result<(), A
             })?;
         }
         if let Some(last) = alerts.last_mut() {
-            last.counts.count(told.side);
+            last.counts.count(listed.side);
         }
     }
-    for told in &alerts {
-        let name = told.alert;
-        if told.counts.new == 0 {
+    for listed in &alerts {
+        let name = listed.alert;
+        if listed.counts.new == 0 {
             write!(text, "nobody is told any more: {name}\n")?;
         }
-        if told.counts.old == 0 {
+        if listed.counts.old == 0 {
             write!(text, "told only now: {name}\n")?;
         }
     }

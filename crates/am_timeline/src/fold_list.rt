@@ -5,10 +5,10 @@ ghost use Rattle.am_timeline.specs.Runs.{IsRising, run_at};
 use crate::runs::Run;
 use std::marker::Model;
 
-/// Where runs begin, and the runs. Contracts see it as the list of the places of their first flushes, and the list of the runs.
+/// Where runs begin, and the runs. Contracts see it as the list of the indexes of their first flushes, and the list of the runs.
 #[derive(Drop)]
 pub(crate) struct Folds {
-    /// The places of the first flushes, in order.
+    /// The indexes of the first flushes, in order.
     starts: Vec<usize>,
     runs: Vec<Run>,
 }
@@ -26,7 +26,7 @@ impl Model for Folds {
 }
 
 impl Folds {
-    /// Returns these runs, whose first flushes are at these places.
+    /// Returns these runs, whose first flushes are at these indexes.
     pub(crate) fn new(starts: Vec<usize>, runs: Vec<Run>) -> Folds
         requires rising { IsRising 0 starts.items }
         requires same { length starts.items ≡ length runs.items }
@@ -35,21 +35,21 @@ impl Folds {
         Folds { starts, runs }
     }
 
-    /// Returns the run that the flush at a place begins, if it begins one.
-    pub(crate) fn run_at(&self, place: usize) -> Option<Run>
-        ensures { result ≡ run_at place self.now.0 self.now.1 }
+    /// Returns the run that the flush at an index begins, if it begins one.
+    pub(crate) fn run_at(&self, index: usize) -> Option<Run>
+        ensures { result ≡ run_at index self.now.0 self.now.1 }
     {
-        run_in(self.starts.as_slice(), self.runs.as_slice(), place)
+        run_in(self.starts.as_slice(), self.runs.as_slice(), index)
     }
 }
 
-/// Returns the run that begins at a place, of these runs, whose first flushes are at those places.
-fn run_in(starts: &[usize], runs: &[Run], place: usize) -> Option<Run>
+/// Returns the run that begins at an index, of these runs, whose first flushes are at those indexes.
+fn run_in(starts: &[usize], runs: &[Run], index: usize) -> Option<Run>
     requires rising { IsRising 0 starts.now }
     requires same { length starts.now ≡ length runs.now }
-    ensures { result ≡ run_at place starts.now runs.now }
+    ensures { result ≡ run_at index starts.now runs.now }
 {
-    match starts.binary_search(&place) {
+    match starts.binary_search(&index) {
         Ok(number) => Some(runs[number]),
         Err(_) => None,
     }

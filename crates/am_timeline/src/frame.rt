@@ -5,7 +5,7 @@ use std::marker::Model;
 #[derive(Drop)]
 pub(crate) struct Frame<'f> {
     /// The time at the front of each line, in milliseconds.
-    pub(crate) moment: u64,
+    pub(crate) time: u64,
     /// What ends each line.
     pub(crate) ending: &'f str,
 }
@@ -17,7 +17,7 @@ impl<'f> Model for Frame<'f> {
 
     ghost view = { λ f.
         record {
-          moment = f.moment;
+          time = f.time;
           ending = f.ending.now;
         } };
 }

@@ -3,7 +3,7 @@ ghost use Rattle.std.specs.Prelude.{◌≡◌, ◌++◌, ◌∷◌, [], IfOk, On
 ghost use Rattle.std.specs.Option.{option_map_or};
 ghost use Rattle.serde_json.specs.Data.{no_members};
 ghost use Rattle.serde_json.specs.View.{members_view};
-ghost use Rattle.am_timeline.specs.Json.{begun_members, content_members, json_of_asked, json_of_begun, json_of_event};
+ghost use Rattle.am_timeline.specs.Json.{begun_members, content_members, json_of_notified, json_of_begun, json_of_event};
 ghost use Rattle.am_timeline.specs.Json.{json_of_muted, json_of_quiet, json_of_reasons, json_of_sent, json_text, late_members};
 ghost use Rattle.am_timeline.specs.Json.{left_members, muted_member, muted_members, object_line, outcome_members, outcome_word};
 ghost use Rattle.am_timeline.specs.Json.{number_at, put_all, quiet_members, quiet_reason_members, reason_members, sending_members};
@@ -138,7 +138,7 @@ fn sent_object<C: TimeFormat>(
     Ok(object)
 }
 
-/// Returns what is told of every notice whose sending came to its end.
+/// Returns what is reported of every notice whose sending came to its end.
 #[tactic(auto, using(crate::proofs::Members::put_more), unfolding(crate::specs::Json::sending_members))]
 fn sending_object<C: TimeFormat>(
     alloc: Global,
@@ -192,9 +192,9 @@ fn put_attempts(sent: &Sent, object: &mut Object) -> Result<(), AllocError>
 
 fn put_since(sent: &Sent, object: &mut Object) -> Result<(), AllocError>
     ensures { OnOk result (members_view object.new.members.entries
-        ≡ put_all (members_view object.old.members.entries) (number_at (codes "since") sent.now.begin.preview.moment ∷ [])) }
+        ≡ put_all (members_view object.old.members.entries) (number_at (codes "since") sent.now.begin.preview.time ∷ [])) }
 {
-    object.put_number("since", sent.begin.preview.moment())
+    object.put_number("since", sent.begin.preview.time())
 }
 
 /// Puts the deadline of a notice whose sending ended after it.
@@ -315,8 +315,8 @@ fn push_begun<C: TimeFormat>(
         return push_left(alloc, playback.config, clock, preview, out);
     }
     push_muted(alloc, playback.config, clock, preview, out)?;
-    let notices = notices_at(playback.history, begin.place);
-    push_asked(alloc, playback.config, clock, preview, notices, out)
+    let notices = notices_at(playback.history, begin.index);
+    push_notified(alloc, playback.config, clock, preview, notices, out)
 }
 
 /// Adds the line on a begin at which nothing is left of its group.
@@ -391,7 +391,7 @@ fn put_muted(alloc: Global, preview: &SharedPreview, object: &mut Object) -> Res
 }
 
 /// Adds the lines on the integrations at a begin.
-fn push_asked<C: TimeFormat>(
+fn push_notified<C: TimeFormat>(
     alloc: Global,
     config: &Config,
     clock: &C,
@@ -400,7 +400,7 @@ fn push_asked<C: TimeFormat>(
     out: &mut String,
 ) -> Result<(), AllocError>
     ensures { OnOk result (string_bytes out.new
-        ≡ string_bytes out.old ++ json_of_asked config.now (C.times clock.now) preview.now notices.now) }
+        ≡ string_bytes out.old ++ json_of_notified config.now (C.times clock.now) preview.now notices.now) }
 {
     if preview.reasons().len() == 0 {
         return push_unasked(alloc, config, clock, preview, out);
@@ -472,7 +472,7 @@ fn push_quiet<C: TimeFormat>(
     ensures { OnOk result (string_bytes out.new ≡ string_bytes out.old
         ++ json_of_quiet config.now (C.times clock.now) preview.now notices.now position reason.now) }
 {
-    if reason.asks() && !is_sent_nothing(notices, position) {
+    if reason.notifies() && !is_sent_nothing(notices, position) {
         return Ok(());
     }
     let object = quiet_object(alloc, config, clock, preview, position, reason)?;
@@ -502,7 +502,7 @@ fn put_quiet_reason(reason: &Reason, object: &mut Object) -> Result<(), AllocErr
     ensures { OnOk result (members_view object.new.members.entries
         ≡ put_all (members_view object.old.members.entries) (quiet_reason_members reason.now)) }
 {
-    if reason.asks() {
+    if reason.notifies() {
         return object.put_text("reason", "all resolved, which it isn't sent");
     }
     put_reason(reason, object)
@@ -518,12 +518,5 @@ fn begun_object<C: TimeFormat>(
     ensures { IfOk result (λ o. members_view o.members.entries
         ≡ put_all no_members (begun_members config.now (C.times clock.now) event.now preview.now)) }
 {
-    Object::new(
-        alloc,
-        config,
-        clock,
-        event,
-        preview.moment(),
-        preview.group(),
-    )
+    Object::new(alloc, config, clock, event, preview.time(), preview.group())
 }

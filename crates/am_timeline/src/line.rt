@@ -53,7 +53,7 @@ pub(crate) fn push_attempts<C: TimeFormat>(
         " attempts"
     })?;
     out.push_str(" since ")?;
-    clock.push_moment(since, out)
+    clock.push_time(since, out)
 }
 
 pub(crate) fn push_reason<C: TimeFormat>(
@@ -98,7 +98,7 @@ fn push_expired<C: TimeFormat>(clock: &C, at: u64, out: &mut String) -> Result<(
     ensures { OnOk result (string_bytes out.new ≡ string_bytes out.old ++ expired_text (C.times clock.now) at) }
 {
     out.push_str("log entry expired at ")?;
-    clock.push_moment(at, out)
+    clock.push_time(at, out)
 }
 
 /// Returns why a notice was sent, in words without a time, where the log entry had expired at this time, if it had.
@@ -137,8 +137,8 @@ fn push_repeat<C: TimeFormat>(
         ≡ string_bytes out.old ++ repeat_text (C.times clock.now) reason.now) }
 {
     match reason {
-        Reason::NotYet { from } => clock.push_moment(*from, out),
-        Reason::RouteMuted { until } => clock.push_moment(*until, out),
+        Reason::NotYet { from } => clock.push_time(*from, out),
+        Reason::RouteMuted { until } => clock.push_time(*until, out),
         Reason::FirstNotice
         | Reason::NewAlert
         | Reason::AllResolved

@@ -46,9 +46,9 @@ impl<'s> Model for Logbook<'s> {
           begins = l.begins.now;
         } };
 
-    ghost invariant = { λ l. (place integration : ℕ)
-        → get same_flush_key l.expiries (record { place = place; integration = integration })
-        ≡ expired l.config.now l.history.now place integration };
+    ghost invariant = { λ l. (index integration : ℕ)
+        → get same_flush_key l.expiries (record { index = index; integration = integration })
+        ≡ expired l.config.now l.history.now index integration };
 }
 
 impl<'s> Logbook<'s> {
@@ -98,11 +98,11 @@ impl<'s> Logbook<'s> {
         self.seed
     }
 
-    /// Returns when the log entry of an integration expired whose lack the flush that began at a place found, in milliseconds,
+    /// Returns when the log entry of an integration expired whose lack the flush that began at an index found, in milliseconds,
     /// if there was one.
-    pub(crate) fn expired(&self, place: usize, integration: usize) -> Option<u64>
-        ensures { result ≡ expired self.now.config self.now.history place integration }
+    pub(crate) fn expired(&self, index: usize, integration: usize) -> Option<u64>
+        ensures { result ≡ expired self.now.config self.now.history index integration }
     {
-        self.expiries.get(&FlushKey { place, integration }).copied()
+        self.expiries.get(&FlushKey { index, integration }).copied()
     }
 }

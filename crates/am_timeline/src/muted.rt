@@ -76,7 +76,7 @@ fn push_muting<C: TimeFormat>(
     ensures { OnOk result (string_bytes out.new ≡ string_bytes out.old ++ cause_shown (C.times clock.now) cause.now) }
 {
     match cause {
-        MuteCause::Silenced { id: _, until } => clock.push_moment(*until, out),
+        MuteCause::Silenced { id: _, until } => clock.push_time(*until, out),
         MuteCause::Inhibited { rule, by } => push_rule(*rule, by, out),
     }
 }

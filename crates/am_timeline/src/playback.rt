@@ -2,7 +2,7 @@
 ghost use Rattle.std.specs.Prelude.{◌≡◌, ◌+◌, drop, option_copied};
 ghost use Rattle.am_timeline.specs.Expiry.{expired};
 ghost use Rattle.am_timeline.specs.Playback.{notice_for, notices_at};
-ghost use Rattle.am_model.specs.look_back.Entry.{tells_put};
+ghost use Rattle.am_model.specs.look_back.Entry.{reports_put};
 ghost use Rattle.am_model.specs.look_back.Past.{notices_in};
 
 use crate::logbook::Logbook;
@@ -104,20 +104,20 @@ impl<'s> Playback<'s> {
         self.events
     }
 
-    /// Returns when the log entry of an integration expired whose lack the flush that began at a place found, in milliseconds,
+    /// Returns when the log entry of an integration expired whose lack the flush that began at an index found, in milliseconds,
     /// if there was one.
-    pub(crate) fn expired(&self, place: usize, integration: usize) -> Option<u64>
-        ensures { result ≡ expired self.now.config self.now.history place integration }
+    pub(crate) fn expired(&self, index: usize, integration: usize) -> Option<u64>
+        ensures { result ≡ expired self.now.config self.now.history index integration }
     {
-        self.log.expired(place, integration)
+        self.log.expired(index, integration)
     }
 }
 
-/// Returns the notices of the record at a place, or none where no flush was opened there.
-pub(crate) fn notices_at(history: &[Record], place: usize) -> &[Notice]
-    ensures { result.now ≡ notices_at history.now place }
+/// Returns the notices of the record at an index, or none where no flush was opened there.
+pub(crate) fn notices_at(history: &[Record], index: usize) -> &[Notice]
+    ensures { result.now ≡ notices_at history.now index }
 {
-    match history.get(place) {
+    match history.get(index) {
         None => &[],
         Some(record) => notices_in(&record.reply),
     }
@@ -135,7 +135,7 @@ pub fn notices_in(reply: &Reply) -> &[Notice]
 
 /// Returns whether a reply is that the row that was handed in was put into the log.
 pub fn is_put(reply: &Reply) -> bool
-    ensures { result ≡ tells_put reply.now }
+    ensures { result ≡ reports_put reply.now }
 {
     match reply {
         Reply::Loaded(Loaded::Put) => true,
@@ -152,12 +152,12 @@ pub(crate) fn notice_for(integration: usize, notices: &[Notice]) -> Option<&Noti
         .find(|notice| notice.integration as usize == integration)
 }
 
-/// Returns the records after the one at a place.
-pub(crate) fn later_than(history: &[Record], place: usize) -> &[Record]
-    ensures { result.now ≡ drop (place + 1) history.now }
+/// Returns the records after the one at an index.
+pub(crate) fn later_than(history: &[Record], index: usize) -> &[Record]
+    ensures { result.now ≡ drop (index + 1) history.now }
 {
-    if place < history.len() {
-        &history[place + 1..]
+    if index < history.len() {
+        &history[index + 1..]
     } else {
         &[]
     }

@@ -38,17 +38,17 @@ pub(crate) struct Run {
     pub(crate) until: u64,
 }
 
-/// Runs, and the places of their first flushes among the begins.
+/// Runs, and the indexes of their first flushes among the begins.
 #[derive(Drop)]
 struct Runs {
     starts: Vec<usize>,
     runs: Vec<Run>,
 }
 
-/// Of the last flush of a group so far its place among the begins, the lines by which it is compared, and the number of its run.
+/// Of the last flush of a group so far its index among the begins, the lines by which it is compared, and the number of its run.
 #[derive(Drop)]
 struct Last {
-    place: usize,
+    index: usize,
     lines: String,
     run: usize,
 }
@@ -58,7 +58,7 @@ impl Model for Last {
 
     ghost Value = { ℕ × (List ℕ × ℕ) };
 
-    ghost view = { λ l. (l.place, (string_bytes l.lines, l.run)) };
+    ghost view = { λ l. (l.index, (string_bytes l.lines, l.run)) };
 }
 
 /// Returns the runs of the begins.
@@ -100,14 +100,14 @@ fn folded<C: TimeFormat>(
         starts: Vec::new(alloc),
         runs: Vec::new(alloc),
     };
-    for place in 0..begins.len() {
+    for index in 0..begins.len() {
         add(
             alloc,
             playback,
             clock,
             all,
-            place,
-            &begins[place],
+            index,
+            &begins[index],
             &mut table,
             &mut found,
         )?;
@@ -116,13 +116,13 @@ fn folded<C: TimeFormat>(
     Ok(Folds::new(starts, runs))
 }
 
-/// Adds the begin at a place to a table of the last flush of each group, and to the runs so far.
+/// Adds the begin at an index to a table of the last flush of each group, and to the runs so far.
 fn add<C: TimeFormat>(
     alloc: Global,
     playback: &Playback,
     clock: &C,
     all: bool,
-    place: usize,
+    index: usize,
     begin: &PreviewedBegin,
     table: &mut HashMap<GroupName, Last, Seed>,
     found: &mut Runs,
@@ -132,39 +132,39 @@ fn add<C: TimeFormat>(
     requires lines { IfSome (get same_name table.old begin.now.preview.group) (HasLines all playback.now (C.times clock.now)) }
     ensures table { OnOk result ((name : named.GroupName) → get same_name table.new name
         ≡ (if same_name begin.now.preview.group name
-        then Some (kept_of place (lines_by all playback.now (C.times clock.now) begin.now) (length found.old.runs.items)
+        then Some (kept_of index (lines_by all playback.now (C.times clock.now) begin.now) (length found.old.runs.items)
         (kept_run (get same_name table.old begin.now.preview.group)))
         else get same_name table.old name)) }
-    ensures runs { OnOk result (found.new.runs.items ≡ runs_with begin.now.preview.moment
+    ensures runs { OnOk result (found.new.runs.items ≡ runs_with begin.now.preview.time
         (lines_by all playback.now (C.times clock.now) begin.now) (kept_run (get same_name table.old begin.now.preview.group))
         found.old.runs.items) }
-    ensures starts { OnOk result (found.new.starts.items ≡ starts_with place
+    ensures starts { OnOk result (found.new.starts.items ≡ starts_with index
         (lines_by all playback.now (C.times clock.now) begin.now) (kept_run (get same_name table.old begin.now.preview.group))
         found.old.starts.items) }
 {
     match table.get_mut(begin.preview.group()) {
-        Some(last) => add_after(alloc, playback, clock, all, place, begin, last, found),
+        Some(last) => add_after(alloc, playback, clock, all, index, begin, last, found),
         None => {
             let lines = lines_by(alloc, playback, clock, all, begin)?;
             let run = found.runs.len();
             insert(
                 alloc,
                 begin.preview.group(),
-                Last { place, lines, run },
+                Last { index, lines, run },
                 table,
             )?;
-            push(place, begin.preview.moment(), found)
+            push(index, begin.preview.time(), found)
         }
     }
 }
 
-/// Puts the begin at a place in the place of the last flush of its group, and adds it to the runs so far.
+/// Puts the begin at an index in the place of the last flush of its group, and adds it to the runs so far.
 fn add_after<C: TimeFormat>(
     alloc: Global,
     playback: &Playback,
     clock: &C,
     all: bool,
-    place: usize,
+    index: usize,
     begin: &PreviewedBegin,
     last: &mut Last,
     found: &mut Runs,
@@ -172,104 +172,104 @@ fn add_after<C: TimeFormat>(
     requires fits { All (λ r. r.count < length playback.now.begins) found.old.runs.items }
     requires inside { last.old.1.1 < length found.old.runs.items }
     requires lines { HasLines all playback.now (C.times clock.now) last.old }
-    ensures last { OnOk result (last.new ≡ kept_of place (lines_by all playback.now (C.times clock.now) begin.now)
+    ensures last { OnOk result (last.new ≡ kept_of index (lines_by all playback.now (C.times clock.now) begin.now)
         (length found.old.runs.items) (Some last.old.1)) }
-    ensures runs { OnOk result (found.new.runs.items ≡ runs_with begin.now.preview.moment
+    ensures runs { OnOk result (found.new.runs.items ≡ runs_with begin.now.preview.time
         (lines_by all playback.now (C.times clock.now) begin.now) (Some last.old.1) found.old.runs.items) }
-    ensures starts { OnOk result (found.new.starts.items ≡ starts_with place
+    ensures starts { OnOk result (found.new.starts.items ≡ starts_with index
         (lines_by all playback.now (C.times clock.now) begin.now) (Some last.old.1) found.old.starts.items) }
 {
-    let moment = begin.preview.moment();
-    if follow(alloc, playback, clock, all, place, begin, last)? {
-        grow(last.run, moment, playback.begins.len(), found);
+    let time = begin.preview.time();
+    if follow(alloc, playback, clock, all, index, begin, last)? {
+        grow(last.run, time, playback.begins.len(), found);
         return Ok(());
     }
     last.run = found.runs.len();
-    push(place, moment, found)
+    push(index, time, found)
 }
 
-/// Puts the begin at a place in the place of the last flush of its group, as if it were in that one's run, and returns whether it is.
+/// Puts the begin at an index in the place of the last flush of its group, as if it were in that one's run, and returns whether it is.
 ///
-/// Its lines are made only where the previews don't tell that they are those of the last flush.
+/// Its lines are made only where the previews don't say that they are those of the last flush.
 fn follow<C: TimeFormat>(
     alloc: Global,
     playback: &Playback,
     clock: &C,
     all: bool,
-    place: usize,
+    index: usize,
     begin: &PreviewedBegin,
     last: &mut Last,
 ) -> Result<bool, AllocError>
     requires { HasLines all playback.now (C.times clock.now) last.old }
     ensures like { IfOk result (λ like. like
         ≡ are_same_lines last.old.1.0 (lines_by all playback.now (C.times clock.now) begin.now)) }
-    ensures last { OnOk result (last.new ≡ (place, (lines_by all playback.now (C.times clock.now) begin.now, last.old.1.1))) }
+    ensures last { OnOk result (last.new ≡ (index, (lines_by all playback.now (C.times clock.now) begin.now, last.old.1.1))) }
 {
-    if is_compared_as(playback, all, begin, last.place) {
-        return Ok(follow_alike(place, last));
+    if is_compared_as(playback, all, begin, last.index) {
+        return Ok(follow_alike(index, last));
     }
     let lines = lines_by(alloc, playback, clock, all, begin)?;
     let like = are_same_lines(last.lines.as_str(), lines.as_str());
     let run = last.run;
-    *last = Last { place, lines, run };
+    *last = Last { index, lines, run };
     Ok(like)
 }
 
 /// The same of a begin with the last flush's lines.
-fn follow_alike(place: usize, last: &mut Last) -> bool
+fn follow_alike(index: usize, last: &mut Last) -> bool
     ensures like { result ≡ are_same_lines last.old.1.0 last.old.1.0 }
-    ensures last { last.new ≡ (place, last.old.1) }
+    ensures last { last.new ≡ (index, last.old.1) }
 {
-    last.place = place;
+    last.index = index;
     last.lines.len() != 0
 }
 
-/// Begins a run with the flush at a place, which began at this moment.
-fn push(place: usize, moment: u64, found: &mut Runs) -> Result<(), AllocError>
-    ensures runs { OnOk result (found.new.runs.items ≡ found.old.runs.items ++ single moment ∷ []) }
-    ensures starts { OnOk result (found.new.starts.items ≡ found.old.starts.items ++ place ∷ []) }
+/// Begins a run with the flush at an index, which began at this time.
+fn push(index: usize, time: u64, found: &mut Runs) -> Result<(), AllocError>
+    ensures runs { OnOk result (found.new.runs.items ≡ found.old.runs.items ++ single time ∷ []) }
+    ensures starts { OnOk result (found.new.starts.items ≡ found.old.starts.items ++ index ∷ []) }
 {
-    found.starts.push(place)?;
+    found.starts.push(index)?;
     found.runs.push(Run {
         count: 1,
-        until: moment,
+        until: time,
     })?;
     Ok(())
 }
 
-/// Adds a flush, which began at this moment, to the run of a number. There are at most `limit` flushes in all.
-fn grow(number: usize, moment: u64, limit: usize, found: &mut Runs)
+/// Adds a flush, which began at this time, to the run of a number. There are at most `limit` flushes in all.
+fn grow(number: usize, time: u64, limit: usize, found: &mut Runs)
     requires inside { number < length found.old.runs.items }
     requires fits { All (λ r. r.count < limit) found.old.runs.items }
-    ensures runs { found.new.runs.items ≡ grown number moment found.old.runs.items }
+    ensures runs { found.new.runs.items ≡ grown number time found.old.runs.items }
     ensures starts { found.new.starts.items ≡ found.old.starts.items }
 {
     let count = found.runs[number].count;
-    found.runs[number] = one_more(count, moment, limit);
+    found.runs[number] = one_more(count, time, limit);
 }
 
-/// Returns a run of one flush more than so many, the last of which began at this moment.
-fn one_more(count: usize, moment: u64, limit: usize) -> Run
+/// Returns a run of one flush more than so many, the last of which began at this time.
+fn one_more(count: usize, time: u64, limit: usize) -> Run
     requires { count < limit }
-    ensures { result ≡ record { count = count + 1; until = moment } }
+    ensures { result ≡ record { count = count + 1; until = time } }
 {
     Run {
         count: count + 1,
-        until: moment,
+        until: time,
     }
 }
 
-/// Returns whether the begin at a place is compared by the same lines as this one, as far as their previews tell.
-fn is_compared_as(playback: &Playback, all: bool, begin: &PreviewedBegin, place: usize) -> bool
-    ensures { IsTrue result → IsComparedAs all playback.now begin.now place }
+/// Returns whether the begin at an index is compared by the same lines as this one, as far as their previews say.
+fn is_compared_as(playback: &Playback, all: bool, begin: &PreviewedBegin, index: usize) -> bool
+    ensures { IsTrue result → IsComparedAs all playback.now begin.now index }
 {
-    match playback.begins.get(place) {
+    match playback.begins.get(index) {
         None => false,
         Some(other) => have_same_lines(playback, all, begin, other),
     }
 }
 
-/// Returns whether two begins are compared by the same lines, as far as their previews tell.
+/// Returns whether two begins are compared by the same lines, as far as their previews say.
 fn have_same_lines(
     playback: &Playback,
     all: bool,
@@ -286,8 +286,8 @@ fn have_same_lines(
 fn send_nothing(playback: &Playback, begin: &PreviewedBegin, other: &PreviewedBegin) -> bool
     ensures { result ≡ (sends_nothing playback.now.history begin.now && sends_nothing playback.now.history other.now) }
 {
-    sends_nothing(notices_at(playback.history, begin.place))
-        && sends_nothing(notices_at(playback.history, other.place))
+    sends_nothing(notices_at(playback.history, begin.index))
+        && sends_nothing(notices_at(playback.history, other.index))
 }
 
 /// Returns the lines by which a begin is compared.
@@ -318,7 +318,7 @@ fn text_at_start<C: TimeFormat>(
 {
     let mut out = String::new(alloc);
     let frame = Frame {
-        moment: 0,
+        time: 0,
         ending: "\n",
     };
     push_begun(playback, clock, &frame, begin, &mut out)?;
@@ -334,7 +334,7 @@ fn quiet_text<C: TimeFormat>(
 ) -> Result<String, AllocError>
     ensures { IfOk result (λ text. string_bytes text ≡ quiet_text playback.now (C.times clock.now) begin.now) }
 {
-    if sends_nothing(notices_at(playback.history, begin.place)) {
+    if sends_nothing(notices_at(playback.history, begin.index)) {
         return text_at_start(alloc, playback, clock, begin);
     }
     Ok(String::new(alloc))

@@ -68,9 +68,9 @@ fn sent_by<'s>(history: &'s [Record], report: Report, begin: &'s PreviewedBegin)
 {
     let notice = notice_for(
         report.integration as usize,
-        notices_at(history, begin.place),
+        notices_at(history, begin.index),
     )?;
-    let outcome = outcome_after(history, begin.place, notice)?;
+    let outcome = outcome_after(history, begin.index, notice)?;
     Some(Sent {
         begin,
         notice,
@@ -79,13 +79,13 @@ fn sent_by<'s>(history: &'s [Record], report: Report, begin: &'s PreviewedBegin)
     })
 }
 
-/// What a notice that was begun at a place came to, as the finish of its flush in the later records
+/// What a notice that was begun at an index came to, as the finish of its flush in the later records
 /// says.
-fn outcome_after(history: &[Record], place: usize, notice: &Notice) -> Option<Outcome>
-    ensures { result ≡ outcome_after history.now place notice.now }
+fn outcome_after(history: &[Record], index: usize, notice: &Notice) -> Option<Outcome>
+    ensures { result ≡ outcome_after history.now index notice.now }
 {
     outcome_of(
-        outcomes_in(notice.ticket, later_than(history, place)),
+        outcomes_in(notice.ticket, later_than(history, index)),
         notice.integration,
     )
 }
@@ -95,5 +95,5 @@ pub fn expiry_before(playback: &Playback, sent: &Sent) -> Option<u64>
     ensures { result ≡ expiry_before playback.now sent.now }
 {
     let notice = sent.notice;
-    playback.expired(sent.begin.place, notice.integration as usize)
+    playback.expired(sent.begin.index, notice.integration as usize)
 }

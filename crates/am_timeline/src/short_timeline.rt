@@ -103,7 +103,7 @@ fn push_run_lines<C: TimeFormat>(
 {
     let ending = ending_of(alloc, clock, run)?;
     let frame = Frame {
-        moment: begin.preview.moment(),
+        time: begin.preview.time(),
         ending: ending.as_str(),
     };
     push_begun(playback, clock, &frame, begin, out)
@@ -141,5 +141,5 @@ fn push_until<C: TimeFormat>(clock: &C, until: u64, out: &mut String) -> Result<
     ensures { OnOk result (string_bytes out.new ≡ string_bytes out.old ++ until_text (C.times clock.now) until) }
 {
     out.push_str(" flushes until ")?;
-    clock.push_moment(until, out)
+    clock.push_time(until, out)
 }

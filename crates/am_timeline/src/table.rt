@@ -191,6 +191,6 @@ fn push_end<C: TimeFormat>(
     match event {
         None => out.push_str("none"),
         Some(Event::Begun { .. }) => out.push_str("none"),
-        Some(Event::Sent { begin: _, report }) => clock.push_moment(report.get().ended, out),
+        Some(Event::Sent { begin: _, report }) => clock.push_time(report.get().ended, out),
     }
 }

@@ -68,7 +68,7 @@ fn push_own<C: TimeFormat>(
         ≡ string_bytes out.old ++ own_lines playback.now (C.times clock.now) begin.now) }
 {
     let frame = Frame {
-        moment: begin.preview.moment(),
+        time: begin.preview.time(),
         ending: "\n",
     };
     push_begun(playback, clock, &frame, begin, out)
@@ -160,12 +160,7 @@ fn push_delivery<C: TimeFormat>(
     push_time(clock, sent.report.ended, "notice  ", out)?;
     push_target(config, &notice.group, notice.integration as usize, out)?;
     out.push_str(" delivered")?;
-    push_retries(
-        clock,
-        sent.report.attempts,
-        sent.begin.preview.moment(),
-        out,
-    )?;
+    push_retries(clock, sent.report.attempts, sent.begin.preview.time(), out)?;
     push_if_late(clock, sent, out)
 }
 
@@ -184,12 +179,7 @@ fn push_failure<C: TimeFormat>(
     push_time(clock, sent.report.ended, "failed  ", out)?;
     push_target(config, &notice.group, notice.integration as usize, out)?;
     out.push_str(word)?;
-    push_attempts(
-        clock,
-        sent.report.attempts,
-        sent.begin.preview.moment(),
-        out,
-    )?;
+    push_attempts(clock, sent.report.attempts, sent.begin.preview.time(), out)?;
     push_if_late(clock, sent, out)
 }
 
@@ -213,7 +203,7 @@ fn push_late<C: TimeFormat>(clock: &C, deadline: u64, out: &mut String) -> Resul
         ≡ string_bytes out.old ++ past_text (C.times clock.now) deadline) }
 {
     out.push_str(", past its deadline ")?;
-    clock.push_moment(deadline, out)?;
+    clock.push_time(deadline, out)?;
     out.push_str(", at which Alertmanager cuts it off")
 }
 

@@ -117,12 +117,12 @@ found_with-first found (Some a) others = by (has_set found a.labels) refl
     by false e =
         append_assoc found (a ∷ []) (unfound (found ++ a ∷ []) others) ∙ ap (λ l. found ++ a ∷ l) (without_next found a others)
 
--- the record at a place is the first of those up to it, the latest first
-pub reverse_taken : (history : List Record) (place : ℕ) (r : Record) → 0 < place → place ≤ length history
-    → reverse (take place history) ≡ get_or history (place - 1) r ∷ reverse (take (place - 1) history)
-reverse_taken history place r some within =
-    let here : place ≡ (place - 1) + 1 = omega arith in
-    let inside : place - 1 < length history = omega arith in
+-- the record at an index is the first of those up to it, the latest first
+pub reverse_taken : (history : List Record) (index : ℕ) (r : Record) → 0 < index → index ≤ length history
+    → reverse (take index history) ≡ get_or history (index - 1) r ∷ reverse (take (index - 1) history)
+reverse_taken history index r some within =
+    let here : index ≡ (index - 1) + 1 = omega arith in
+    let inside : index - 1 < length history = omega arith in
     ap (λ (n : ℕ). reverse (take n history)) here
-    ∙ ap (λ (l : List Record). reverse l) (take_more history (place - 1) r inside)
-    ∙ reverse-append (take (place - 1) history) (get_or history (place - 1) r ∷ [])
+    ∙ ap (λ (l : List Record). reverse l) (take_more history (index - 1) r inside)
+    ∙ reverse-append (take (index - 1) history) (get_or history (index - 1) r ∷ [])

@@ -9,7 +9,7 @@ use Rattle.am_alerts.specs.AlertData.{AlertData}
 use Rattle.am_alerts.specs.Labels.{same_label_set}
 use Rattle.am_alerts.specs.LabelOrder.{same_label_set-decides}
 use Rattle.am_alerts.specs.declared.labels.Label.{Label}
-use Rattle.am_alerts.specs.declared.limits.TheConstants.{MAX_MOMENT}
+use Rattle.am_alerts.specs.declared.limits.TheConstants.{MAX_TIME}
 use Rattle.am_model.specs.declared.group.GroupName.{GroupName}
 use Rattle.am_model.specs.declared.preview.MutedAlert.{MutedAlert}
 use Rattle.am_model.specs.State.{same_name}
@@ -41,14 +41,14 @@ pub mute_in-more : (begun : ℕ) (muted : List MutedAlert) (i : ℕ) (d : MutedA
     ≡ option_or (mute_in labels begun (take (i + 1) muted)) held
 mute_in-more begun muted i d labels held inside =
     by (same_label_set (get_or muted i d).labels labels)
-    ∙ sym (ap (λ (l : List MutedAlert). option_or (option_map told (find (λ (x : MutedAlert). same_label_set x.labels labels) l)) held) (reverse_more muted i d inside))
+    ∙ sym (ap (λ (l : List MutedAlert). option_or (option_map mute_of (find (λ (x : MutedAlert). same_label_set x.labels labels) l)) held) (reverse_more muted i d inside))
   where
-    told : MutedAlert → Mute
-    told m = record { begun = begun; cause = m.cause }
+    mute_of : MutedAlert → Mute
+    mute_of m = record { begun = begun; cause = m.cause }
 
     by : (here : Bool)
-        → (if here then Some (told (get_or muted i d)) else option_or (mute_in labels begun (take i muted)) held)
-        ≡ option_or (option_map told (if here then Some (get_or muted i d) else find (λ (x : MutedAlert). same_label_set x.labels labels) (reverse (take i muted)))) held
+        → (if here then Some (mute_of (get_or muted i d)) else option_or (mute_in labels begun (take i muted)) held)
+        ≡ option_or (option_map mute_of (if here then Some (get_or muted i d) else find (λ (x : MutedAlert). same_label_set x.labels labels) (reverse (take i muted)))) held
     by true = refl
     by false = refl
 
@@ -88,24 +88,24 @@ route_mute-none begins b group found = by (same_name b.preview.group group) ∙ 
 
 -- for how long a label set fired by inserts and by one more, where this is what is kept of it
 pub fired_for-added : (alerts : List AlertData) (a : AlertData) (labels : List Label) (total : ℕ) (before : Option ℕ)
-    → total ≡ min (fired_for a.labels alerts + (unwrap_or a.ends a.starts - a.starts)) MAX_MOMENT
+    → total ≡ min (fired_for a.labels alerts + (unwrap_or a.ends a.starts - a.starts)) MAX_TIME
     → unwrap_or before 0 ≡ fired_for labels alerts
     → unwrap_or (cond (same_label_set a.labels labels) (Some total) before) 0 ≡ fired_for labels (alerts ++ a ∷ [])
 fired_for-added alerts a labels total before is kept = by (same_label_set a.labels labels) refl
   where
-    whole : fired_for labels (alerts ++ a ∷ []) ≡ min (sum_by (span_of labels) alerts + (0 + span_of labels a)) MAX_MOMENT
-    whole = ap (λ n. min n MAX_MOMENT) (sum_by-append (span_of labels) alerts (a ∷ []))
+    whole : fired_for labels (alerts ++ a ∷ []) ≡ min (sum_by (span_of labels) alerts + (0 + span_of labels a)) MAX_TIME
+    whole = ap (λ n. min n MAX_TIME) (sum_by-append (span_of labels) alerts (a ∷ []))
 
     by : (here : Bool) → same_label_set a.labels labels ≡ here
         → unwrap_or (cond here (Some total) before) 0 ≡ fired_for labels (alerts ++ a ∷ [])
     by true e =
-        let own : total ≡ min (fired_for labels alerts + (unwrap_or a.ends a.starts - a.starts)) MAX_MOMENT =
-        subst (λ (l : List Label). total ≡ min (fired_for l alerts + (unwrap_or a.ends a.starts - a.starts)) MAX_MOMENT) ((same_label_set-decides a.labels labels).0 e) is in
+        let own : total ≡ min (fired_for labels alerts + (unwrap_or a.ends a.starts - a.starts)) MAX_TIME =
+        subst (λ (l : List Label). total ≡ min (fired_for l alerts + (unwrap_or a.ends a.starts - a.starts)) MAX_TIME) ((same_label_set-decides a.labels labels).0 e) is in
         let more : span_of labels a ≡ unwrap_or a.ends a.starts - a.starts = ap (λ b. if b then unwrap_or a.ends a.starts - a.starts else 0) e in
-        let capped : min (min (sum_by (span_of labels) alerts) MAX_MOMENT + (unwrap_or a.ends a.starts - a.starts)) MAX_MOMENT
-        ≡ min (sum_by (span_of labels) alerts + (0 + (unwrap_or a.ends a.starts - a.starts))) MAX_MOMENT = omega arith in
-        own ∙ capped ∙ ap (λ n. min (sum_by (span_of labels) alerts + (0 + n)) MAX_MOMENT) (sym more) ∙ sym whole
+        let capped : min (min (sum_by (span_of labels) alerts) MAX_TIME + (unwrap_or a.ends a.starts - a.starts)) MAX_TIME
+        ≡ min (sum_by (span_of labels) alerts + (0 + (unwrap_or a.ends a.starts - a.starts))) MAX_TIME = omega arith in
+        own ∙ capped ∙ ap (λ n. min (sum_by (span_of labels) alerts + (0 + n)) MAX_TIME) (sym more) ∙ sym whole
     by false e =
         let none : span_of labels a ≡ 0 = ap (λ b. if b then unwrap_or a.ends a.starts - a.starts else 0) e in
-        let same : min (sum_by (span_of labels) alerts) MAX_MOMENT ≡ min (sum_by (span_of labels) alerts + (0 + 0)) MAX_MOMENT = omega arith in
-        kept ∙ same ∙ ap (λ n. min (sum_by (span_of labels) alerts + (0 + n)) MAX_MOMENT) (sym none) ∙ sym whole
+        let same : min (sum_by (span_of labels) alerts) MAX_TIME ≡ min (sum_by (span_of labels) alerts + (0 + 0)) MAX_TIME = omega arith in
+        kept ∙ same ∙ ap (λ n. min (sum_by (span_of labels) alerts + (0 + n)) MAX_TIME) (sym none) ∙ sym whole

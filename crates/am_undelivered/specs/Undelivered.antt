@@ -7,7 +7,7 @@ use Rattle.am_alerts.specs.AlertData.{AlertData}
 use Rattle.am_alerts.specs.Labels.{same_label_set}
 use Rattle.am_alerts.specs.RoutingTree.{route_at, routes_of}
 use Rattle.am_alerts.specs.declared.labels.Label.{Label}
-use Rattle.am_alerts.specs.declared.limits.TheConstants.{MAX_MOMENT}
+use Rattle.am_alerts.specs.declared.limits.TheConstants.{MAX_TIME}
 use Rattle.am_mute.specs.declared.mute.MuteCause.{MuteCause}
 use Rattle.am_model.specs.declared.config.Config.{Config}
 use Rattle.am_model.specs.declared.group.GroupName.{GroupName}
@@ -21,7 +21,7 @@ use Rattle.am_model.specs.declared.views.RowView.{RowView}
 use Rattle.am_model.specs.Configured.{integrations_named}
 use Rattle.am_model.specs.Insert.{name_in}
 use Rattle.am_model.specs.Lists.{without}
-use Rattle.am_model.specs.look_back.Entry.{known_in, row_in, tells_put}
+use Rattle.am_model.specs.look_back.Entry.{known_in, row_in, reports_put}
 use Rattle.am_model.specs.look_back.Past.{notices_in, past_of}
 use Rattle.am_model.specs.Notice.{NoticeData}
 use Rattle.am_model.specs.State.{same_name}
@@ -55,7 +55,7 @@ row_sets row = row.firing ++ row.resolved
 
 -- the label sets of the row that a record put into the log, if it did: the dispatcher before notified of them
 abbrev pub sets_loaded : Record → List (List Label)
-sets_loaded r = if tells_put r.reply then option_map_or row_sets (row_in r.call) [] else []
+sets_loaded r = if reports_put r.reply then option_map_or row_sets (row_in r.call) [] else []
 
 -- the label sets in the notices of a history
 abbrev pub sent_in : List Record → List (List Label)
@@ -63,13 +63,13 @@ sent_in [] = []
 sent_in (r ∷ later) = flat_map sets_in (notices_in r.reply) ++ sent_in later
 
 -- the label sets that a receiver was notified of, as a record says: those of the delivered notices of its flush, and those of its row
-abbrev pub sets_told : List Record → Record → List (List Label)
-sets_told later r = flat_map (sets_delivered later) (notices_in r.reply) ++ sets_loaded r
+abbrev pub sets_notified : List Record → Record → List (List Label)
+sets_notified later r = flat_map (sets_delivered later) (notices_in r.reply) ++ sets_loaded r
 
--- told: the label sets that a receiver was notified of, by a delivered notice of the history or by the dispatcher before
-abbrev pub told_in : List Record → List (List Label)
-told_in [] = []
-told_in (r ∷ later) = sets_told later r ++ told_in later
+-- reported: the label sets that a receiver was notified of, by a delivered notice of the history or by the dispatcher before
+abbrev pub notified_in : List Record → List (List Label)
+notified_in [] = []
+notified_in (r ∷ later) = sets_notified later r ++ notified_in later
 
 -- whether a label set is among these
 abbrev pub is_among : List Label → List (List Label) → Bool
@@ -83,15 +83,15 @@ with_first alerts (Some a) = if has_set alerts a.labels then alerts else alerts 
 -- undelivered: of the alerts that were inserted, forgotten ones too, those that no delivered notice and no row that was put into the log
 -- has, the one that was inserted last at the end
 abbrev pub undelivered_in : List Record → List AlertData
-undelivered_in history = without (λ a. is_among a.labels (told_in history)) (reverse (known_in (past_of history)))
+undelivered_in history = without (λ a. is_among a.labels (notified_in history)) (reverse (known_in (past_of history)))
 
 -- for how long an insert says that an alert of a label set fired: nothing where it has no end
 abbrev pub span_of : List Label → AlertData → ℕ
 span_of labels a = if same_label_set a.labels labels then unwrap_or a.ends a.starts - a.starts else 0
 
--- for how long an alert of a label set fired, up to the greatest moment, by the ends that were inserted
+-- for how long an alert of a label set fired, up to the greatest time, by the ends that were inserted
 abbrev pub fired_for : List Label → List AlertData → ℕ
-fired_for labels alerts = min (sum_by (span_of labels) alerts) MAX_MOMENT
+fired_for labels alerts = min (sum_by (span_of labels) alerts) MAX_TIME
 
 -- why a label set is one of these that are muted at a begin at this time, if it is: the last one counts
 abbrev pub mute_in : List Label → ℕ → List MutedAlert → Option Mute
@@ -100,7 +100,7 @@ mute_in labels begun muted =
 
 -- why a label set is muted at a begin, if it is
 abbrev pub mute_at_begin : List Label → Preview → Option Mute
-mute_at_begin labels o = mute_in labels o.moment o.muted
+mute_at_begin labels o = mute_in labels o.time o.muted
 
 -- the first of these begins at which a label set was muted
 abbrev pub first_mute : List Label → List PreviewedBegin → Option Mute
@@ -126,7 +126,7 @@ mute_end (RouteMuted until) = Some until
 -- a flush that finds its route muted, as the first of the reasons says: all say the same
 abbrev pub route_mute_of : Preview → Option RouteMute
 route_mute_of o =
-    option_map (λ until. record { begun = o.moment; until = until }) (option_and_then mute_end (slice_get o.reasons 0))
+    option_map (λ until. record { begun = o.time; until = until }) (option_and_then mute_end (slice_get o.reasons 0))
 
 -- a flush of a group that finds its route muted
 abbrev pub route_mute_in : GroupName → PreviewedBegin → Option RouteMute
@@ -141,7 +141,7 @@ first_route_mute group (b ∷ begins) = option_or (route_mute_in group b) (first
 abbrev pub last_route_mute : GroupName → List PreviewedBegin → Option RouteMute
 last_route_mute group begins = first_route_mute group (reverse begins)
 
--- until when a route is muted, as a flush found it at this moment or later
+-- until when a route is muted, as a flush found it at this time or later
 abbrev pub mute_since : ℕ → Option RouteMute → Option ℕ
 mute_since starts None = None
 mute_since starts (Some m) = if nat_le starts m.begun then Some m.until else None
@@ -219,19 +219,19 @@ abbrev pub muted_besides_text : TimeFormatData → Option Mute → List ℕ
 muted_besides_text times None = []
 muted_besides_text times (Some m) = codes ";" ++ cause_text times m.cause
 
--- that the route was muted until a moment, and why the alert was muted besides
+-- that the route was muted until a time, and why the alert was muted besides
 abbrev pub route_muted_text : TimeFormatData → ℕ → Option Mute → List ℕ
 route_muted_text times until mute =
     codes "muted at each flush: route muted until " ++ times.text until ++ muted_besides_text times mute
 
--- why no begin sent an alert that fired last from a moment on and has this end, where this is how it was muted last, if it was: a flush
+-- why no begin sent an alert that fired last from a time on and has this end, where this is how it was muted last, if it was: a flush
 -- found it muted since then, or no flush came
 abbrev pub unsent_text : TimeFormatData → Option Mute → ℕ → Option ℕ → List ℕ
 unsent_text times None starts ends = unseen_text ends
 unsent_text times (Some m) starts ends =
     if nat_le starts m.begun then muted_each_text times m.cause else unseen_again_text times ends m.cause
 
--- the same, where its route was muted until this moment, if it was
+-- the same, where its route was muted until this time, if it was
 abbrev pub unsent_by_route_text : TimeFormatData → Option ℕ → Option Mute → AlertData → List ℕ
 unsent_by_route_text times None mute a = unsent_text times mute a.starts a.ends
 unsent_by_route_text times (Some until) mute a = route_muted_text times until mute

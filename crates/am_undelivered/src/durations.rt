@@ -1,15 +1,15 @@
 //! `Durations`: for how long alerts fired. Contracts see it as the list of the inserts that were added.
 //!
-//! Invariant: each label set has the sum of the spans of its inserts, up to the greatest moment.
+//! Invariant: each label set has the sum of the spans of its inserts, up to the greatest time.
 ghost use Rattle.std.specs.Prelude.{◌≡◌, ◌≤◌, ◌-◌, ◌++◌, ◌∷◌, [], OnOk, unwrap_or};
-ghost use Rattle.am_alerts.specs.declared.limits.TheConstants.{MAX_MOMENT};
+ghost use Rattle.am_alerts.specs.declared.limits.TheConstants.{MAX_TIME};
 ghost use Rattle.am_model.specs.look_back.Entry.{alert_in};
 ghost use Rattle.am_timeline.specs.Filtered.{insert_of, inserted_in};
 ghost use Rattle.am_undelivered.specs.Undelivered.{fired_for};
 
 use am_alerts::alert::Alert;
 use am_alerts::labels::Labels;
-use am_alerts::limits::MAX_MOMENT;
+use am_alerts::limits::MAX_TIME;
 use am_ghost::GhostList;
 use am_model::record::{Call, Record};
 use am_seed::Seed;
@@ -55,7 +55,7 @@ impl Durations {
     /// For how long an alert of this label set fired, in milliseconds.
     pub(crate) fn fired_for(&self, labels: &Labels) -> u64
         ensures value { result ≡ fired_for labels.now self.now }
-        ensures bound { result ≤ MAX_MOMENT }
+        ensures bound { result ≤ MAX_TIME }
     {
         match self.totals.get(labels) {
             None => 0,
@@ -69,7 +69,7 @@ impl Durations {
     {
         let total = self.fired_for(alert.labels()) + span_of(alert);
         let labels = alert.labels().copy(self.alloc)?;
-        self.totals.insert(labels, total.min(MAX_MOMENT))?;
+        self.totals.insert(labels, total.min(MAX_TIME))?;
         self.added.add(alert);
         Ok(())
     }
@@ -98,7 +98,7 @@ impl Durations {
 /// For how long an insert says that its alert fired: nothing where it has no end.
 fn span_of(alert: &Alert) -> u64
     ensures value { result ≡ unwrap_or alert.now.ends alert.now.starts - alert.now.starts }
-    ensures bound { result ≤ MAX_MOMENT }
+    ensures bound { result ≤ MAX_TIME }
 {
     match alert.ends() {
         None => 0,

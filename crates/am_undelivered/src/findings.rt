@@ -5,8 +5,8 @@ ghost use Rattle.am_undelivered.specs.Undelivered.{alert_route_mute, findings_of
 use crate::durations::Durations;
 use crate::label_sets::LabelSets;
 use crate::muted_alerts::{Mute, MutedAlerts};
+use crate::notified_labels::sent_sets;
 use crate::route_mutes::RouteMutes;
-use crate::told::sent_sets;
 use am_alerts::alert::Alert;
 use am_alerts::labels::Labels;
 use am_model::config::Config;

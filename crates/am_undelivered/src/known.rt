@@ -30,8 +30,8 @@ fn latest_alerts(alloc: Global, seed: Seed, history: &[Record]) -> Result<Vec<Al
 {
     let mut seen = LabelSets::new(alloc, seed);
     let mut alerts = Vec::new(alloc);
-    for place in (0..history.len()).rev() {
-        add_first(alloc, &history[place].call, &mut seen, &mut alerts)?;
+    for index in (0..history.len()).rev() {
+        add_first(alloc, &history[index].call, &mut seen, &mut alerts)?;
     }
     Ok(alerts)
 }

@@ -6,6 +6,6 @@ mod findings;
 mod known;
 mod label_sets;
 mod muted_alerts;
+mod notified_labels;
 pub mod report;
 mod route_mutes;
-mod told;

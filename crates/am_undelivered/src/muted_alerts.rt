@@ -61,7 +61,7 @@ impl MutedAlerts {
         let mut added = GhostList::new();
         for begin in begins {
             let muted = begin.preview.muted();
-            add_mutes(alloc, begin.preview.moment(), muted, &mut mutes)?;
+            add_mutes(alloc, begin.preview.time(), muted, &mut mutes)?;
         }
         added.add_all(begins);
         Ok(MutedAlerts {

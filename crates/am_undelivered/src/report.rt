@@ -16,7 +16,7 @@ use crate::findings::Findings;
 use crate::known::known_alerts;
 use crate::label_sets::LabelSets;
 use crate::muted_alerts::Mute;
-use crate::told::told_sets;
+use crate::notified_labels::notified_sets;
 use am_alerts::alert::Alert;
 use am_alerts::labels::Labels;
 use am_model::config::Config;
@@ -42,18 +42,22 @@ pub fn undelivered_alerts(
 ) -> Result<Vec<Alert>, AllocError>
     ensures { IfOk result (λ alerts. alerts.items ≡ undelivered_in history.now) }
 {
-    let told = told_sets(alloc, seed, history)?;
+    let notified = notified_sets(alloc, seed, history)?;
     let known = known_alerts(alloc, seed, history)?;
-    without_told(alloc, &told, known.as_slice())
+    without_notified(alloc, &notified, known.as_slice())
 }
 
 /// The alerts whose label sets aren't among these.
-fn without_told(alloc: Global, told: &LabelSets, known: &[Alert]) -> Result<Vec<Alert>, AllocError>
-    ensures { IfOk result (λ alerts. alerts.items ≡ without (λ a. is_among a.labels told.now) known.now) }
+fn without_notified(
+    alloc: Global,
+    notified: &LabelSets,
+    known: &[Alert],
+) -> Result<Vec<Alert>, AllocError>
+    ensures { IfOk result (λ alerts. alerts.items ≡ without (λ a. is_among a.labels notified.now) known.now) }
 {
     let mut alerts = Vec::new(alloc);
     for alert in known {
-        if !told.has(alert.labels()) {
+        if !notified.has(alert.labels()) {
             alerts.push(alert.copy(alloc)?)?;
         }
     }
@@ -183,7 +187,7 @@ fn push_fired_until<C: TimeFormat>(
     out.push_str("fired for ")?;
     push_counted(total, out)?;
     out.push_str(" until ")?;
-    clock.push_moment(end, out)
+    clock.push_time(end, out)
 }
 
 fn push_fires_since<C: TimeFormat>(
@@ -196,7 +200,7 @@ fn push_fires_since<C: TimeFormat>(
         ≡ string_bytes out.old ++ fired_text (C.times clock.now) total starts None) }
 {
     out.push_str("fires since ")?;
-    clock.push_moment(starts, out)?;
+    clock.push_time(starts, out)?;
     push_before(total, out)
 }
 
@@ -235,7 +239,7 @@ fn push_cause_of<C: TimeFormat>(
     push_unsent_by_route(clock, until, found.last_mute(labels), alert, out)
 }
 
-/// Adds why no begin sent an alert whose route was muted until this moment, if it was.
+/// Adds why no begin sent an alert whose route was muted until this time, if it was.
 fn push_unsent_by_route<C: TimeFormat>(
     clock: &C,
     until: Option<u64>,
@@ -252,7 +256,7 @@ fn push_unsent_by_route<C: TimeFormat>(
     }
 }
 
-/// Adds that the route of an alert was muted until a moment, and why the alert was muted besides.
+/// Adds that the route of an alert was muted until a time, and why the alert was muted besides.
 fn push_route_muted<C: TimeFormat>(
     clock: &C,
     until: u64,
@@ -263,7 +267,7 @@ fn push_route_muted<C: TimeFormat>(
         ++ route_muted_text (C.times clock.now) until (option_copied mute.entry)) }
 {
     out.push_str("muted at each flush: route muted until ")?;
-    clock.push_moment(until, out)?;
+    clock.push_time(until, out)?;
     push_muted_besides(clock, mute, out)
 }
 
@@ -283,7 +287,7 @@ fn push_muted_besides<C: TimeFormat>(
     push_cause(clock, &mute.cause, out)
 }
 
-/// Adds why no begin sent an alert that fired last from a moment on and has this end.
+/// Adds why no begin sent an alert that fired last from a time on and has this end.
 fn push_unsent<C: TimeFormat>(
     clock: &C,
     mute: Option<&Mute>,

@@ -134,7 +134,7 @@ fn route_mute_of(preview: &SharedPreview) -> Option<RouteMute>
     let reason = preview.reasons().first()?;
     let until = mute_end(reason)?;
     Some(RouteMute {
-        begun: preview.moment(),
+        begun: preview.time(),
         until,
     })
 }

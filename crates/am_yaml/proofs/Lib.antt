@@ -1,4 +1,4 @@
 -- how deep the items and the members of a longer part lie
 mod Depths
--- lines and columns behind one more byte, and places behind a byte order mark
-mod Places
+-- lines and columns behind one more byte, and locations behind a byte order mark
+mod Locations

@@ -4,7 +4,7 @@ use Rattle.am_yaml.specs.declared.fault.YamlFault.{YamlFault}
 use Rattle.am_yaml.specs.declared.fault.YamlFault.TheVariants.{Refused, TooLong, NoMemory}
 
 -- if a fault has a line and a column, P holds for them
-abbrev pub AtPlace : (ℕ → ℕ → Type 0) → YamlFault → Type 0
-AtPlace P (Refused line column reason) = P line column
-AtPlace P TooLong = Unit {0}
-AtPlace P NoMemory = Unit {0}
+abbrev pub AtLocation : (ℕ → ℕ → Type 0) → YamlFault → Type 0
+AtLocation P (Refused line column reason) = P line column
+AtLocation P TooLong = Unit {0}
+AtLocation P NoMemory = Unit {0}

@@ -3,4 +3,4 @@ pub mod Document
 -- where a text is refused
 pub mod Fault
 -- lines and columns, which count from 1, the column in bytes
-pub mod Place
+pub mod Location

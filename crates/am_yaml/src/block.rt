@@ -1,11 +1,11 @@
-//! Block collections, and what stands in them.
+//! Block collections, and what is in them.
 use crate::fault::{Reason, Stop};
 use crate::members::{Key, Members};
 use crate::parser::{Parser, depth_at};
-use crate::plain::Place;
+use crate::plain::ScalarContext;
 use serde_json::Value;
 
-/// What stands before a node.
+/// What is before a node.
 #[derive(Clone, Copy, PartialEq, Eq)]
 pub(crate) enum Lead {
     /// The mark that starts a document.
@@ -80,7 +80,7 @@ impl Parser<'_> {
         }
     }
 
-    /// Reads a sequence whose dashes stand in a column.
+    /// Reads a sequence whose dashes are in a column.
     #[cycle(block)]
     fn block_sequence(&mut self, column: usize, levels: usize) -> Result<Value, Stop> {
         let Some(below) = levels.checked_sub(1) else {
@@ -102,7 +102,7 @@ impl Parser<'_> {
         Ok(Value::Array(items))
     }
 
-    /// Reads a mapping whose keys stand in a column, from behind the first key on.
+    /// Reads a mapping whose keys are in a column, from behind the first key on.
     #[cycle(block)]
     fn block_mapping(&mut self, column: usize, first: Key, levels: usize) -> Result<Value, Stop> {
         let Some(below) = levels.checked_sub(1) else {
@@ -128,7 +128,7 @@ impl Parser<'_> {
         Err(self.cursor.stop(Reason::Unexpected))
     }
 
-    /// Reads the next key of a mapping whose keys stand in a column, if there is one.
+    /// Reads the next key of a mapping whose keys are in a column, if there is one.
     fn next_key(&mut self, column: usize) -> Result<Option<Key>, Stop> {
         if self.cursor.content_column() != Some(column) {
             return Ok(None);
@@ -148,7 +148,7 @@ impl Parser<'_> {
             b'\'' | b'"' => Value::String(self.quoted()?),
             b'&' => return Err(self.cursor.stop(Reason::Anchor)),
             b'!' => return Err(self.cursor.stop(Reason::Tag)),
-            _ => self.plain_value(Place::Block { floor })?,
+            _ => self.plain_value(ScalarContext::Block { floor })?,
         };
         self.cursor.end_line()?;
         Ok(value)

@@ -4,7 +4,7 @@ ghost use Rattle.serde_json.specs.View.{view};
 ghost use Rattle.am_yaml.specs.Document.{IsReadAs, Refuses};
 
 use crate::fault::YamlFault;
-use crate::place::Place;
+use crate::location::Location;
 use crate::reader::read_yaml;
 use serde_json::Value;
 use std::alloc::Global;
@@ -13,10 +13,10 @@ use thiserror::Error;
 /// Why no value is read from bytes.
 #[derive(Clone, Copy, Debug, PartialEq, Eq, Error)]
 pub enum DocumentFault {
-    /// They are no text in UTF-8 from this place on.
+    /// They are no text in UTF-8 from this location on.
     #[error("not UTF-8")]
     NotText { line: usize, column: usize },
-    /// They are no JSON, for what stands at this place, though they begin as an object or an array does.
+    /// They are no JSON, for what is at this location, though they begin as an object or an array does.
     #[error("not JSON")]
     NotJson { line: usize, column: usize },
     /// They are neither JSON nor YAML as it is read here.
@@ -48,7 +48,7 @@ pub fn read_document(alloc: Global, bytes: &[u8]) -> Result<Value, DocumentFault
 
 /// Returns the fault of bytes of which so many are text.
 fn not_text(bytes: &[u8], valid: usize) -> DocumentFault {
-    let Place { line, column } = Place::behind(&bytes[..valid.min(bytes.len())]);
+    let Location { line, column } = Location::behind(&bytes[..valid.min(bytes.len())]);
     DocumentFault::NotText { line, column }
 }
 

@@ -3,14 +3,14 @@ use std::alloc::{AllocError, AllocFailed};
 use std::fmt;
 use thiserror::Error;
 
-/// What stands at the place where a text is refused.
+/// What is at the location where a text is refused.
 #[derive(Clone, Copy, Debug, PartialEq, Eq)]
 pub enum Reason {
     /// A control character, a byte order mark, or one of the three Unicode line ends, on which readers differ.
     Character,
     /// A tab where only spaces indent.
     Tab,
-    /// Something that can't stand here; often a line that is indented as no line before it.
+    /// Something that can't be here; often a line that is indented as no line before it.
     Unexpected,
     /// A second document.
     Document,
@@ -53,7 +53,7 @@ pub enum Reason {
 /// Why nothing is made of a text.
 #[derive(Clone, Copy, Debug, PartialEq, Eq, Error)]
 pub enum YamlFault {
-    /// What stands at this line and column is refused. Both count from 1, the column in bytes.
+    /// What is at this line and column is refused. Both count from 1, the column in bytes.
     #[error("line {line}, column {column}: {reason}")]
     Refused {
         line: usize,

@@ -1,9 +1,9 @@
-//! Flow collections: what stands between brackets or braces.
+//! Flow collections: what is between brackets or braces.
 use crate::cursor::{Cursor, END, is_blank};
 use crate::fault::{Reason, Stop};
 use crate::members::{Key, Members};
 use crate::parser::{Parser, depth_at};
-use crate::plain::Place;
+use crate::plain::ScalarContext;
 use serde_json::Value;
 
 impl Cursor<'_> {
@@ -51,7 +51,7 @@ impl Parser<'_> {
             b'*' => self.alias(levels),
             b'\'' | b'"' => Ok(Value::String(self.quoted()?)),
             END => Err(self.cursor.stop(Reason::Unterminated)),
-            _ => self.plain_value(Place::Flow { floor }),
+            _ => self.plain_value(ScalarContext::Flow { floor }),
         }
     }
 
@@ -110,7 +110,7 @@ impl Parser<'_> {
         Err(start.stop(Reason::Unterminated))
     }
 
-    /// Reads what stands behind a key between braces, which may be nothing.
+    /// Reads what is behind a key between braces, which may be nothing.
     #[cycle(flow)]
     fn flow_value(&mut self, floor: usize, levels: usize) -> Result<Value, Stop> {
         self.cursor.skip_flow_gap()?;
@@ -124,7 +124,7 @@ impl Parser<'_> {
     fn flow_key(&mut self, floor: usize) -> Result<Key, Stop> {
         let start = self.cursor;
         let is_quoted = start.is_quote();
-        let key = self.key_text(Place::Flow { floor })?;
+        let key = self.key_text(ScalarContext::Flow { floor })?;
         self.cursor.skip_blanks();
         let is_colon = self.cursor.byte() == b':';
         if !is_colon || !(is_quoted || self.cursor.is_indicator(b':')) {

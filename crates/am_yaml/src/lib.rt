@@ -1,5 +1,5 @@
 //! Configuration files in YAML, read as JSON values: what YAML's core schema and go-yaml both make of a file, or a
-//! refusal with its line and column. And where in the text a value stands.
+//! refusal with its line and column. And where in the text a value is.
 #![tactic(auto)]
 
 mod anchors;
@@ -12,11 +12,11 @@ pub mod fault;
 mod flow;
 mod key;
 pub mod locate;
+pub mod location;
 mod measure;
 mod members;
 pub mod parser;
 mod path;
-pub mod place;
 mod plain;
 mod quoted;
 pub mod reader;

@@ -1,11 +1,11 @@
-//! Where values stand in a text.
+//! Where values are in a text.
 ghost use Rattle.std.specs.Prelude.{IfOk};
-ghost use Rattle.am_yaml.specs.Place.{IsPlaceIn};
+ghost use Rattle.am_yaml.specs.Location.{IsLocationIn};
 
 use crate::fault::Stop;
+use crate::location::Location;
 use crate::parser::Parser;
 use crate::path::{Step, steps_of};
-use crate::place::Place;
 use crate::reader::{offset_with_returns, without_mark, without_returns};
 use std::alloc::{AllocError, Global};
 
@@ -16,17 +16,17 @@ pub enum Part {
     Value,
 }
 
-/// Returns where a value stands in a text of YAML or JSON, or the key of its member, by its JSON pointer: of two members
+/// Returns where a value is in a text of YAML or JSON, or the key of its member, by its JSON pointer: of two members
 /// of one name in JSON the last one. Where the text hasn't it, or can't be read up to it, it is the key of the last value
 /// on the way that it has.
-pub fn locate(alloc: Global, text: &str, pointer: &str, part: Part) -> Result<Place, AllocError>
-    ensures { IfOk result (λ place. IsPlaceIn text.now place.line place.column) }
+pub fn locate(alloc: Global, text: &str, pointer: &str, part: Part) -> Result<Location, AllocError>
+    ensures { IfOk result (λ location. IsLocationIn text.now location.line location.column) }
 {
     let steps = steps_of(alloc, pointer)?;
     let text = without_mark(text);
     let at = offset_in_lines(alloc, text, steps.as_slice(), part)?;
     let end = at.min(text.len());
-    Ok(Place::behind(&text.as_bytes()[..end]))
+    Ok(Location::behind(&text.as_bytes()[..end]))
 }
 
 /// Returns the offset in a text whose lines end as they do on Unix or on Windows.

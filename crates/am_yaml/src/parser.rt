@@ -4,7 +4,7 @@ use crate::cursor::{Cursor, is_gap};
 use crate::fault::{Reason, Stop};
 use crate::members::{Key, Members};
 use crate::path::{Path, Step};
-use crate::plain::Place;
+use crate::plain::ScalarContext;
 use crate::resolve::resolve;
 use serde_json::Value;
 use std::alloc::Global;
@@ -20,7 +20,7 @@ pub(crate) fn depth_at(levels: usize) -> usize {
     MAX_DEPTH.saturating_sub(levels)
 }
 
-/// The place that is read, and what was read of anchors.
+/// The location that is read, and what was read of anchors.
 #[derive(Drop)]
 pub(crate) struct Parser<'t> {
     pub(crate) alloc: Global,
@@ -29,7 +29,7 @@ pub(crate) struct Parser<'t> {
     pub(crate) path: Path<'t>,
     /// Whether a flag or a number is the text that is written.
     wants_texts: bool,
-    /// Whether a key may stand twice between braces, as in JSON.
+    /// Whether a key may be twice between braces, as in JSON.
     may_repeat: bool,
 }
 
@@ -58,7 +58,7 @@ impl<'t> Parser<'t> {
         }
     }
 
-    /// Lets a key stand twice between braces, as in JSON. The last one counts.
+    /// Lets a key are twice between braces, as in JSON. The last one counts.
     pub(crate) fn let_repeat(&mut self) {
         self.may_repeat = true;
     }
@@ -135,10 +135,10 @@ impl<'t> Parser<'t> {
         self.anchors.copy(name, at, levels, self.wants_texts)
     }
 
-    /// Reads a plain scalar, and tells what it means. Where texts are wanted only null isn't its own text.
-    pub(crate) fn plain_value(&mut self, place: Place) -> Result<Value, Stop> {
+    /// Reads a plain scalar, and says what it means. Where texts are wanted only null isn't its own text.
+    pub(crate) fn plain_value(&mut self, context: ScalarContext) -> Result<Value, Stop> {
         let at = self.cursor.at();
-        let text = self.plain(place)?;
+        let text = self.plain(context)?;
         match resolve(text.as_str()) {
             Ok(Some(Value::Null)) => Ok(Value::Null),
             Ok(Some(value)) if !self.wants_texts => Ok(value),

@@ -78,7 +78,7 @@ impl<'t> Path<'t> {
         }
     }
 
-    /// Goes a step if it leads to the member of this name, so many levels below the top, and tells whether it does. Of two
+    /// Goes a step if it leads to the member of this name, so many levels below the top, and says whether it does. Of two
     /// members of one name the last counts.
     pub(crate) fn enter_member(&mut self, depth: usize, name: &str, at: usize) -> bool {
         let is_step = match self.next_step(depth) {
@@ -88,7 +88,7 @@ impl<'t> Path<'t> {
         is_step && self.go(at)
     }
 
-    /// Goes a step if it leads to the item of this number, so many levels below the top, and tells whether it does.
+    /// Goes a step if it leads to the item of this number, so many levels below the top, and says whether it does.
     pub(crate) fn enter_item(&mut self, depth: usize, index: usize, at: usize) -> bool {
         let is_step = match self.next_step(depth) {
             Some(step) => step.index == Some(index),
@@ -101,7 +101,7 @@ impl<'t> Path<'t> {
     pub(crate) fn leave(&mut self, is_entered: bool) {
         if is_entered {
             self.open = self.open.saturating_sub(1);
-            // (an empty value stands at its key)
+            // (an empty value is at its key)
             self.is_awaited = false;
         }
     }

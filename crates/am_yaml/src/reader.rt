@@ -2,15 +2,15 @@
 ghost use Rattle.std.specs.Prelude.{◌≡◌, ◌≢◌, ◌<◌, ◌≤◌, ◌↔◌, ℕ, drop, length, IfErr, IfOk};
 ghost use Rattle.serde_json.specs.Data.{depth};
 ghost use Rattle.serde_json.specs.View.{view};
-ghost use Rattle.am_yaml.specs.Fault.{AtPlace};
-ghost use Rattle.am_yaml.specs.Place.{IsPlaceIn, IsPlaceOf};
+ghost use Rattle.am_yaml.specs.Fault.{AtLocation};
+ghost use Rattle.am_yaml.specs.Location.{IsLocationIn, IsLocationOf};
 
 use crate::block::Lead;
 use crate::cursor::END;
 use crate::fault::{Reason, Stop, YamlFault};
+use crate::location::Location;
 use crate::measure::is_within;
 use crate::parser::{MAX_DEPTH, Parser};
-use crate::place::Place;
 use serde_json::Value;
 use std::alloc::{AllocError, Global};
 
@@ -21,7 +21,7 @@ pub const MAX_INPUT: usize = 16_777_216;
 pub fn read_yaml(alloc: Global, text: &str) -> Result<Value, YamlFault>
     ensures too_long { (result ≡ Err YamlFault.TooLong) ↔ (MAX_INPUT < length text.now) }
     ensures nests { IfOk result (λ value. depth (view value) ≤ MAX_DEPTH) }
-    ensures placed { IfErr result (AtPlace (IsPlaceIn text.now)) }
+    ensures placed { IfErr result (AtLocation (IsLocationIn text.now)) }
 {
     if text.len() > MAX_INPUT {
         return Err(YamlFault::TooLong);
@@ -130,7 +130,7 @@ fn read_document(alloc: Global, text: &str) -> Result<Value, Stop>
 }
 
 impl Parser<'_> {
-    /// Reads the document, behind which nothing may stand.
+    /// Reads the document, behind which nothing may be.
     pub(crate) fn whole_document(&mut self) -> Result<Value, Stop> {
         self.cursor.to_content()?;
         let value = self.document()?;
@@ -138,7 +138,7 @@ impl Parser<'_> {
         Ok(value)
     }
 
-    /// Reads the document, and what stands before it.
+    /// Reads the document, and what is before it.
     fn document(&mut self) -> Result<Value, Stop> {
         if self.cursor.column() == 0 && self.cursor.byte() == b'%' {
             return Err(self.cursor.stop(Reason::Directive));
@@ -162,7 +162,7 @@ impl Parser<'_> {
         }
     }
 
-    /// Refuses what stands behind the document.
+    /// Refuses what is behind the document.
     fn end_document(&mut self) -> Result<(), Stop> {
         if self.cursor.is_marker() && self.cursor.byte() == b'.' {
             self.skip_marker();
@@ -181,14 +181,14 @@ impl Parser<'_> {
 
 /// The fault at its line and column.
 fn fault_in(text: &str, stop: Stop) -> YamlFault
-    ensures placed { AtPlace (IsPlaceOf text.now) result }
+    ensures placed { AtLocation (IsLocationOf text.now) result }
     ensures other { result ≢ YamlFault.TooLong }
 {
     let Stop::At { at, reason } = stop else {
         return YamlFault::NoMemory;
     };
     let end = at.min(text.len());
-    let Place { line, column } = Place::behind(&text.as_bytes()[..end]);
+    let Location { line, column } = Location::behind(&text.as_bytes()[..end]);
     YamlFault::Refused {
         line,
         column,

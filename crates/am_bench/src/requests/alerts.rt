@@ -24,7 +24,7 @@ pub fn make_calls(probe: &Probe, alloc: Global) -> Result<(), AllocError> {
 fn make_alert(probe: &Probe, labels: Labels, ends: Option<u64>) {
     probe.ask("Alert::new");
     let made = Alert::new(labels, 2, ends);
-    probe.tell(&made.is_ok());
+    probe.show(&made.is_ok());
 }
 
 /// Asks matchers without a pattern.
@@ -32,15 +32,15 @@ fn search(probe: &Probe, alloc: Global, matchers: &[Matcher], labels: &Labels) {
     if let Some(first) = matchers.first() {
         probe.ask("Matcher::matches, without a pattern");
         let matched = first.matches(alloc, labels);
-        probe.tell(&matched);
+        probe.show(&matched);
     }
     probe.ask("all_match, without a pattern");
     let matched = all_match(alloc, matchers, labels);
-    probe.tell(&matched);
+    probe.show(&matched);
     probe.ask("Searchers::new");
     let mut searchers = Searchers::new(alloc, matchers);
-    probe.tell(&"made");
+    probe.show(&"made");
     probe.ask("Searchers::all_match, without a pattern");
     let matched = searchers.all_match(alloc, labels);
-    probe.tell(&matched);
+    probe.show(&matched);
 }

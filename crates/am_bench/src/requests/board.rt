@@ -1,6 +1,6 @@
 //! Calls on boards: from an opening to finishes that log, that remove and that are refused.
 ghost use Rattle.std.specs.Prelude.{◌≡◌};
-ghost use Rattle.am_bench.specs.declared.requests.board.TheConstants.{HOME};
+ghost use Rattle.am_bench.specs.declared.requests.board.TheConstants.{BOARD_ID};
 
 use crate::requests::probe::Probe;
 use crate::requests::ticket;
@@ -15,7 +15,7 @@ use am_board::views::RowView;
 use std::alloc::{AllocError, Global};
 
 /// The id of the board, which its tickets name.
-pub const HOME: u64 = 1;
+pub const BOARD_ID: u64 = 1;
 
 /// The id of another board.
 const ABROAD: u64 = 2;
@@ -27,7 +27,7 @@ const PASS: u32 = 0;
 #[derive(Drop)]
 struct Desk {
     board: Board,
-    ghost ours: { board.id ≡ HOME },
+    ghost ours: { board.id ≡ BOARD_ID },
 }
 
 pub fn make_calls(probe: &Probe, alloc: Global) -> Result<(), AllocError> {
@@ -59,8 +59,8 @@ fn load_rows(probe: &Probe, alloc: Global) -> Result<(), AllocError> {
 impl Desk {
     fn open(probe: &Probe, alloc: Global, config: Config) -> Result<Desk, BoardFault> {
         probe.ask("Board::new");
-        let board = Board::new(alloc, config, HOME)?;
-        probe.tell(&"made");
+        let board = Board::new(alloc, config, BOARD_ID)?;
+        probe.show(&"made");
         Ok(Desk { board })
     }
 
@@ -93,7 +93,7 @@ impl Desk {
     fn insert(&mut self, probe: &Probe, alloc: Global, alert: Alert) {
         probe.ask("with memory: Board::insert");
         let inserted = self.board.insert(alloc, PASS, 0, alert);
-        probe.tell(&inserted);
+        probe.show(&inserted);
     }
 
     /// Loads a row, and then rows that are refused before memory is asked for.
@@ -118,15 +118,15 @@ impl Desk {
     fn load(&mut self, probe: &Probe, alloc: Global, call: &str, row: RowView) {
         probe.ask(call);
         let loaded = self.board.load(alloc, PASS, row, 100);
-        probe.tell(&loaded);
+        probe.show(&loaded);
     }
 
     /// Hands the records out while no flush is open.
     fn take(&mut self, probe: &Probe, alloc: Global) {
         probe.ask("Board::take_history, without an open flush");
         match self.board.take_history(alloc) {
-            Ok(records) => probe.tell(&records.len()),
-            Err(fault) => probe.tell(&fault),
+            Ok(records) => probe.show(&records.len()),
+            Err(fault) => probe.show(&fault),
         }
     }
 
@@ -142,10 +142,10 @@ impl Desk {
         }
     }
 
-    fn begin(&mut self, probe: &Probe, alloc: Global, now: u64) -> Option<OwnTicket<HOME>> {
+    fn begin(&mut self, probe: &Probe, alloc: Global, now: u64) -> Option<OwnTicket<BOARD_ID>> {
         probe.ask("with memory: Board::begin");
         let begun = self.board.begin(alloc, PASS, now);
-        probe.tell(&begun.is_ok());
+        probe.show(&begun.is_ok());
         match begun {
             Ok(Begun::Flush(ticket)) => Some(OwnTicket::new(ticket)),
             Ok(
@@ -159,11 +159,11 @@ impl Desk {
         }
     }
 
-    fn finish(&mut self, probe: &Probe, own: OwnTicket<HOME>, now: u64) {
+    fn finish(&mut self, probe: &Probe, own: OwnTicket<BOARD_ID>, now: u64) {
         probe.ask("Board::finish");
         match self.board.finish_own(PASS, own, now) {
-            Ok(finished) => probe.tell(&finished),
-            Err(_not_open) => probe.tell(&"NotOpen"),
+            Ok(finished) => probe.show(&finished),
+            Err(_not_open) => probe.show(&"NotOpen"),
         }
     }
 
@@ -210,7 +210,7 @@ fn finish_elsewhere(
     probe: &Probe,
     abroad: &mut Board,
     namesake: &mut Desk,
-    own: OwnTicket<HOME>,
+    own: OwnTicket<BOARD_ID>,
     now: u64,
 ) {
     if let Some(own) = finish_abroad(probe, abroad, own, now) {
@@ -221,22 +221,22 @@ fn finish_elsewhere(
 fn finish_abroad(
     probe: &Probe,
     abroad: &mut Board,
-    own: OwnTicket<HOME>,
+    own: OwnTicket<BOARD_ID>,
     now: u64,
-) -> Option<OwnTicket<HOME>> {
+) -> Option<OwnTicket<BOARD_ID>> {
     let ticket = own.into_ticket();
     probe.ask("Board::finish, of a ticket of another board");
     match abroad.finish(PASS, ticket, now) {
         Ok(finished) => {
-            probe.tell(&finished);
+            probe.show(&finished);
             None
         }
         Err(FinishFault::NotOpen) => {
-            probe.tell(&"NotOpen");
+            probe.show(&"NotOpen");
             None
         }
         Err(FinishFault::Foreign(ticket)) => {
-            probe.tell(&"Foreign");
+            probe.show(&"Foreign");
             Some(OwnTicket::new(ticket))
         }
     }
@@ -245,8 +245,8 @@ fn finish_abroad(
 fn look(probe: &Probe, board: &Board) {
     probe.ask("Board::glance");
     let glance = board.glance();
-    probe.tell(&glance);
+    probe.show(&glance);
     probe.ask("Board::summary");
     let summary = board.summary();
-    probe.tell(&summary);
+    probe.show(&summary);
 }

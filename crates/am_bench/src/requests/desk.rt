@@ -14,7 +14,7 @@ use std::alloc::{AllocError, Global};
 use std::sync::Wait;
 
 /// The id of the desk.
-const HOME: u64 = 3;
+const BOARD_ID: u64 = 3;
 
 /// How calls are named that take memory.
 const INSERT: &str = "with memory: Desk::insert";
@@ -30,7 +30,7 @@ pub fn make_calls<R: Wait>(probe: &Probe, rt: &R, alloc: Global) -> Result<(), A
 
 /// The blank of a desk with two passes.
 fn blank(alloc: Global) -> Result<Blank, AllocError> {
-    match Blank::new(alloc, HOME, 2) {
+    match Blank::new(alloc, BOARD_ID, 2) {
         Ok(blank) => Ok(blank),
         Err(_) => Err(AllocError),
     }
@@ -39,7 +39,7 @@ fn blank(alloc: Global) -> Result<Blank, AllocError> {
 /// A configuration by which two alerts and a silence may be known, and eight records kept.
 fn limited(alloc: Global) -> Result<Config, AllocError> {
     let mut config = config(alloc)?;
-    config.limits.names = 2;
+    config.limits.alerts = 2;
     config.limits.silences = 1;
     config.limits.history = 8;
     Ok(config)
@@ -122,7 +122,7 @@ fn refuse_all<N: Name, R: Wait>(
     flush(probe, rt, alloc, desk, pass, call, 630_000);
     probe.ask("without memory: Desk::maintain, the history is full");
     let maintained = desk.maintain(rt, alloc, pass, 630_000);
-    probe.tell(&maintained);
+    probe.show(&maintained);
     Ok(())
 }
 
@@ -137,7 +137,7 @@ fn insert<N: Name, R: Wait>(
 ) {
     probe.ask(call);
     let inserted = desk.insert(rt, alloc, pass, 0, alert);
-    probe.tell(&inserted);
+    probe.show(&inserted);
 }
 
 fn silence<N: Name, R: Wait>(
@@ -151,7 +151,7 @@ fn silence<N: Name, R: Wait>(
 ) {
     probe.ask(call);
     let silenced = desk.silence(rt, alloc, pass, 0, silence);
-    probe.tell(&silenced);
+    probe.show(&silenced);
 }
 
 /// A silence of this id, of no alert that is there.
@@ -175,7 +175,7 @@ fn flush<N: Name, R: Wait>(
     probe.ask(call);
     match desk.begin(rt, alloc, pass, now) {
         Ok(Begun::Flush(ticket)) => {
-            probe.tell(&"flush");
+            probe.show(&"flush");
             finish(probe, rt, desk, pass, OwnTicket::new(ticket), now);
         }
         Ok(
@@ -183,9 +183,9 @@ fn flush<N: Name, R: Wait>(
                 group: _,
                 removed: _,
             },
-        ) => probe.tell(&"quiet"),
-        Ok(Begun::NothingDue) => probe.tell(&"nothing due"),
-        Err(fault) => probe.tell(&fault),
+        ) => probe.show(&"quiet"),
+        Ok(Begun::NothingDue) => probe.show(&"nothing due"),
+        Err(fault) => probe.show(&fault),
     }
 }
 
@@ -199,23 +199,23 @@ fn finish<N: Name, R: Wait>(
 ) {
     probe.ask("Desk::finish_own");
     let finished = desk.finish_own(rt, pass, own, now);
-    probe.tell(&finished);
+    probe.show(&finished);
 }
 
 fn look<N: Name>(probe: &Probe, desk: &Desk<N>, zero: &mut Pass<N>, one: &mut Pass<N>) {
     probe.ask("Desk::glance");
     let glance = desk.glance(zero);
-    probe.tell(&glance);
+    probe.show(&glance);
     probe.ask("Desk::meet");
     desk.meet(zero, one);
-    probe.tell(&"met");
+    probe.show(&"met");
 }
 
 fn close<N: Name>(probe: &Probe, desk: Desk<N>, passes: Vec<Pass<N>>) {
     probe.ask("Desk::close");
     match desk.close(passes) {
         Ok(closed) => {
-            probe.tell(&"closed");
+            probe.show(&"closed");
             sum_up(probe, &closed);
             drop(closed);
         }
@@ -226,7 +226,7 @@ fn close<N: Name>(probe: &Probe, desk: Desk<N>, passes: Vec<Pass<N>>) {
                 passes,
             },
         ) => {
-            probe.tell(&cause);
+            probe.show(&cause);
             drop(passes);
             drop(desk);
         }
@@ -236,5 +236,5 @@ fn close<N: Name>(probe: &Probe, desk: Desk<N>, passes: Vec<Pass<N>>) {
 fn sum_up(probe: &Probe, closed: &Closed) {
     probe.ask("Closed::summary");
     let summary = closed.summary();
-    probe.tell(&summary);
+    probe.show(&summary);
 }

@@ -24,10 +24,10 @@ fn key() -> LogKey<u64>
     }
 }
 
-/// A row at this moment, in which 1 and 3 fired and nothing was resolved; it is collected from 1,000 on.
-fn row(alloc: Global, moment: u64) -> Result<LogRow<u64>, AllocError> {
+/// A row at this time, in which 1 and 3 fired and nothing was resolved; it is collected from 1,000 on.
+fn row(alloc: Global, time: u64) -> Result<LogRow<u64>, AllocError> {
     Ok(LogRow {
-        moment,
+        time,
         firing: members(alloc, &[1, 3])?,
         resolved: members(alloc, &[])?,
         expiry: 1_000,
@@ -44,14 +44,14 @@ fn members(alloc: Global, list: &[u64]) -> Result<Members<u64>, AllocError>
 fn keep_rows(probe: &Probe, alloc: Global) -> Result<(), AllocError> {
     probe.ask("NfLog::new");
     let mut log: NfLog<u64, u64> = NfLog::new(alloc, Seed::fixed())?;
-    probe.tell(&log.len());
+    probe.show(&log.len());
     probe.ask("with memory: NfLog::reserve");
     log.reserve(key())?;
-    probe.tell(&log.len());
+    probe.show(&log.len());
     let row = row(alloc, 100)?;
     probe.ask("NfLog::put");
     log.put(&key(), row);
-    probe.tell(&log.len());
+    probe.show(&log.len());
     collect(probe, &mut log);
     Ok(())
 }
@@ -60,19 +60,19 @@ fn keep_rows(probe: &Probe, alloc: Global) -> Result<(), AllocError> {
 fn collect(probe: &Probe, log: &mut NfLog<u64, u64>) {
     probe.ask("NfLog::get");
     let row = log.get(&key());
-    probe.tell(&row.is_some());
+    probe.show(&row.is_some());
     probe.ask("NfLog::reserve, of a known key");
     let reserved = log.reserve(key());
-    probe.tell(&reserved);
+    probe.show(&reserved);
     probe.ask("NfLog::collect");
     let gone = log.collect(1_000);
-    probe.tell(&gone);
+    probe.show(&gone);
     probe.ask("NfLog::forget");
     log.forget(&[2]);
-    probe.tell(&log.len());
+    probe.show(&log.len());
 }
 
-/// Merges a row into an empty log, and then at its key one of the same moment and a later one.
+/// Merges a row into an empty log, and then at its key one of the same time and a later one.
 fn merge_rows(probe: &Probe, alloc: Global) -> Result<(), AllocError> {
     let mut log: NfLog<u64, u64> = NfLog::new(alloc, Seed::fixed())?;
     let first = row(alloc, 100)?;
@@ -92,14 +92,14 @@ fn merge_rows(probe: &Probe, alloc: Global) -> Result<(), AllocError> {
 fn merge(probe: &Probe, log: &mut NfLog<u64, u64>, call: &str, row: LogRow<u64>) {
     probe.ask(call);
     let merged = log.merge(key(), row);
-    probe.tell(&merged);
+    probe.show(&merged);
 }
 
 fn ask_update(probe: &Probe, row: &LogRow<u64>) {
     probe.ask("Members::share");
     let shared = row.firing.share();
-    probe.tell(&shared.is_ok());
+    probe.show(&shared.is_ok());
     probe.ask("needs_update");
     let is_needed = needs_update(Some(row), &[&1], &[&2], true, 50, 100);
-    probe.tell(&is_needed);
+    probe.show(&is_needed);
 }

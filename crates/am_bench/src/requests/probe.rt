@@ -1,4 +1,4 @@
-//! Where calls are named and answers told.
+//! Where calls are named and answers reported.
 use std::fmt::Debug;
 use std::rt::Stdout;
 
@@ -19,8 +19,8 @@ impl Probe {
         let _ = print!(&self.out; "{call}");
     }
 
-    /// Tells the answer to the call that was named last.
-    pub fn tell<D: Debug>(&self, answer: &D) {
+    /// Prints the answer to the call that was named last.
+    pub fn show<D: Debug>(&self, answer: &D) {
         let _ = println!(&self.out; " -> {answer:?}");
     }
 }

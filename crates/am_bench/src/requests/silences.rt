@@ -19,14 +19,14 @@ pub fn make_calls(probe: &Probe, alloc: Global) -> Result<(), AllocError> {
 fn make_silence(probe: &Probe, matchers: Vec<Matcher>, end: u64) {
     probe.ask("Silence::new");
     let made = Silence::new(1, matchers, 5, end);
-    probe.tell(&made.is_ok());
+    probe.show(&made.is_ok());
 }
 
 /// A rule without matchers, by which each alert inhibits each.
 fn make_rule(probe: &Probe, alloc: Global) {
     probe.ask("InhibitRule::new");
     let made = InhibitRule::new(Vec::new(alloc), Vec::new(alloc), Vec::new(alloc));
-    probe.tell(&made.is_ok());
+    probe.show(&made.is_ok());
 }
 
 /// Asks whether a label set is muted, with one silence, then with one rule and one known alert.
@@ -52,7 +52,7 @@ fn silence(alloc: Global) -> Result<Silence, AllocError> {
 fn mute_by_silence(probe: &Probe, alloc: Global, labels: &Labels, silences: &[Silence]) {
     probe.ask("muted, by a silence without a pattern");
     let is_muted = muted(alloc, labels, 5, silences, &[], &[]);
-    probe.tell(&is_muted);
+    probe.show(&is_muted);
 }
 
 fn mute_by_rule(
@@ -64,5 +64,5 @@ fn mute_by_rule(
 ) {
     probe.ask("muted, by a rule without a pattern");
     let is_muted = muted(alloc, labels, 5, &[], rules, known);
-    probe.tell(&is_muted);
+    probe.show(&is_muted);
 }

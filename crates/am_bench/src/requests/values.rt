@@ -29,12 +29,12 @@ pub fn alert(alloc: Global, instance: &str, ends: Option<u64>) -> Result<Alert, 
     }
 }
 
-/// A log row of the group of A at the root, of this integration and moment, in which these instances
+/// A log row of the group of A at the root, of this integration and time, in which these instances
 /// fired.
 pub fn row(
     alloc: Global,
     integration: u32,
-    moment: u64,
+    time: u64,
     instances: &[&str],
 ) -> Result<RowView, AllocError> {
     let mut firing = Vec::new(alloc);
@@ -46,7 +46,7 @@ pub fn row(
         Ok(labels) => Ok(RowView {
             group: GroupName { route: 0, labels },
             integration,
-            moment,
+            time,
             expiry: 28_800_000,
             firing: Sequence::from(firing),
             resolved: Sequence::empty(alloc),

@@ -1,10 +1,10 @@
 pub mod Causes
-pub mod DuePlaces
+pub mod DueIndexes
 pub mod DueWalk
 pub mod Ends
 pub mod FirstDue
 pub mod Lent
-pub mod MutedPlaces
+pub mod MutedIndexes
 pub mod Previews
 pub mod Reasons
 pub mod PlannedFlushes

@@ -1,7 +1,7 @@
 pub mod Again
 pub mod Found
 pub mod GroupRoom
-pub mod InPlace
+pub mod InIndex
 pub mod Inserting
 pub mod Placing
 pub mod PutAgain

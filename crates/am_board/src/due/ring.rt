@@ -89,15 +89,15 @@ impl DueRing {
     pub(crate) fn remove(&mut self, name: &GroupName, due: u64)
         ensures { (key : DueKey) → same_name key.name name.now ≡ false → has_key self.new key ≡ has_key self.old key }
     {
-        if let Some(i) = self.place(name, due) {
+        if let Some(i) = self.index(name, due) {
             self.keys.remove(i);
         }
     }
 
-    /// The place of the key of the group of this name.
+    /// The index of the key of the group of this name.
     ///
-    /// Only keys stand before it whose groups have open flushes, mostly.
-    fn place(&self, name: &GroupName, due: u64) -> Option<usize>
+    /// Only keys are before it whose groups have open flushes, mostly.
+    fn index(&self, name: &GroupName, due: u64) -> Option<usize>
         ensures { IfSome result (λ i. slice_get self.now i ≡ Some (key_at name.now due)) }
     {
         for i in 0..self.keys.len() {

@@ -1,4 +1,4 @@
-//! Changes of groups: finds one by its name, adds one, changes one at its place, removes the empty
+//! Changes of groups: finds one by its name, adds one, changes one at its index, removes the empty
 //! ones.
 ghost use Rattle.std.specs.Prelude.{◌≡◌, ℕ, ◌+◌, ◌<◌, ◌≤◌, ◌∷◌, [], ◌++◌, None, count_by, filter, length, map, not, position, slice_index_or};
 ghost use Rattle.std.specs.Prelude.{false, true, All, IfSome, OnOk};
@@ -8,13 +8,13 @@ ghost use Rattle.am_model.specs.Begin.{count_resolved, without_resolved};
 ghost use Rattle.am_model.specs.Finish.{is_leaving};
 ghost use Rattle.am_board.specs.Again.{HasAt, IsSpot};
 ghost use Rattle.am_board.specs.Group.{names_of, AreRouted, HasRoom, Fits, IsReserved, Changes, Gets, label_sets};
-ghost use Rattle.am_board.specs.Inserting.{place_in, stamped_alert};
+ghost use Rattle.am_board.specs.Inserting.{index_in, stamped_alert};
 ghost use Rattle.am_board.specs.Marks.{marks_of};
 ghost use Rattle.am_board.specs.Refinement.{member_state, stamped, group_state};
 ghost use Rattle.am_model.specs.Insert.{same_member};
 ghost use Rattle.am_model.specs.Lists.{without};
 ghost use Rattle.am_model.specs.State.{same_name};
-ghost use Rattle.am_model.specs.Upkeep.{is_deserted};
+ghost use Rattle.am_model.specs.Maintenance.{has_no_alerts};
 
 use super::Groups;
 use crate::again::Spot;
@@ -29,9 +29,9 @@ use am_alerts::labels::Labels;
 use std::alloc::{AllocError, Global};
 
 impl Groups {
-    /// The place of the group of this name.
+    /// The index of the group of this name.
     pub(crate) fn find(&self, name: &GroupName) -> Option<usize>
-        ensures place { result ≡ position (λ g. same_name name.now g.name) self.now.items }
+        ensures index { result ≡ position (λ g. same_name name.now g.name) self.now.items }
         ensures within { IfSome result (λ i. i < length self.now.items) }
     {
         self.groups.get_index_of(name)
@@ -49,39 +49,39 @@ impl Groups {
         self.groups.insert(name, group).unwrap();
     }
 
-    /// Reserves memory for so many more alerts in the group at a place.
+    /// Reserves memory for so many more alerts in the group at an index.
     pub(crate) fn reserve_at(&mut self, i: usize, more: usize) -> Result<(), AllocError>
-        requires place { i < length self.old.items }
+        requires index { i < length self.old.items }
         ensures kept { Changes IsReserved i self.old self.new }
         ensures room { OnOk result ((d : Group) → Fits more (slice_index_or self.new.items i d)) }
     {
         reserve_members(&mut self.groups[i], more)
     }
 
-    /// Reserves memory for so many more alerts in the group at a place, if there is one.
+    /// Reserves memory for so many more alerts in the group at an index, if there is one.
     pub(crate) fn reserve_found(
         &mut self,
-        place: Option<usize>,
+        index: Option<usize>,
         more: usize,
     ) -> Result<(), AllocError>
         requires distinct { IsDistinct same_name (names_of self.old.items) }
-        requires within { IfSome place (λ i. i < length self.old.items) }
+        requires within { IfSome index (λ i. i < length self.old.items) }
         ensures names { names_of self.new.items ≡ names_of self.old.items }
         ensures marks { marks_of self.new.items ≡ marks_of self.old.items }
         ensures states { map group_state self.new.items ≡ map group_state self.old.items }
         ensures spare { self.new.room ≡ self.old.room }
-        ensures room { OnOk result ((name : GroupName) → place ≡ place_in name self.old.items → HasRoom more name self.new.items) }
+        ensures room { OnOk result ((name : GroupName) → index ≡ index_in name self.old.items → HasRoom more name self.new.items) }
         ensures others { (n : ℕ) (other : GroupName) → HasRoom n other self.old.items → HasRoom n other self.new.items }
     {
-        match place {
+        match index {
             Some(i) => self.reserve_at(i, more),
             None => Ok(()),
         }
     }
 
-    /// Adds an alert to the group at a place. Memory is reserved.
+    /// Adds an alert to the group at an index. Memory is reserved.
     pub(crate) fn insert(&mut self, i: usize, labels: Labels, member: Member, wait: u64, t: u64)
-        requires place { i < length self.old.items }
+        requires index { i < length self.old.items }
         requires labels { labels ≡ member.alert.labels }
         requires room { (d : Group) → Fits 1 (slice_index_or self.old.items i d) }
         ensures { Changes (Gets (member_state member) wait t) i self.old self.new }
@@ -92,7 +92,7 @@ impl Groups {
         self.due.change(&group.name, before, group.due);
     }
 
-    /// Where the alert of these labels stands in the group of this name, if it is there.
+    /// Where the alert of these labels is in the group of this name, if it is there.
     pub(crate) fn spot(&self, name: &GroupName, labels: &Labels) -> Option<Spot>
         ensures { IfSome result (IsSpot self.now.items name.now labels.now) }
     {
@@ -101,9 +101,9 @@ impl Groups {
         Some(Spot { group, member })
     }
 
-    /// Writes an alert with its stamp in place of the one with its labels, which stands there.
+    /// Writes an alert with its stamp in place of the one with its labels, which is there.
     pub(crate) fn replace(&mut self, spot: Spot, alert: Alert, stamp: u64, wait: u64, t: u64)
-        requires place { spot.group < length self.old.items }
+        requires index { spot.group < length self.old.items }
         requires member { HasAt alert.labels spot self.old.items }
         ensures group { Changes (Gets (stamped_alert alert stamp) wait t) spot.group self.old self.new }
         ensures labels { map label_sets self.new.items ≡ map label_sets self.old.items }
@@ -114,7 +114,7 @@ impl Groups {
         self.due.change(&group.name, before, group.due);
     }
 
-    /// Computes the order by labels of the alerts of the group at a place, and notes those that no
+    /// Computes the order by labels of the alerts of the group at an index, and notes those that no
     /// silence mutes at `t`.
     pub(crate) fn prepare(
         &mut self,
@@ -124,7 +124,7 @@ impl Groups {
         t: u64,
         limit: usize,
     )
-        requires place { i < length self.old.items }
+        requires index { i < length self.old.items }
         requires apart { All (λ g. IsDistinct same_member g.members) (map group_state self.old.items) }
         ensures groups { self.new ≡ self.old }
         ensures silences { silences.new ≡ silences.old }
@@ -132,7 +132,7 @@ impl Groups {
         prepare(&mut self.groups[i], alloc, silences, t, limit);
     }
 
-    /// Marks the group at a place as taken by a begin that opens a flush, and due again at this time.
+    /// Marks the group at an index as taken by a begin that opens a flush, and due again at this time.
     pub(crate) fn begin(&mut self, i: usize, due: u64)
         requires { i < length self.old.items }
         ensures { Changes (λ from to. to ≡ record from { due = due; flushed = true; is_open = true }) i self.old self.new }
@@ -144,7 +144,7 @@ impl Groups {
         self.due.change(&group.name, before, due);
     }
 
-    /// Marks the group at a place as taken by a begin that notifies no integration.
+    /// Marks the group at an index as taken by a begin that notifies no integration.
     ///
     /// It is due again at this time, and its alerts that are resolved at `t` leave. Returns how
     /// many.
@@ -162,7 +162,7 @@ impl Groups {
         take_resolved(group, t)
     }
 
-    /// Marks the group at a place as one without an open flush.
+    /// Marks the group at an index as one without an open flush.
     pub(crate) fn close(&mut self, i: usize)
         requires { i < length self.old.items }
         ensures { Changes (λ from to. to ≡ record from { is_open = false }) i self.old self.new }
@@ -170,7 +170,7 @@ impl Groups {
         mark_closed(&mut self.groups[i]);
     }
 
-    /// Takes out of the group at a place the alerts that are as they were when they were found
+    /// Takes out of the group at an index the alerts that are as they were when they were found
     /// resolved.
     ///
     /// Returns how many.
@@ -187,16 +187,16 @@ impl Groups {
     }
 
     /// Removes the groups without alerts, and answers how many.
-    pub(crate) fn drop_deserted(&mut self) -> usize
-        ensures groups { map group_state self.new.items ≡ without is_deserted (map group_state self.old.items) }
-        ensures count { result ≡ count_by is_deserted (map group_state self.old.items) }
-        ensures kept { self.new.items ≡ filter (λ g. not (is_deserted (group_state g))) self.old.items }
+    pub(crate) fn drop_empty(&mut self) -> usize
+        ensures groups { map group_state self.new.items ≡ without has_no_alerts (map group_state self.old.items) }
+        ensures count { result ≡ count_by has_no_alerts (map group_state self.old.items) }
+        ensures kept { self.new.items ≡ filter (λ g. not (has_no_alerts (group_state g))) self.old.items }
         ensures routed { (tree : RoutingTree) → AreRouted tree (names_of self.old.items) → AreRouted tree (names_of self.new.items) }
     {
         let before = self.groups.len();
         self.groups.retain(
             |_name: &GroupName, group: &mut Group| -> bool
-                ensures { (result ≡ not (is_deserted (group_state group.old))) × (group.new ≡ group.old) }
+                ensures { (result ≡ not (has_no_alerts (group_state group.old))) × (group.new ≡ group.old) }
             { !is_without_alerts(group) },
         );
         let gone = before - self.groups.len();
@@ -207,7 +207,7 @@ impl Groups {
 
 /// Whether a group has no alerts.
 fn is_without_alerts(group: &Group) -> bool
-    ensures { result ≡ is_deserted (group_state group.now) }
+    ensures { result ≡ has_no_alerts (group_state group.now) }
 {
     group.members.is_empty()
 }

@@ -28,7 +28,7 @@ use indexmap::IndexMap;
 use std::collections::BTreeSet;
 
 impl Groups {
-    /// Returns the place of the group to take at `t`: the first due one without an open flush.
+    /// Returns the index of the group to take at `t`: the first due one without an open flush.
     ///
     /// They are ordered by due time, then by name.
     pub(crate) fn first_due(&self, t: u64) -> Option<usize>
@@ -44,7 +44,7 @@ impl Groups {
     }
 }
 
-/// Returns the place of the group to take at `t`, by the complete set of keys.
+/// Returns the index of the group to take at `t`, by the complete set of keys.
 fn first_by_keys(groups: &IndexMap<GroupName, Group, Seed>, due: &DueSet, t: u64) -> Option<usize>
     requires keyed { AreKeyed name_of groups.now.entries }
     requires distinct { IsDistinct same_name (keys_of groups.now.entries) }
@@ -61,7 +61,7 @@ fn first_by_keys(groups: &IndexMap<GroupName, Group, Seed>, due: &DueSet, t: u64
     }
 }
 
-/// The place of the group to take at `t` of those that have their keys in the ring.
+/// The index of the group to take at `t` of those that have their keys in the ring.
 ///
 /// It is the group of the first key that isn't stale and whose group has no open flush, if it is
 /// due.
@@ -76,14 +76,14 @@ fn first_in_ring(groups: &IndexMap<GroupName, Group, Seed>, ring: &DueRing, t: u
         if key.due > t {
             return None;
         }
-        if let Some(place) = free_place(groups, key) {
-            return Some(place);
+        if let Some(index) = free_index(groups, key) {
+            return Some(index);
         }
     }
     None
 }
 
-/// The same of those that have their keys in the tree. The key that is due first stands last.
+/// The same of those that have their keys in the tree. The key that is due first is last.
 fn first_in_tree(
     groups: &IndexMap<GroupName, Group, Seed>,
     tree: &BTreeSet<DueKey>,
@@ -99,38 +99,38 @@ fn first_in_tree(
         if key.due > t {
             return None;
         }
-        if let Some(place) = free_place(groups, key) {
-            return Some(place);
+        if let Some(index) = free_index(groups, key) {
+            return Some(index);
         }
     }
     None
 }
 
-/// The place of the group that has a key, unless the key is stale or the group is marked as open.
-fn free_place(groups: &IndexMap<GroupName, Group, Seed>, key: &DueKey) -> Option<usize>
+/// The index of the group that has a key, unless the key is stale or the group is marked as open.
+fn free_index(groups: &IndexMap<GroupName, Group, Seed>, key: &DueKey) -> Option<usize>
     requires keyed { AreKeyed name_of groups.now.entries }
     requires distinct { IsDistinct same_name (keys_of groups.now.entries) }
     ensures within { IfSome result (λ i. i < length (values_of groups.now.entries)) }
     ensures free { (flushes : List FlushState) → TellOpen flushes (values_of groups.now.entries)
         → IsFree flushes (values_of groups.now.entries) key.now result }
 {
-    let place = place_of(groups, key)?;
-    if groups[place].is_open {
+    let index = index_of(groups, key)?;
+    if groups[index].is_open {
         None
     } else {
-        Some(place)
+        Some(index)
     }
 }
 
-/// The place of the group that has a key, unless the key is stale.
-fn place_of(groups: &IndexMap<GroupName, Group, Seed>, key: &DueKey) -> Option<usize>
+/// The index of the group that has a key, unless the key is stale.
+fn index_of(groups: &IndexMap<GroupName, Group, Seed>, key: &DueKey) -> Option<usize>
     requires keyed { AreKeyed name_of groups.now.entries }
     requires distinct { IsDistinct same_name (keys_of groups.now.entries) }
     ensures { IsCurrent (values_of groups.now.entries) key.now result }
 {
-    let place = groups.get_index_of(&key.name)?;
-    if groups[place].due == key.due {
-        Some(place)
+    let index = groups.get_index_of(&key.name)?;
+    if groups[index].due == key.due {
+        Some(index)
     } else {
         None
     }
@@ -159,7 +159,7 @@ fn may_begin(group: &Group, t: u64) -> bool
     group.due <= t && !group.is_open
 }
 
-/// The place of the group that is taken before the other, if there is another.
+/// The index of the group that is taken before the other, if there is another.
 fn earlier(groups: &[Group], i: usize, other: Option<usize>) -> usize
     requires here { i < length groups.now }
     requires there { IfSome other (λ j. j < length groups.now) }

@@ -1,4 +1,4 @@
-//! Durations as texts. Cases stand one after the other, with a bar between two.
+//! Durations as texts. Cases are one after the other, with a bar between two.
 use am_alerts::duration::DurationFault::{self, BadDuration, TooLong};
 use am_alerts::duration::read_duration;
 use std::process::Abort;

@@ -9,16 +9,16 @@ ghost use Rattle.am_model.specs.look_back.Preview.{preview};
 ghost use Rattle.am_board.specs.History.{IsFresh, kept_of, opening, reply_of, state_at};
 ghost use Rattle.am_lines.specs.Reply.{flush_tokens, reply_tokens};
 ghost use Rattle.am_lines.specs.View.{due_tokens, group_view_tokens, listed, outlook_tokens, row_tokens};
-ghost use Rattle.am_dispatch.specs.Refusal.{IsWhyUnopened};
+ghost use Rattle.am_dispatch.specs.Refusal.{IsCauseOfUnopened};
 ghost use Rattle.am_dispatch.specs.Session.{Begins, Does, Finishes, KeepsTicket, Leaves};
 ghost use Rattle.am_dispatch.specs.Session.{Loads, Makes, Notes, Opens, Reports, Takes};
-ghost use Rattle.am_dispatch.specs.Session.{TellsSummary, taken_tokens};
+ghost use Rattle.am_dispatch.specs.Session.{AnswersSummary, taken_tokens};
 ghost use Rattle.am_dispatch.specs.Ticket.{ticket_tokens};
-ghost use Rattle.am_dispatch.specs.declared.ticket.TheConstants.{HOME};
+ghost use Rattle.am_dispatch.specs.declared.ticket.TheConstants.{BOARD_ID};
 
 use crate::row::row_of;
 use crate::session::Session;
-use crate::ticket::{HOME, find_notice, find_ticket, record_at, write_tickets};
+use crate::ticket::{BOARD_ID, find_notice, find_ticket, record_at, write_tickets};
 use am_board::begin::Begun;
 use am_board::board::Board;
 use am_board::config::Config;
@@ -43,9 +43,9 @@ const PASS: u32 = 0;
 impl Session {
     /// Returns a session whose board has this configuration. Hashes start from this seed.
     pub fn open(alloc: Global, seed: Seed, config: Config) -> Result<Session, LineFault>
-        ensures board { IfOk result (λ session. session.board ≡ opening config HOME) }
+        ensures board { IfOk result (λ session. session.board ≡ opening config BOARD_ID) }
         ensures tickets { IfOk result (λ session. session.tickets.items ≡ []) }
-        ensures refused { IfErr result (IsWhyUnopened config) }
+        ensures refused { IfErr result (IsCauseOfUnopened config) }
     {
         let board = open_board(alloc, seed, config)?;
         Ok(Session {
@@ -63,7 +63,7 @@ impl Session {
         answer: &mut Answer,
     ) -> Result<(), LineFault>
         requires { request ≢ Request.TakeHistory }
-        ensures told { OnOk result (Does self.old request self.new answer.old answer.new) }
+        ensures answered { OnOk result (Does self.old request self.new answer.old answer.new) }
         ensures refused { IfErr result (Leaves self.old request self.new) }
     {
         match request {
@@ -91,17 +91,17 @@ impl Session {
     fn reopen(
         &mut self,
         alloc: Global,
-        asked: Opening,
+        requested: Opening,
         answer: &mut Answer,
     ) -> Result<(), LineFault>
-        ensures told { OnOk result (Opens self.new asked answer.old answer.new) }
-        ensures refused { IfErr result (Leaves self.old (Request.Open asked) self.new) }
+        ensures answered { OnOk result (Opens self.new requested answer.old answer.new) }
+        ensures refused { IfErr result (Leaves self.old (Request.Open requested) self.new) }
     {
-        let Opening { config, ignored } = asked;
+        let Opening { config, ignored } = requested;
         let board = open_board(alloc, self.seed, config)?;
         finish_all(&mut self.board, replace(&mut self.tickets, Vec::new(alloc)));
         put(&mut self.board, board);
-        told(write_opened(&ignored, answer))
+        answered(write_opened(&ignored, answer))
     }
 
     fn insert(
@@ -110,14 +110,14 @@ impl Session {
         insertion: Insertion,
         answer: &mut Answer,
     ) -> Result<(), LineFault>
-        ensures told { OnOk result
+        ensures answered { OnOk result
             (Makes self.old self.new (Call.Insert insertion.now insertion.alert) answer.old answer.new) }
         ensures tickets { self.new.tickets.items ≡ self.old.tickets.items }
         ensures refused { IfErr result (Leaves self.old (Request.Insert insertion) self.new) }
     {
         let Insertion { now, alert } = insertion;
         match self.board.insert(alloc, PASS, now, alert) {
-            Ok(inserted) => self.tell(&Reply::Inserted(inserted), answer),
+            Ok(inserted) => self.answer_with(&Reply::Inserted(inserted), answer),
             Err(fault) => Err(LineFault::of_board("/insert", fault)),
         }
     }
@@ -128,20 +128,20 @@ impl Session {
         silencing: Silencing,
         answer: &mut Answer,
     ) -> Result<(), LineFault>
-        ensures told { OnOk result
+        ensures answered { OnOk result
             (Makes self.old self.new (call_of_silence silencing.now silencing.silence) answer.old answer.new) }
         ensures tickets { self.new.tickets.items ≡ self.old.tickets.items }
         ensures refused { IfErr result (Leaves self.old (Request.Silence silencing) self.new) }
     {
         let Silencing { now, silence } = silencing;
         match self.board.silence(alloc, PASS, now, silence) {
-            Ok(silenced) => self.tell(&Reply::Silenced(silenced), answer),
+            Ok(silenced) => self.answer_with(&Reply::Silenced(silenced), answer),
             Err(fault) => Err(LineFault::of_board("/silence", fault)),
         }
     }
 
     fn begin(&mut self, alloc: Global, now: u64, answer: &mut Answer) -> Result<(), LineFault>
-        ensures told { OnOk result (Begins self.old self.new now answer.old answer.new) }
+        ensures answered { OnOk result (Begins self.old self.new now answer.old answer.new) }
         ensures refused { IfErr result (Leaves self.old (Request.Begin (record { now = now })) self.new) }
     {
         // (the memory for a ticket comes before the ticket)
@@ -154,25 +154,28 @@ impl Session {
 
     /// Writes the answer to a begin, and keeps its ticket where it has one.
     fn keep(&mut self, begun: Begun, answer: &mut Answer) -> Result<(), LineFault>
-        requires fresh { IsFresh HOME begun }
+        requires fresh { IsFresh BOARD_ID begun }
         requires room { vec_len self.old.tickets < vec_capacity self.old.tickets }
-        ensures told { OnOk result (answer.new ≡ answer.old ++ reply_tokens self.old.board.config (reply_of begun)) }
+        ensures answered { OnOk result (answer.new ≡ answer.old ++ reply_tokens self.old.board.config (reply_of begun)) }
         ensures untold { IfErr result (λ fault. fault ≡ LineFault.Untold) }
         ensures board { self.new.board ≡ self.old.board }
         ensures tickets { KeepsTicket begun self.old.tickets.items self.new.tickets.items }
     {
         match begun {
-            Begun::NothingDue => self.tell(&Reply::NothingDue, answer),
-            Begun::Quiet { group, removed } => self.tell(&Reply::Quiet { group, removed }, answer),
+            Begun::NothingDue => self.answer_with(&Reply::NothingDue, answer),
+            Begun::Quiet { group, removed } => self.answer_with(
+                &Reply::Quiet { group, removed },
+                answer,
+            ),
             Begun::Flush(ticket) => self.keep_ticket(ticket, answer),
         }
     }
 
     /// Keeps the ticket of a flush that was begun, and writes the answer.
     fn keep_ticket(&mut self, ticket: Ticket, answer: &mut Answer) -> Result<(), LineFault>
-        requires ours { ticket.desk ≡ HOME }
+        requires ours { ticket.board_id ≡ BOARD_ID }
         requires room { vec_len self.old.tickets < vec_capacity self.old.tickets }
-        ensures told { OnOk result (answer.new ≡ answer.old
+        ensures answered { OnOk result (answer.new ≡ answer.old
             ++ flush_tokens self.old.board.config ticket.number ticket.group ticket.deadline ticket.notices) }
         ensures untold { IfErr result (λ fault. fault ≡ LineFault.Untold) }
         ensures board { self.new.board ≡ self.old.board }
@@ -180,37 +183,37 @@ impl Session {
     {
         let written = write_begun(self.board.config(), &ticket, answer);
         self.tickets.push_reserved(OwnTicket::new(ticket));
-        told(written)
+        answered(written)
     }
 
     fn report(&mut self, reporting: Reporting, answer: &mut Answer) -> Result<(), LineFault>
-        ensures told { OnOk result (Reports self.old self.new reporting answer.old answer.new) }
+        ensures answered { OnOk result (Reports self.old self.new reporting answer.old answer.new) }
         ensures board { self.new.board ≡ self.old.board }
         ensures refused { IfErr result (Leaves self.old (Request.Report reporting) self.new) }
     {
-        let Some(place) = find_ticket(self.tickets.as_slice(), reporting.ticket) else {
+        let Some(index) = find_ticket(self.tickets.as_slice(), reporting.ticket) else {
             return Err(LineFault::not_open("/report/ticket"));
         };
         match record_at(
             &mut self.tickets,
-            place,
+            index,
             reporting.integration,
             reporting.outcome,
         ) {
-            Ok(()) => told(write_named("reported", answer)),
+            Ok(()) => answered(write_named("reported", answer)),
             Err(fault) => Err(LineFault::of_report(fault)),
         }
     }
 
     fn note(&mut self, alloc: Global, noting: Noting, answer: &mut Answer) -> Result<(), LineFault>
-        ensures told { OnOk result (Notes self.old self.new noting answer.old answer.new) }
+        ensures answered { OnOk result (Notes self.old self.new noting answer.old answer.new) }
         ensures tickets { self.new.tickets.items ≡ self.old.tickets.items }
         ensures refused { IfErr result (Leaves self.old (Request.Note noting) self.new) }
     {
-        let Some(place) = find_ticket(self.tickets.as_slice(), noting.ticket) else {
+        let Some(index) = find_ticket(self.tickets.as_slice(), noting.ticket) else {
             return Err(LineFault::not_open("/note/ticket"));
         };
-        let own = &self.tickets[place];
+        let own = &self.tickets[index];
         let Some(notice) = find_notice(own, noting.integration) else {
             return Err(LineFault::of_note(NoteFault::NotReady));
         };
@@ -218,21 +221,21 @@ impl Session {
             .board
             .note(alloc, PASS, own.ticket(), notice, noting.now)
         {
-            Ok(_) => self.tell(&Reply::Noted, answer),
+            Ok(_) => self.answer_with(&Reply::Noted, answer),
             Err(fault) => Err(LineFault::of_note(fault)),
         }
     }
 
     fn finish(&mut self, finishing: Finishing, answer: &mut Answer) -> Result<(), LineFault>
-        ensures told { OnOk result (Finishes self.old self.new finishing answer.old answer.new) }
+        ensures answered { OnOk result (Finishes self.old self.new finishing answer.old answer.new) }
         ensures refused { IfErr result (Leaves self.old (Request.Finish finishing) self.new) }
     {
-        let Some(place) = find_ticket(self.tickets.as_slice(), finishing.ticket) else {
+        let Some(index) = find_ticket(self.tickets.as_slice(), finishing.ticket) else {
             return Err(LineFault::not_open("/finish/ticket"));
         };
-        let own = self.tickets.remove(place);
+        let own = self.tickets.remove(index);
         match self.board.finish_own(PASS, own, finishing.now) {
-            Ok(finished) => self.tell(&Reply::Finished(finished), answer),
+            Ok(finished) => self.answer_with(&Reply::Finished(finished), answer),
             Err(_not_open) => Err(LineFault::Spent),
         }
     }
@@ -244,7 +247,7 @@ impl Session {
         loading: Loading,
         answer: &mut Answer,
     ) -> Result<(), LineFault>
-        ensures told { OnOk result (Loads self.old self.new loading answer.old answer.new) }
+        ensures answered { OnOk result (Loads self.old self.new loading answer.old answer.new) }
         ensures tickets { self.new.tickets.items ≡ self.old.tickets.items }
         ensures refused { IfErr result (Leaves self.old (Request.Load loading) self.new) }
     {
@@ -253,29 +256,29 @@ impl Session {
             return Err(LineFault::of_load(LoadFault::NoIntegration));
         };
         match self.board.load(alloc, PASS, row, now) {
-            Ok(loaded) => self.tell(&Reply::Loaded(loaded), answer),
+            Ok(loaded) => self.answer_with(&Reply::Loaded(loaded), answer),
             Err(fault) => Err(LineFault::of_load(fault)),
         }
     }
 
     fn maintain(&mut self, alloc: Global, now: u64, answer: &mut Answer) -> Result<(), LineFault>
-        ensures told { OnOk result (Makes self.old self.new (Call.Maintain now) answer.old answer.new) }
+        ensures answered { OnOk result (Makes self.old self.new (Call.Maintain now) answer.old answer.new) }
         ensures tickets { self.new.tickets.items ≡ self.old.tickets.items }
         ensures refused { IfErr result (Leaves self.old (Request.Maintain (record { now = now })) self.new) }
     {
         match self.board.maintain(alloc, PASS, now) {
-            Ok(maintained) => self.tell(&Reply::Maintained(maintained), answer),
+            Ok(maintained) => self.answer_with(&Reply::Maintained(maintained), answer),
             Err(fault) => Err(LineFault::of_board("/maintain", fault)),
         }
     }
 
     fn forget(&mut self, alloc: Global, now: u64, answer: &mut Answer) -> Result<(), LineFault>
-        ensures told { OnOk result (Makes self.old self.new (Call.Forget now) answer.old answer.new) }
+        ensures answered { OnOk result (Makes self.old self.new (Call.Forget now) answer.old answer.new) }
         ensures tickets { self.new.tickets.items ≡ self.old.tickets.items }
         ensures refused { IfErr result (Leaves self.old (Request.Forget (record { now = now })) self.new) }
     {
         match self.board.forget(alloc, PASS, now) {
-            Ok(forgotten) => self.tell(&Reply::Forgotten(forgotten), answer),
+            Ok(forgotten) => self.answer_with(&Reply::Forgotten(forgotten), answer),
             Err(fault) => Err(LineFault::of_board("/forget", fault)),
         }
     }
@@ -283,7 +286,7 @@ impl Session {
     /// Hands out the records that the board keeps, and returns the line that has them. The line is made first: where
     /// something is refused, the board still keeps them.
     pub fn take_history(&mut self, alloc: Global) -> Result<Vec<u8>, LineFault>
-        ensures told { IfOk result (λ text. Takes self.old self.new text.items) }
+        ensures answered { IfOk result (λ text. Takes self.old self.new text.items) }
         ensures tickets { self.new.tickets.items ≡ self.old.tickets.items }
         ensures refused { IfErr result (Leaves self.old Request.TakeHistory self.new) }
     {
@@ -292,7 +295,7 @@ impl Session {
             Ok(_records) => Ok(line),
             Err(TakeFault::NoMemory) => Err(LineFault::NoMemory),
             Err(TakeFault::TooManyCalls) => Err(LineFault::NotMade {
-                place: "/take_history",
+                pointer: "/take_history",
                 kind: "TooManyCalls",
                 message: "more records would be handed out than may be",
             }),
@@ -320,21 +323,21 @@ impl Session {
     }
 
     fn show_due(&self, answer: &mut Answer) -> Result<(), LineFault>
-        ensures told { OnOk result (answer.new ≡ answer.old ++ due_tokens (next_due (state_at self.now.board))) }
+        ensures answered { OnOk result (answer.new ≡ answer.old ++ due_tokens (next_due (state_at self.now.board))) }
         ensures refused { IfErr result (λ fault. fault ≡ LineFault.NoMemory) }
     {
         Ok(write_due(self.board.next_due(), answer)?)
     }
 
     fn show_summary(&self, answer: &mut Answer) -> Result<(), LineFault>
-        ensures told { OnOk result (TellsSummary self.now.board answer.old answer.new) }
+        ensures answered { OnOk result (AnswersSummary self.now.board answer.old answer.new) }
         ensures refused { IfErr result (λ fault. fault ≡ LineFault.NoMemory) }
     {
         Ok(write_summary(&self.board.summary(), answer)?)
     }
 
     fn show_tickets(&self, answer: &mut Answer) -> Result<(), LineFault>
-        ensures told { OnOk result (answer.new ≡ answer.old
+        ensures answered { OnOk result (answer.new ≡ answer.old
             ++ listed (codes "tickets") (ticket_tokens self.now.board.config) self.now.tickets.items) }
         ensures refused { IfErr result (λ fault. fault ≡ LineFault.NoMemory) }
     {
@@ -342,7 +345,7 @@ impl Session {
     }
 
     fn show_outlook(&self, alloc: Global, now: u64, answer: &mut Answer) -> Result<(), LineFault>
-        ensures told { OnOk result (answer.new ≡ answer.old
+        ensures answered { OnOk result (answer.new ≡ answer.old
             ++ outlook_tokens self.now.board.config (preview self.now.board.config self.now.board.history now)) }
         ensures refused { IfErr result (λ fault. fault ≡ LineFault.NoMemory) }
     {
@@ -351,7 +354,7 @@ impl Session {
     }
 
     fn show_rows(&self, alloc: Global, answer: &mut Answer) -> Result<(), LineFault>
-        ensures told { OnOk result (answer.new ≡ answer.old
+        ensures answered { OnOk result (answer.new ≡ answer.old
             ++ listed (codes "rows") (row_tokens self.now.board.config) (row_views (state_at self.now.board))) }
         ensures refused { IfErr result (λ fault. fault ≡ LineFault.NoMemory) }
     {
@@ -360,7 +363,7 @@ impl Session {
     }
 
     fn show_groups(&self, alloc: Global, answer: &mut Answer) -> Result<(), LineFault>
-        ensures told { OnOk result (answer.new ≡ answer.old
+        ensures answered { OnOk result (answer.new ≡ answer.old
             ++ listed (codes "groups") (group_view_tokens self.now.board.config) (group_views (state_at self.now.board))) }
         ensures refused { IfErr result (λ fault. fault ≡ LineFault.NoMemory) }
     {
@@ -369,11 +372,11 @@ impl Session {
     }
 
     /// Writes the reply to a call that was made.
-    fn tell(&self, reply: &Reply, answer: &mut Answer) -> Result<(), LineFault>
-        ensures told { OnOk result (answer.new ≡ answer.old ++ reply_tokens self.now.board.config reply.now) }
+    fn answer_with(&self, reply: &Reply, answer: &mut Answer) -> Result<(), LineFault>
+        ensures answered { OnOk result (answer.new ≡ answer.old ++ reply_tokens self.now.board.config reply.now) }
         ensures untold { IfErr result (λ fault. fault ≡ LineFault.Untold) }
     {
-        told(write_reply(self.board.config(), reply, answer))
+        answered(write_reply(self.board.config(), reply, answer))
     }
 
     /// Ends the session: the flushes that are open are finished with what was reported.
@@ -404,23 +407,23 @@ fn write_begun(config: &Config, ticket: &Ticket, answer: &mut Answer) -> Result<
 }
 
 /// Puts a board in the place of another one, which goes.
-fn put(place: &mut Board, board: Board)
-    ensures { place.new ≡ board }
+fn put(index: &mut Board, board: Board)
+    ensures { index.new ≡ board }
 {
-    drop(replace(place, board));
+    drop(replace(index, board));
 }
 
 /// An empty board of the program.
 fn open_board(alloc: Global, seed: Seed, config: Config) -> Result<Board, LineFault>
-    ensures board { IfOk result (λ board. board ≡ opening config HOME) }
-    ensures refused { IfErr result (IsWhyUnopened config) }
+    ensures board { IfOk result (λ board. board ≡ opening config BOARD_ID) }
+    ensures refused { IfErr result (IsCauseOfUnopened config) }
 {
-    match Board::seeded(alloc, config, HOME, seed) {
+    match Board::seeded(alloc, config, BOARD_ID, seed) {
         Ok(board) => Ok(board),
         Err(BoardFault::NoMemory) => Err(LineFault::NoMemory),
         // (the readers of configurations look at them already)
         Err(BoardFault::BadConfig(_)) => Err(LineFault::NotMade {
-            place: "",
+            pointer: "",
             kind: "value",
             message: "no board has this configuration",
         }),
@@ -428,8 +431,8 @@ fn open_board(alloc: Global, seed: Seed, config: Config) -> Result<Board, LineFa
 }
 
 /// Finishes these flushes with what was reported.
-fn finish_all(board: &mut Board, tickets: Vec<OwnTicket<HOME>>)
-    requires { board.old.id ≡ HOME }
+fn finish_all(board: &mut Board, tickets: Vec<OwnTicket<BOARD_ID>>)
+    requires { board.old.id ≡ BOARD_ID }
 {
     let mut left = tickets;
     while !left.is_empty() {
@@ -439,7 +442,7 @@ fn finish_all(board: &mut Board, tickets: Vec<OwnTicket<HOME>>)
 }
 
 /// A call was made: where its answer can't be written, that is said in its place.
-fn told(written: Result<(), AllocError>) -> Result<(), LineFault>
+fn answered(written: Result<(), AllocError>) -> Result<(), LineFault>
     ensures ok { OnOk result (IsOk written) }
     ensures kept { IsOk written → IsOk result }
     ensures err { IfErr result (λ fault. fault ≡ LineFault.Untold) }

@@ -238,7 +238,7 @@ fn push_front<C: TimeFormat>(
         ++ came_front word.now config.now (C.times clock.now) sent.now) }
 {
     out.push_str(word)?;
-    clock.push_moment(sent.report.ended, out)?;
+    clock.push_time(sent.report.ended, out)?;
     push_getter(config, sent.notice, out)
 }
 
@@ -253,7 +253,7 @@ fn push_getter(config: &Config, notice: &Notice, out: &mut String) -> Result<(),
     push_integration(config, &notice.group, notice.integration as usize, out)
 }
 
-/// Adds what a notice told.
+/// Adds what a notice reported.
 #[tactic(auto, unfolding(crate::specs::ExpectationReport::got_alerts_text))]
 fn push_got_alerts(notice: &Notice, out: &mut String) -> Result<(), AllocError>
     ensures { OnOk result (string_bytes out.new ≡ string_bytes out.old ++ got_alerts_text notice.now) }

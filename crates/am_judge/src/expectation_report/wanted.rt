@@ -53,9 +53,9 @@ fn push_span<C: TimeFormat>(
     ensures { OnOk result (string_bytes out.new
         ≡ string_bytes out.old ++ span_text (C.times clock.now) expectation.now) }
 {
-    clock.push_moment(expectation.from, out)?;
+    clock.push_time(expectation.from, out)?;
     out.push_str(" to ")?;
-    clock.push_moment(expectation.to, out)
+    clock.push_time(expectation.to, out)
 }
 
 /// Adds whom an expectation is about.

@@ -19,7 +19,7 @@ use Rattle.am_model.specs.declared.config.Config.{Config}
 use Rattle.am_model.specs.declared.config.Integration.{Integration}
 use Rattle.am_model.specs.declared.group.GroupName.{GroupName}
 use Rattle.am_model.specs.declared.views.RowView.{RowView}
-use Rattle.am_model.specs.Carry.{place_at, position_of, moved_to, inherits, with_position, with_heir, with_heirs, heirs, own_or_all, moved, rows_at, carried, is_led_to, IsTakenOver, CarriedRowsFit, CarriedRowsMayBeLoaded, RestartsCarryRows}
+use Rattle.am_model.specs.Carry.{index_at, position_of, moved_to, inherits, with_position, with_successor, with_successors, successors, own_or_all, moved, rows_at, carried, is_led_to, IsTakenOver, CarriedRowsFit, CarriedRowsMayBeLoaded, RestartsCarryRows}
 use Rattle.am_model.specs.Config.{kind_at}
 use Rattle.am_model.specs.Configured.{route_of, integrations_named}
 use Rattle.am_model.specs.Insert.{name_in, names_for}
@@ -31,19 +31,19 @@ use Rattle.am_model.proofs.lists.Sets.{any-map}
 -- ---- positions of integrations
 
 -- one that is found is there
-found-within : (kind : List ℕ) (place n : ℕ) (xs : List Integration) (q : ℕ) → position_of kind place n xs ≡ Some q → q < n + length xs
-found-within kind place n [] q e = absurd (cc)
-found-within kind place n (x ∷ xs) q e =
-    elim (bytes_eq x.kind kind) as (λ b. cond b (cond (place == 0) (Some n) (position_of kind (place - 1) (n + 1) xs)) (position_of kind place (n + 1) xs) ≡ Some q → q < n + length (x ∷ xs)) [
+found-within : (kind : List ℕ) (index n : ℕ) (xs : List Integration) (q : ℕ) → position_of kind index n xs ≡ Some q → q < n + length xs
+found-within kind index n [] q e = absurd (cc)
+found-within kind index n (x ∷ xs) q e =
+    elim (bytes_eq x.kind kind) as (λ b. cond b (cond (index == 0) (Some n) (position_of kind (index - 1) (n + 1) xs)) (position_of kind index (n + 1) xs) ≡ Some q → q < n + length (x ∷ xs)) [
       | true ↦ λ e.
-          elim (place == 0) as (λ c. cond c (Some n) (position_of kind (place - 1) (n + 1) xs) ≡ Some q → q < n + length (x ∷ xs)) [
+          elim (index == 0) as (λ c. cond c (Some n) (position_of kind (index - 1) (n + 1) xs) ≡ Some q → q < n + length (x ∷ xs)) [
             | true ↦ λ e. let same : n ≡ q = cc in omega (arith, same)
-            | false ↦ λ e. omega (arith, found-within kind (place - 1) (n + 1) xs q e)
+            | false ↦ λ e. omega (arith, found-within kind (index - 1) (n + 1) xs q e)
           ] e
-      | false ↦ λ e. omega (arith, found-within kind place (n + 1) xs q e)
+      | false ↦ λ e. omega (arith, found-within kind index (n + 1) xs q e)
     ] e
 
--- the one at a position is found by its place, among those of its kind
+-- the one at a position is found by its index, among those of its kind
 own-found : (kind : List ℕ) (xs : List Integration) (p n : ℕ) → p < length xs → bytes_eq (kind_at xs p) kind ≡ true
     → position_of kind (count_by (λ i. bytes_eq i.kind kind) (take p xs)) n xs ≡ Some (n + p)
 own-found kind [] p n l e = absurd (omega arith)
@@ -71,16 +71,16 @@ own-found kind (x ∷ xs) (suc p) n l e =
 none-more : (p : ℕ) → 0 + p ≡ p
 none-more p = omega arith
 
-pub own-place : (xs : List Integration) (p : ℕ) → p < length xs → moved_to xs p xs ≡ Some p
-own-place xs p l =
-    ap (λ b. if b then position_of (kind_at xs p) (place_at xs p) 0 xs else None) (lt-ltb p (length xs) l)
+pub own-index : (xs : List Integration) (p : ℕ) → p < length xs → moved_to xs p xs ≡ Some p
+own-index xs p l =
+    ap (λ b. if b then position_of (kind_at xs p) (index_at xs p) 0 xs else None) (lt-ltb p (length xs) l)
     ∙ own-found (kind_at xs p) xs p 0 l ((bytes_eq-Decides (kind_at xs p) (kind_at xs p)).1 refl)
     ∙ ap Some (none-more p)
 
 pub moved-within : (olds news : List Integration) (p q : ℕ) → moved_to olds p news ≡ Some q → q < length news
 moved-within olds news p q e =
-    elim (nat_lt p (length olds)) as (λ b. (if b then position_of (kind_at olds p) (place_at olds p) 0 news else None) ≡ Some q → q < length news) [
-      | true ↦ λ e. omega (arith, found-within (kind_at olds p) (place_at olds p) 0 news q e)
+    elim (nat_lt p (length olds)) as (λ b. (if b then position_of (kind_at olds p) (index_at olds p) 0 news else None) ≡ Some q → q < length news) [
+      | true ↦ λ e. omega (arith, found-within (kind_at olds p) (index_at olds p) 0 news q e)
       | false ↦ λ e. absurd (cc)
     ] e
 
@@ -97,22 +97,22 @@ module _ (config : Config) (receiver : List ℕ) (group : List Label) where
         pushed [] all = (h, tt)
         pushed (q ∷ qs) all = (all.0, pushed qs all.1)
 
-    each-heir : (labels : List Label) (ps : List ℕ) (p : ℕ) → (inherits config receiver group labels p ≡ true → P p) → AllByRecursion P ps → AllByRecursion P (with_heir config receiver group labels ps p)
-    each-heir labels ps p h all =
+    each-successor : (labels : List Label) (ps : List ℕ) (p : ℕ) → (inherits config receiver group labels p ≡ true → P p) → AllByRecursion P ps → AllByRecursion P (with_successor config receiver group labels ps p)
+    each-successor labels ps p h all =
         elim (inherits config receiver group labels p) as (λ b. (b ≡ true → P p) → AllByRecursion P (if b then with_position ps p else ps)) [
           | true ↦ λ h. each-position ps p (h refl) all
           | false ↦ λ h. all
         ] h
 
     each-route : (labels : List Label) (routes ps : List ℕ) → AllByRecursion (λ p. inherits config receiver group labels p ≡ true → P p) routes → AllByRecursion P ps
-        → AllByRecursion P (fold (with_heir config receiver group labels) ps routes)
+        → AllByRecursion P (fold (with_successor config receiver group labels) ps routes)
     each-route labels [] ps h all = all
-    each-route labels (p ∷ routes) ps h all = each-route labels routes (with_heir config receiver group labels ps p) h.1 (each-heir labels ps p h.0 all)
+    each-route labels (p ∷ routes) ps h all = each-route labels routes (with_successor config receiver group labels ps p) h.1 (each-successor labels ps p h.0 all)
 
     each-set : (sets : List (List Label)) → AllByRecursion (λ labels. AllByRecursion (λ p. inherits config receiver group labels p ≡ true → P p) (routes_of config.routes labels)) sets
-        → (ps : List ℕ) → AllByRecursion P ps → AllByRecursion P (fold (with_heirs config receiver group) ps sets)
+        → (ps : List ℕ) → AllByRecursion P ps → AllByRecursion P (fold (with_successors config receiver group) ps sets)
     each-set [] h ps all = all
-    each-set (labels ∷ sets) h ps all = each-set sets h.1 (with_heirs config receiver group ps labels) (each-route labels (routes_of config.routes labels) ps h.0 all)
+    each-set (labels ∷ sets) h ps all = each-set sets h.1 (with_successors config receiver group ps labels) (each-route labels (routes_of config.routes labels) ps h.0 all)
 
   -- a position that is among them stays
   module _ (p : ℕ) where
@@ -133,28 +133,28 @@ module _ (config : Config) (receiver : List ℕ) (group : List Label) where
           | false ↦ λ e. list_any-append (λ r. r == p) ps (p ∷ []) ∙ or_right (is_in ps) (is_in (p ∷ [])) (or_left (p == p) false (nat_eq_equiv.refl p))
         ] refl
 
-    stays-heir : (labels : List Label) (ps : List ℕ) (q : ℕ) → is_in ps ≡ true → is_in (with_heir config receiver group labels ps q) ≡ true
-    stays-heir labels ps q h =
+    stays-successor : (labels : List Label) (ps : List ℕ) (q : ℕ) → is_in ps ≡ true → is_in (with_successor config receiver group labels ps q) ≡ true
+    stays-successor labels ps q h =
         elim (inherits config receiver group labels q) as (λ b. is_in (if b then with_position ps q else ps) ≡ true) [ true ↦ stays-position ps q h | false ↦ h ]
 
-    stays-routes : (labels : List Label) (routes ps : List ℕ) → is_in ps ≡ true → is_in (fold (with_heir config receiver group labels) ps routes) ≡ true
+    stays-routes : (labels : List Label) (routes ps : List ℕ) → is_in ps ≡ true → is_in (fold (with_successor config receiver group labels) ps routes) ≡ true
     stays-routes labels [] ps h = h
-    stays-routes labels (q ∷ routes) ps h = stays-routes labels routes (with_heir config receiver group labels ps q) (stays-heir labels ps q h)
+    stays-routes labels (q ∷ routes) ps h = stays-routes labels routes (with_successor config receiver group labels ps q) (stays-successor labels ps q h)
 
-    stays-sets : (sets : List (List Label)) (ps : List ℕ) → is_in ps ≡ true → is_in (fold (with_heirs config receiver group) ps sets) ≡ true
+    stays-sets : (sets : List (List Label)) (ps : List ℕ) → is_in ps ≡ true → is_in (fold (with_successors config receiver group) ps sets) ≡ true
     stays-sets [] ps h = h
-    stays-sets (labels ∷ sets) ps h = stays-sets sets (with_heirs config receiver group ps labels) (stays-routes labels (routes_of config.routes labels) ps h)
+    stays-sets (labels ∷ sets) ps h = stays-sets sets (with_successors config receiver group ps labels) (stays-routes labels (routes_of config.routes labels) ps h)
 
     -- a route that inherits comes among them
-    comes-routes : (labels : List Label) → inherits config receiver group labels p ≡ true → (routes ps : List ℕ) → list_any (λ q. p == q) routes ≡ true → is_in (fold (with_heir config receiver group labels) ps routes) ≡ true
+    comes-routes : (labels : List Label) → inherits config receiver group labels p ≡ true → (routes ps : List ℕ) → list_any (λ q. p == q) routes ≡ true → is_in (fold (with_successor config receiver group labels) ps routes) ≡ true
     comes-routes labels does [] ps h = absurd (false≢true h)
     comes-routes labels does (q ∷ routes) ps h =
-        elim (p == q) as (λ b. (p == q) ≡ b → (b || list_any (λ r. p == r) routes) ≡ true → is_in (fold (with_heir config receiver group labels) (with_heir config receiver group labels ps q) routes) ≡ true) [
+        elim (p == q) as (λ b. (p == q) ≡ b → (b || list_any (λ r. p == r) routes) ≡ true → is_in (fold (with_successor config receiver group labels) (with_successor config receiver group labels ps q) routes) ≡ true) [
           | true ↦ λ e h.
-              stays-routes labels routes (with_heir config receiver group labels ps q)
-              (subst (λ r. is_in (with_heir config receiver group labels ps r) ≡ true) (eqb-true p q e)
+              stays-routes labels routes (with_successor config receiver group labels ps q)
+              (subst (λ r. is_in (with_successor config receiver group labels ps r) ≡ true) (eqb-true p q e)
               (ap (λ b. is_in (if b then with_position ps p else ps)) does ∙ own-position ps))
-          | false ↦ λ e h. comes-routes labels does routes (with_heir config receiver group labels ps q) h
+          | false ↦ λ e h. comes-routes labels does routes (with_successor config receiver group labels ps q) h
         ] refl h
 
 -- ---- the routes by which a label set comes to a group
@@ -179,17 +179,17 @@ leads-inherits config name labels (r ∷ routes) h =
     ] refl h
 
 comes-sets : (config : Config) (name : GroupName) (sets : List (List Label)) (ps : List ℕ) → list_any (λ labels. list_any (same_name name) (names_for config labels)) sets ≡ true
-    → list_any (λ q. q == name.route) (fold (with_heirs config (route_of config name).receiver name.labels) ps sets) ≡ true
+    → list_any (λ q. q == name.route) (fold (with_successors config (route_of config name).receiver name.labels) ps sets) ≡ true
 comes-sets config name [] ps h = absurd (false≢true h)
 comes-sets config name (labels ∷ sets) ps h =
     let receiver = (route_of config name).receiver in
     elim (list_any (same_name name) (names_for config labels)) as (λ b. list_any (same_name name) (names_for config labels) ≡ b → (b || list_any (λ ls. list_any (same_name name) (names_for config ls)) sets) ≡ true
-    → list_any (λ q. q == name.route) (fold (with_heirs config receiver name.labels) (with_heirs config receiver name.labels ps labels) sets) ≡ true) [
+    → list_any (λ q. q == name.route) (fold (with_successors config receiver name.labels) (with_successors config receiver name.labels ps labels) sets) ≡ true) [
       | true ↦ λ e _.
           let led = leads-inherits config name labels (routes_of config.routes labels) (sym (any-map (same_name name) (name_in config labels) (routes_of config.routes labels)) ∙ e) in
-          stays-sets config receiver name.labels name.route sets (with_heirs config receiver name.labels ps labels)
+          stays-sets config receiver name.labels name.route sets (with_successors config receiver name.labels ps labels)
           (comes-routes config receiver name.labels name.route labels led.0 (routes_of config.routes labels) ps led.1)
-      | false ↦ λ e later. comes-sets config name sets (with_heirs config receiver name.labels ps labels) later
+      | false ↦ λ e later. comes-sets config name sets (with_successors config receiver name.labels ps labels) later
     ] refl h
 
 -- ---- a restart
@@ -201,13 +201,13 @@ module _ (config : Config) (row : RowView) (led : is_led_to config row ≡ true)
   abbrev its_receiver : List ℕ
   its_receiver = (route_of config row.group).receiver
 
-  abbrev first_heirs : List ℕ
-  first_heirs = fold (with_heirs config its_receiver row.group.labels) [] row.firing
+  abbrev first_successors : List ℕ
+  first_successors = fold (with_successors config its_receiver row.group.labels) [] row.firing
 
-  own-heir : (b : Bool) → list_any leads row.firing ≡ b → list_any (λ q. q == row.group.route) (heirs config its_receiver row) ≡ true
-  own-heir true e = stays-sets config its_receiver row.group.labels row.group.route row.resolved first_heirs (comes-sets config row.group row.firing [] e)
-  own-heir false e =
-      comes-sets config row.group row.resolved first_heirs
+  own-successor : (b : Bool) → list_any leads row.firing ≡ b → list_any (λ q. q == row.group.route) (successors config its_receiver row) ≡ true
+  own-successor true e = stays-sets config its_receiver row.group.labels row.group.route row.resolved first_successors (comes-sets config row.group row.firing [] e)
+  own-successor false e =
+      comes-sets config row.group row.resolved first_successors
       (ap (λ b. b || list_any leads row.resolved) (sym e) ∙ sym (list_any-append leads row.firing row.resolved) ∙ led)
 
 pub restarts_carry_rows : RestartsCarryRows
@@ -215,10 +215,10 @@ restarts_carry_rows config row there led =
     let receiver = (route_of config row.group).receiver in
     let integrations = integrations_named receiver config.receivers in
     let within = ltb-true row.integration (length integrations) (and_parts (nat_le row.group.route (last_of config.routes)) (nat_lt row.integration (length integrations)) there).1 in
-    let all = heirs config receiver row in
+    let all = successors config receiver row in
     let own : own_or_all row.group.route all ≡ row.group.route ∷ [] =
-    ap (λ b. if b then row.group.route ∷ [] else all) (own-heir config row led (list_any (leads config row led) row.firing) refl) in
-    (λ i. rows_at row (own-place integrations row.integration within i) (own i))
+    ap (λ b. if b then row.group.route ∷ [] else all) (own-successor config row led (list_any (leads config row led) row.firing) refl) in
+    (λ i. rows_at row (own-index integrations row.integration within i) (own i))
 
 -- ---- each row that is carried
 
@@ -240,17 +240,17 @@ module _ (config : Config) (receiver : List ℕ) (row : RowView) where
   goes_to_group_at p labels = list_any (same_name (group_at p)) (names_for config labels)
 
   -- a route that inherits is one of the configuration, with the row's receiver, and an alert of the row goes to the row's group of it
-  record IsHeir (p : ℕ) : Type 0 where
+  record IsSuccessor (p : ℕ) : Type 0 where
     pub there : p ≤ last_of config.routes
     pub same : (route_at config.routes p).receiver ≡ receiver
     pub led : list_any (goes_to_group_at p) (row.firing ++ row.resolved) ≡ true
 
   -- by a label set of the row each of its routes that inherits is so
-  heirs-by : (labels : List Label) → ((test : List Label → Bool) → test labels ≡ true → list_any test (row.firing ++ row.resolved) ≡ true)
-      → AllByRecursion (λ p. inherits config receiver row.group.labels labels p ≡ true → IsHeir p) (routes_of config.routes labels)
-  heirs-by labels own =
+  successors-by : (labels : List Label) → ((test : List Label → Bool) → test labels ≡ true → list_any test (row.firing ++ row.resolved) ≡ true)
+      → AllByRecursion (λ p. inherits config receiver row.group.labels labels p ≡ true → IsSuccessor p) (routes_of config.routes labels)
+  successors-by labels own =
       let routes = routes_of config.routes labels in
-      all-both (λ p. p ≤ last_of config.routes) (λ p. (test : ℕ → Bool) → test p ≡ true → list_any test routes ≡ true) (λ p. inherits config receiver row.group.labels labels p ≡ true → IsHeir p)
+      all-both (λ p. p ≤ last_of config.routes) (λ p. (test : ℕ → Bool) → test p ≡ true → list_any test routes ≡ true) (λ p. inherits config receiver row.group.labels labels p ≡ true → IsSuccessor p)
       (λ p there among does.
       let same_group = same_label_set row.group.labels (group_labels_of (route_at config.routes p) labels) in
       let is = and_parts (bytes_eq (route_at config.routes p).receiver receiver) same_group does in
@@ -264,38 +264,38 @@ module _ (config : Config) (receiver : List ℕ) (row : RowView) where
       })
       routes (all_to (λ (p : ℕ). p ≤ last_of config.routes) routes (routes_of-exist config.routes labels)) (any-own routes)
 
-  heirs-by-each : (sets : List (List Label)) → ((test : List Label → Bool) → list_any test sets ≡ true → list_any test (row.firing ++ row.resolved) ≡ true)
-      → AllByRecursion (λ labels. AllByRecursion (λ p. inherits config receiver row.group.labels labels p ≡ true → IsHeir p) (routes_of config.routes labels)) sets
-  heirs-by-each sets within =
+  successors-by-each : (sets : List (List Label)) → ((test : List Label → Bool) → list_any test sets ≡ true → list_any test (row.firing ++ row.resolved) ≡ true)
+      → AllByRecursion (λ labels. AllByRecursion (λ p. inherits config receiver row.group.labels labels p ≡ true → IsSuccessor p) (routes_of config.routes labels)) sets
+  successors-by-each sets within =
       all-weaker (λ labels. (test : List Label → Bool) → test labels ≡ true → list_any test sets ≡ true)
-      (λ labels. AllByRecursion (λ p. inherits config receiver row.group.labels labels p ≡ true → IsHeir p) (routes_of config.routes labels))
-      (λ labels own. heirs-by labels (λ test h. within test (own test h))) sets (any-own sets)
+      (λ labels. AllByRecursion (λ p. inherits config receiver row.group.labels labels p ≡ true → IsSuccessor p) (routes_of config.routes labels))
+      (λ labels own. successors-by labels (λ test h. within test (own test h))) sets (any-own sets)
 
-  each-heir-is : AllByRecursion IsHeir (heirs config receiver row)
-  each-heir-is =
+  each-successor-is : AllByRecursion IsSuccessor (successors config receiver row)
+  each-successor-is =
       let group = row.group.labels in
-      each-set config receiver group IsHeir row.resolved
-      (heirs-by-each row.resolved (λ test h. list_any-append test row.firing row.resolved ∙ or_right (list_any test row.firing) (list_any test row.resolved) h))
-      (fold (with_heirs config receiver group) [] row.firing)
-      (each-set config receiver group IsHeir row.firing
-      (heirs-by-each row.firing (λ test h. list_any-append test row.firing row.resolved ∙ or_left (list_any test row.firing) (list_any test row.resolved) h)) [] tt)
+      each-set config receiver group IsSuccessor row.resolved
+      (successors-by-each row.resolved (λ test h. list_any-append test row.firing row.resolved ∙ or_right (list_any test row.firing) (list_any test row.resolved) h))
+      (fold (with_successors config receiver group) [] row.firing)
+      (each-set config receiver group IsSuccessor row.firing
+      (successors-by-each row.firing (λ test h. list_any-append test row.firing row.resolved ∙ or_left (list_any test row.firing) (list_any test row.resolved) h)) [] tt)
 
-moved-there : (config : Config) (receiver : List ℕ) (row : RowView) (q p : ℕ) → q < length (integrations_named receiver config.receivers) → IsHeir config receiver row p → IsTakenOver config row (moved row q p)
-moved-there config receiver row q p within heir =
+moved-there : (config : Config) (receiver : List ℕ) (row : RowView) (q p : ℕ) → q < length (integrations_named receiver config.receivers) → IsSuccessor config receiver row p → IsTakenOver config row (moved row q p)
+moved-there config receiver row q p within successor =
     record {
       there =
-          ap (λ b. b && nat_lt q (length (integrations_named (route_at config.routes p).receiver config.receivers))) (le-leb p (last_of config.routes) heir.there)
-          ∙ ap (λ r. nat_lt q (length (integrations_named r config.receivers))) heir.same
+          ap (λ b. b && nat_lt q (length (integrations_named (route_at config.routes p).receiver config.receivers))) (le-leb p (last_of config.routes) successor.there)
+          ∙ ap (λ r. nat_lt q (length (integrations_named r config.receivers))) successor.same
           ∙ lt-ltb q (length (integrations_named receiver config.receivers)) within;
-      led = heir.led;
+      led = successor.led;
       labels = refl;
-      moment = refl;
+      time = refl;
       expiry = refl;
       firing = refl;
       resolved = refl;
     }
 
-each-moved : (config : Config) (receiver : List ℕ) (row : RowView) (q : ℕ) → q < length (integrations_named receiver config.receivers) → (ps : List ℕ) → AllByRecursion (IsHeir config receiver row) ps
+each-moved : (config : Config) (receiver : List ℕ) (row : RowView) (q : ℕ) → q < length (integrations_named receiver config.receivers) → (ps : List ℕ) → AllByRecursion (IsSuccessor config receiver row) ps
     → AllByRecursion (IsTakenOver config row) (map (moved row q) ps)
 each-moved config receiver row q within [] all = tt
 each-moved config receiver row q within (p ∷ ps) all = (moved-there config receiver row q p within all.0, each-moved config receiver row q within ps all.1)
@@ -317,11 +317,11 @@ each-taker P own ps all =
     ] refl
 
 fit-at : (new : Config) (receiver : List ℕ) (row : RowView) (olds : List Integration) (o : Option ℕ) → moved_to olds row.integration (integrations_named receiver new.receivers) ≡ o
-    → AllByRecursion (IsTakenOver new row) (rows_at row o (own_or_all row.group.route (heirs new receiver row)))
+    → AllByRecursion (IsTakenOver new row) (rows_at row o (own_or_all row.group.route (successors new receiver row)))
 fit-at new receiver row olds None e = tt
 fit-at new receiver row olds (Some q) e =
-    each-moved new receiver row q (moved-within olds (integrations_named receiver new.receivers) row.integration q e) (own_or_all row.group.route (heirs new receiver row))
-    (each-taker (IsHeir new receiver row) row.group.route (heirs new receiver row) (each-heir-is new receiver row))
+    each-moved new receiver row q (moved-within olds (integrations_named receiver new.receivers) row.integration q e) (own_or_all row.group.route (successors new receiver row))
+    (each-taker (IsSuccessor new receiver row) row.group.route (successors new receiver row) (each-successor-is new receiver row))
 
 pub carried_rows_fit : CarriedRowsFit
 carried_rows_fit old new row =
@@ -333,11 +333,11 @@ carried_rows_fit old new row =
 
 taken-loads : (old new : Config) (t : ℕ) (row taken : RowView) → may_load old t row ≡ true → IsTakenOver new row taken → may_load new t taken ≡ true
 taken-loads old new t row taken may is =
-    let parts = and_parts (has_integration old row && is_ordered row) (nat_le row.moment t) may in
+    let parts = and_parts (has_integration old row && is_ordered row) (nat_le row.time t) may in
     let ordered = (and_parts (has_integration old row) (is_ordered row) parts.0).1 in
-    and_from (has_integration new taken && is_ordered taken) (nat_le taken.moment t)
+    and_from (has_integration new taken && is_ordered taken) (nat_le taken.time t)
     (and_from (has_integration new taken) (is_ordered taken) is.there ((λ i. is_ascending label_set_cmp (is.firing i) && is_ascending label_set_cmp (is.resolved i)) ∙ ordered))
-    (ap (λ m. nat_le m t) is.moment ∙ parts.1)
+    (ap (λ m. nat_le m t) is.time ∙ parts.1)
 
 pub carried_rows_may_be_loaded : CarriedRowsMayBeLoaded
 carried_rows_may_be_loaded old new t row may =

@@ -15,7 +15,7 @@ use Rattle.am_model.specs.Configured.{route_of, integrations_named}
 use Rattle.am_model.specs.Load.{has_integration, is_ordered, may_load}
 use Rattle.am_model.specs.Rekey.{Reload, has_receiver_at, same_routes, rekeyed, IsFoundAgain, RekeyedRowsFit, RekeyedRowsMayBeLoaded, RestartsFindRows}
 use Rattle.am_model.specs.RouteKeys.{root_key, keys_of, key_at, positions_with}
-use Rattle.am_model.proofs.configuration.Carried.{moved-within, own-place}
+use Rattle.am_model.proofs.configuration.Carried.{moved-within, own-index}
 use Rattle.am_model.proofs.configuration.RouteKeys.{contains-filter, contains-map, contains-position, each-position, length_keys}
 use Rattle.am_model.proofs.lists.Distinct.{all_from, all_to, all-kept, all-map, all-weaker}
 
@@ -71,7 +71,7 @@ module _ (reload : Reload) (row : RowView) where
         integration = is;
         key = same.key;
         labels = refl;
-        moment = refl;
+        time = refl;
         expiry = refl;
         firing = refl;
         resolved = refl;
@@ -89,11 +89,11 @@ rekeyed_rows_fit reload row =
 
 found-loads : (reload : Reload) (t : ℕ) (row found : RowView) → may_load reload.old t row ≡ true → IsFoundAgain reload row found → may_load reload.new t found ≡ true
 found-loads reload t row found may is =
-    let parts = and_parts (has_integration reload.old row && is_ordered row) (nat_le row.moment t) may in
+    let parts = and_parts (has_integration reload.old row && is_ordered row) (nat_le row.time t) may in
     let ordered = (and_parts (has_integration reload.old row) (is_ordered row) parts.0).1 in
-    and_from (has_integration reload.new found && is_ordered found) (nat_le found.moment t)
+    and_from (has_integration reload.new found && is_ordered found) (nat_le found.time t)
     (and_from (has_integration reload.new found) (is_ordered found) is.there ((λ i. is_ascending label_set_cmp (is.firing i) && is_ascending label_set_cmp (is.resolved i)) ∙ ordered))
-    (ap (λ m. nat_le m t) is.moment ∙ parts.1)
+    (ap (λ m. nat_le m t) is.time ∙ parts.1)
 
 pub rekeyed_rows_may_be_loaded : RekeyedRowsMayBeLoaded
 rekeyed_rows_may_be_loaded reload t row may =
@@ -111,14 +111,14 @@ restarts_find_rows config row there =
     let key = key_at config.routes row.group.route in
     let parts = and_parts (nat_le row.group.route (last_of config.routes)) (nat_lt row.integration (length integrations)) there in
     let within : row.group.route < length keys = omega (arith, leb-true row.group.route (last_of config.routes) parts.0, length_keys config.routes) in
-    let stands : Contains (positions_with config.routes key) (0 + row.group.route) =
+    let holds : Contains (positions_with config.routes key) (0 + row.group.route) =
     contains-position 0 key keys row.group.route within (get_or_default keys row.group.route key root_key within) in
     let at : 0 + row.group.route ≡ row.group.route = omega arith in
-    let among : Contains (positions_with config.routes key) row.group.route = subst (Contains (positions_with config.routes key)) at stands in
+    let among : Contains (positions_with config.routes key) row.group.route = subst (Contains (positions_with config.routes key)) at holds in
     let same : Contains (same_routes config receiver key) row.group.route =
     contains-filter (has_receiver_at config receiver) row.group.route ((bytes_eq-Decides receiver receiver).1 refl) (positions_with config.routes key) among.0 among.1 among.2 in
     let routes = same_routes config receiver key in
     let whole : Contains (map (moved row row.integration) routes) row = contains-map (moved row row.integration) routes row.group.route same in
     let own : moved_to integrations row.integration integrations ≡ Some row.integration =
-    own-place integrations row.integration (ltb-true row.integration (length integrations) parts.1) in
+    own-index integrations row.integration (ltb-true row.integration (length integrations) parts.1) in
     subst (λ o. Contains (rows_at row o routes) row) (sym own) whole

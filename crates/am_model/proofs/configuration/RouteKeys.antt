@@ -1,4 +1,4 @@
--- The keys of routes: how a walk over the tree makes them, in which order their matchers stand, and where one is found.
+-- The keys of routes: how a walk over the tree makes them, in which order their matchers are, and where one is found.
 use Rattle.std.proofs.Common.{◌≡◌, ℕ, zero, suc, ◌+◌, ◌-◌, ◌<◌, ◌≤◌, Bool, true, false, cond, List, [], ◌∷◌, ◌++◌, length, map, filter, get_or, take, drop, refl, sym, ap, ◌∙◌, subst, arith, append_assoc, if◌then◌else◌}
 use Rattle.std.specs.Prelude.{All}
 use Rattle.std.specs.List.{AllByRecursion, Contains, insert}
@@ -9,7 +9,7 @@ use Rattle.std.proofs.lemmas.List.{append-nil, drop_all, drop_more, get_or-map, 
 use Rattle.std.proofs.lemmas.Slice.Eq.{bytes_eq-Decides}
 use Rattle.am_alerts.specs.Forest.{Forest, bare, grow, count, listed}
 use Rattle.am_alerts.specs.Layout.{laid, planted, planted_of_laid}
-use Rattle.am_alerts.specs.Planted.{IsLaid, part}
+use Rattle.am_alerts.specs.RouteLayouts.{IsLaid, part}
 use Rattle.am_alerts.specs.RoutingTree.{RoutingTree, TreeRoute, children_of, last_of, plain}
 use Rattle.am_alerts.specs.declared.route.Child.{Child}
 use Rattle.am_alerts.proofs.Layouts.{children_laid, length_laid, length_listed, opened, part-all, part-none}
@@ -29,7 +29,7 @@ module _ (f : Forest TreeRoute) where
   pub whole_planted : planted (part 0 (count f) (laid f)) ≡ f
   whole_planted = ap planted all-laid ∙ planted_of_laid f
 
--- the route at a place of the walk, with the keys below it and after it
+-- the route at an index of the walk, with the keys below it and after it
 pub record IsKeyed (f : Forest TreeRoute) (at to end : ℕ) (x : Child) (above : List ℕ) : Type 0 where
   pub ends : end ≤ to
   pub below : IsLaid (part (at + 1) end (laid f))
@@ -125,10 +125,10 @@ module _ {X : Type 0} (cmp : X → X → Ordering) (x : X) (xs : List X) where
       ap (λ zs. take i xs ++ x ∷ zs) rest ∙ sym (so_far ∙ ap (λ zs. take i xs ++ put_in_order cmp x zs) rest)
 
 -- the element before those that are in order already
-pub in_order-more : {X : Type 0} (cmp : X → X → Ordering) (xs sorted more : List X) (i k place : ℕ) (x : X) → i < length xs → k ≡ length xs - 1 - i
-    → x ≡ get_or xs k x → sorted ≡ in_order cmp (drop (length xs - i) xs) → insert sorted place x ≡ put_in_order cmp x sorted
-    → more ≡ insert sorted place x → more ≡ in_order cmp (drop (length xs - (i + 1)) xs)
-in_order-more cmp xs sorted more i k place x within is here so_far put now =
+pub in_order-more : {X : Type 0} (cmp : X → X → Ordering) (xs sorted more : List X) (i k index : ℕ) (x : X) → i < length xs → k ≡ length xs - 1 - i
+    → x ≡ get_or xs k x → sorted ≡ in_order cmp (drop (length xs - i) xs) → insert sorted index x ≡ put_in_order cmp x sorted
+    → more ≡ insert sorted index x → more ≡ in_order cmp (drop (length xs - (i + 1)) xs)
+in_order-more cmp xs sorted more i k index x within is here so_far put now =
     let at : length xs - (i + 1) ≡ k = omega (arith, is) in
     let next : k + 1 ≡ length xs - i = omega (arith, is, within) in
     let rest : drop (length xs - (i + 1)) xs ≡ x ∷ drop (length xs - i) xs =
@@ -139,7 +139,7 @@ in_order-more cmp xs sorted more i k place x within is here so_far put now =
 pub in_order-none : {X : Type 0} (cmp : X → X → Ordering) (xs : List X) → [] ≡ in_order cmp (drop (length xs - 0) xs)
 in_order-none cmp xs = ap (in_order cmp) (sym (drop_all (length xs - 0) xs (omega arith)))
 
--- ---- where a key stands
+-- ---- where a key is
 
 positions-push : (p : ℕ) (key : List ℕ) (ks : List (List ℕ)) (k : List ℕ)
     → positions_from p key (ks ++ k ∷ []) ≡ (if bytes_eq k key then positions_from p key ks ++ (p + length ks) ∷ [] else positions_from p key ks)

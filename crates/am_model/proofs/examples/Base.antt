@@ -46,7 +46,7 @@ configured children integrations retention =
       receivers = record { name = codes "team"; integrations = integrations } ∷ [];
       rules = [];
       retention = retention;
-      limits = record { names = 65_536; groups = 4_096; silences = 1_024; flushes = 64; history = 1_048_576 };
+      limits = record { alerts = 65_536; groups = 4_096; silences = 1_024; flushes = 64; history = 1_048_576 };
     }
 
 abbrev pub integration : List ℕ → Bool → Integration
@@ -104,7 +104,7 @@ quiet now name removed = entry 0 (call.Begin now) (reply.Quiet name removed)
 abbrev pub notice : ℕ → ℕ → GroupName → ℕ → List AlertData → List AlertData → NoticeData
 notice ticket deadline name integration firing resolved =
     record {
-      desk = 7;
+      board_id = 7;
       ticket = ticket;
       deadline = deadline;
       group = name;
@@ -138,11 +138,11 @@ load now row loaded = entry 0 (call.Load now row) (reply.Loaded loaded)
 
 -- a log row
 abbrev pub row : GroupName → ℕ → ℕ → ℕ → List (List Label) → List (List Label) → RowView
-row name integration moment expiry firing resolved =
+row name integration time expiry firing resolved =
     record {
       group = name;
       integration = integration;
-      moment = moment;
+      time = time;
       expiry = expiry;
       firing = firing;
       resolved = resolved;
@@ -175,11 +175,11 @@ first_notice =
 
 -- a child with one matcher
 abbrev pub child : List ℕ → List ℕ → List ℕ → Bool → Child
-child name matched value goes_on =
+child name matched value continues =
     record {
       route = route_named name;
       matchers = record { name = matched; op = Equal; value = value } ∷ [];
-      goes_on = goes_on;
+      continues = continues;
     }
 
 -- the children `db` (team = db, continue), `crit` (severity = critical) and `db2` (team = db)

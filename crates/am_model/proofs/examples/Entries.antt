@@ -98,8 +98,8 @@ delivered_removes = refl
 delivered_has_left : has_left group_a a_ended (past_of delivered_first) ≡ true
 delivered_has_left = refl
 
-not_asked : entry_in base group_a 1 (past_of delivered_first) ≡ None
-not_asked = refl
+not_notified : entry_in base group_a 1 (past_of delivered_first) ≡ None
+not_notified = refl
 
 -- ---- a success that was noted, and collected before the finish: the finish puts nothing back
 
@@ -142,7 +142,7 @@ no_entry = refl
 no_row : entry_in for_an_hour group_a 0 (past_of not_put_back) ≡ None
 no_row = refl
 
--- of two integrations the noted one keeps the moment of its note; the finish logs the other
+-- of two integrations the noted one keeps the time of its note; the finish logs the other
 abbrev both_open : List Record
 both_open =
     insert 0 a 1 1 1
@@ -150,22 +150,22 @@ both_open =
     ∷ entry 0 (call.Note 31_000 1 0 (Some Delivered)) reply.Noted
     ∷ []
 
-abbrev both_told : List Record
-both_told = both_open ++ finish 32_000 1 ((0, Delivered) ∷ (1, Delivered) ∷ []) 1 0 ∷ []
+abbrev both_reported : List Record
+both_reported = both_open ++ finish 32_000 1 ((0, Delivered) ∷ (1, Delivered) ∷ []) 1 0 ∷ []
 
-both_told_legal : IsLegal with_mail 7 both_told
-both_told_legal = (refl, (refl, (refl, (refl, tt))))
+both_reported_legal : IsLegal with_mail 7 both_reported
+both_reported_legal = (refl, (refl, (refl, (refl, tt))))
 
-hook_was_noted : was_noted 1 0 (past_of both_told) ≡ true
+hook_was_noted : was_noted 1 0 (past_of both_reported) ≡ true
 hook_was_noted = refl
 
-mail_was_not : was_noted 1 1 (past_of both_told) ≡ false
+mail_was_not : was_noted 1 1 (past_of both_reported) ≡ false
 mail_was_not = refl
 
-hook_entry : entry_in with_mail group_a 0 (past_of both_told) ≡ Some (row group_a 0 31_000 28_831_000 (named (codes "A") ∷ []) [])
+hook_entry : entry_in with_mail group_a 0 (past_of both_reported) ≡ Some (row group_a 0 31_000 28_831_000 (named (codes "A") ∷ []) [])
 hook_entry = refl
 
-mail_entry : entry_in with_mail group_a 1 (past_of both_told) ≡ Some (row group_a 1 32_000 28_832_000 (named (codes "A") ∷ []) [])
+mail_entry : entry_in with_mail group_a 1 (past_of both_reported) ≡ Some (row group_a 1 32_000 28_832_000 (named (codes "A") ∷ []) [])
 mail_entry = refl
 
 mail_logged : logs group_a 1 (past_of both_open) (call.Finish 32_000 1 ((0, Delivered) ∷ (1, Delivered) ∷ [])) ≡ true
@@ -185,11 +185,11 @@ ends_during =
 abbrev ended_then : List Record
 ended_then = ends_during ++ finish 50_000 1 ((0, Delivered) ∷ []) 1 0 ∷ []
 
-abbrev ended_told : List Record
-ended_told = ended_then ++ flush_hook 330_000 2 group_a 630_000 [] (a_ends ∷ []) ∷ finish 331_000 2 ((0, Delivered) ∷ []) 1 1 ∷ []
+abbrev ended_reported : List Record
+ended_reported = ended_then ++ flush_hook 330_000 2 group_a 630_000 [] (a_ends ∷ []) ∷ finish 331_000 2 ((0, Delivered) ∷ []) 1 1 ∷ []
 
-ended_told_legal : IsLegal base 7 ended_told
-ended_told_legal = (refl, (refl, (refl, (refl, (refl, tt)))))
+ended_reported_legal : IsLegal base 7 ended_reported
+ended_reported_legal = (refl, (refl, (refl, (refl, (refl, tt)))))
 
 fires_at_begin : firing_in base group_a 30_000 (past_of (insert 0 a_ends 1 1 1 ∷ [])) ≡ named (codes "A") ∷ []
 fires_at_begin = refl
@@ -212,12 +212,12 @@ resolved_later = refl
 fires_no_more : firing_in base group_a 330_000 (past_of ended_then) ≡ []
 fires_no_more = refl
 
-ended_leaves : presence base group_a (named (codes "A")) (past_of ended_told) ≡ None
+ended_leaves : presence base group_a (named (codes "A")) (past_of ended_reported) ≡ None
 ended_leaves = refl
 
 -- ---- what takes an alert out
 
--- a quiet begin takes out what is resolved at its moment, and nothing that ends later
+-- a quiet begin takes out what is resolved at its time, and nothing that ends later
 quiet_removes : removes group_a a_ends (quiet 40_000 group_a 1) [] ≡ true
 quiet_removes = refl
 

@@ -10,7 +10,7 @@ use Rattle.am_model.specs.Configured.{route_of}
 use Rattle.am_model.specs.look_back.Entry.{begins_group, entry_in}
 use Rattle.am_model.specs.look_back.Interval.{found_empty, begun_since, KeepsInterval}
 use Rattle.am_model.specs.look_back.Laws.{member_with, insert_during, has_open, begun_at}
-use Rattle.am_model.specs.look_back.Past.{past_of, moment_at, is_flush, is_quiet, is_flush_of, takes, notices_in, is_finish, is_note, is_maintenance, begin_of, has_begun, has_finished}
+use Rattle.am_model.specs.look_back.Past.{past_of, time_at, is_flush, is_quiet, is_flush_of, takes, notices_in, is_finish, is_note, is_maintenance, begin_of, has_begun, has_finished}
 use Rattle.am_model.specs.look_back.Presence.{inserts, presence}
 use Rattle.am_model.specs.Replay.{IsLegal, replay}
 use Rattle.am_model.specs.State.{members_in}
@@ -205,12 +205,12 @@ one_notice = refl
 no_notice : notices_in quiet_a.reply ≡ []
 no_notice = refl
 
--- the moment of the latest record doesn't go back
-moment_stays : moment_at (past_of (insert 50_000 a 1 1 1 ∷ nothing_due 45_000 ∷ [])) ≡ 50_000
-moment_stays = refl
+-- the time of the latest record doesn't go back
+time_stays : time_at (past_of (insert 50_000 a 1 1 1 ∷ nothing_due 45_000 ∷ [])) ≡ 50_000
+time_stays = refl
 
-moment_goes_on : moment_at (past_of first_notice) ≡ 30_000
-moment_goes_on = refl
+time_continues : time_at (past_of first_notice) ≡ 30_000
+time_continues = refl
 
 -- ---- the begins of a group
 
@@ -230,7 +230,7 @@ still_begun = refl
 still_begun_at : begun_at base group_a (past_of looked_after) ≡ Some 30_000
 still_begun_at = refl
 
--- only at its moment, and only the group that was taken
+-- only at its time, and only the group that was taken
 not_begun_then : begun_since base group_a 29_999 (past_of looked_after) ≡ false
 not_begun_then = refl
 
@@ -241,7 +241,7 @@ other_not_begun = refl
 too_soon : KeepsInterval base (quiet 329_999 group_a 0) (past_of looked_after) → ⊥
 too_soon keeps = let over : 330_000 ≤ 329_999 = keeps group_a refl 30_000 refl in omega (arith, over)
 
-soon_enough : (route_of base group_a).group_interval + 30_000 ≡ moment_at (quiet_a ∷ past_of looked_after)
+soon_enough : (route_of base group_a).group_interval + 30_000 ≡ time_at (quiet_a ∷ past_of looked_after)
 soon_enough = refl
 
 -- a quiet begin is one, and the begin before it still counts

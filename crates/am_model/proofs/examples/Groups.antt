@@ -91,7 +91,7 @@ back_due = refl
 back_clock : (replay base back).clock ≡ 50_000
 back_clock = refl
 
--- a moment above the greatest is the greatest
+-- a time above the greatest is the greatest
 late_clock : (replay base (nothing_due 1_000_000_000_000_001 ∷ [])).clock ≡ 1_000_000_000_000_000
 late_clock = refl
 

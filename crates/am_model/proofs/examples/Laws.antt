@@ -1,4 +1,4 @@
--- Worked histories of the laws: what a begin tells and what is logged, and records that each law refuses.
+-- Worked histories of the laws: what a begin says and what is logged, and records that each law refuses.
 use Rattle.std.proofs.Common.{◌≡◌, Bool, true, false, Some, None, List, [], ◌∷◌, ◌++◌, refl, sym, ap, arith}
 use Rattle.std.specs.Prelude.{codes, is_some}
 use Rattle.std.proofs.lemmas.Bool.{false≢true}
@@ -12,13 +12,13 @@ use Rattle.am_model.specs.declared.record.Record.{Record}
 use Rattle.am_model.specs.declared.record.Reply.TheVariants as reply_is
 use Rattle.am_model.specs.look_back.Entry.{firing_alerts_in, resolved_alerts_in, logs}
 use Rattle.am_model.specs.Records.{entry}
-use Rattle.am_model.specs.look_back.Laws.{alerts_in, is_delivered_to, reports_delivery, LogsDelivered, was_delivered, IsOneFlushAtATime, IsAskedRightly, wants_resolved, IsNoticeFound, IsToldRightly}
+use Rattle.am_model.specs.look_back.Laws.{alerts_in, is_delivered_to, reports_delivery, LogsDelivered, was_delivered, IsOneFlushAtATime, IsNotifiedRightly, wants_resolved, IsNoticeFound, IsReplyFound}
 use Rattle.am_model.specs.look_back.Past.{past_of}
 use Rattle.am_model.specs.Replay.{IsLegal, reply, replay}
 use Rattle.am_model.proofs.lists.Distinct.{all_to}
 use Rattle.am_model.proofs.examples.Base.{base, firing_only, route_every, named, ended, group_a, a, first_notice, insert, quiet, notice, flush_hook, finish, row}
 
--- ---- what a begin tells: an end that hasn't come isn't in the notice, but the alert of the group keeps it
+-- ---- what a begin says: an end that hasn't come isn't in the notice, but the alert of the group keeps it
 
 abbrev a_ends : AlertData
 a_ends = ended (named (codes "A")) 0 40_000
@@ -26,8 +26,8 @@ a_ends = ended (named (codes "A")) 0 40_000
 abbrev ends_later : List Record
 ends_later = insert 0 a_ends 1 1 1 ∷ []
 
-end_not_told : firing_alerts_in base group_a 30_000 (past_of ends_later) ≡ a ∷ []
-end_not_told = refl
+end_not_reported : firing_alerts_in base group_a 30_000 (past_of ends_later) ≡ a ∷ []
+end_not_reported = refl
 
 end_kept : alerts_in base group_a (past_of ends_later) ≡ a_ends ∷ []
 end_kept = refl
@@ -35,8 +35,8 @@ end_kept = refl
 not_resolved : resolved_alerts_in base group_a 30_000 (past_of ends_later) ≡ []
 not_resolved = refl
 
-told_as_resolved : resolved_alerts_in base group_a 40_000 (past_of ends_later) ≡ a_ends ∷ []
-told_as_resolved = refl
+reported_as_resolved : resolved_alerts_in base group_a 40_000 (past_of ends_later) ≡ a_ends ∷ []
+reported_as_resolved = refl
 
 -- whether the first of some alerts has an end
 abbrev first_ends : List AlertData → Bool
@@ -44,17 +44,17 @@ first_ends [] = false
 first_ends (x ∷ xs) = is_some x.ends
 
 -- a notice with that end breaks the law, and so do another deadline and another count
-end_in_notice : IsToldRightly base 30_000 (past_of ends_later) (flush_hook 30_000 1 group_a 330_000 (a_ends ∷ []) []).reply → ⊥
-end_in_notice told =
+end_in_notice : IsReplyFound base 30_000 (past_of ends_later) (flush_hook 30_000 1 group_a 330_000 (a_ends ∷ []) []).reply → ⊥
+end_in_notice returned =
     let n = notice 1 330_000 group_a 0 (a_ends ∷ []) [] in
-    let found = all_to (IsNoticeFound base 1 group_a 330_000 30_000 (past_of ends_later)) (n ∷ []) told.listed in
+    let found = all_to (IsNoticeFound base 1 group_a 330_000 30_000 (past_of ends_later)) (n ∷ []) returned.listed in
     false≢true (sym (ap first_ends found.0.firing))
 
-other_deadline : IsToldRightly base 30_000 (past_of ends_later) (flush_hook 30_000 1 group_a 330_001 (a ∷ []) []).reply → ⊥
-other_deadline told = let until : 330_001 ≡ 330_000 = told.deadline in omega (arith, until)
+other_deadline : IsReplyFound base 30_000 (past_of ends_later) (flush_hook 30_000 1 group_a 330_001 (a ∷ []) []).reply → ⊥
+other_deadline returned = let until : 330_001 ≡ 330_000 = returned.deadline in omega (arith, until)
 
-other_count : IsToldRightly base 330_000 (past_of first_notice) (quiet 330_000 group_a 1).reply → ⊥
-other_count told = let count : 1 ≡ 0 = told in omega (arith, count)
+other_count : IsReplyFound base 330_000 (past_of first_notice) (quiet 330_000 group_a 1).reply → ⊥
+other_count returned = let count : 1 ≡ 0 = returned in omega (arith, count)
 
 -- resolved alerts are sent where the integration wants them
 hook_wants : wants_resolved base group_a 0 ≡ true
@@ -66,10 +66,10 @@ hook_wants_not = refl
 nobody_wants : wants_resolved base group_a 1 ≡ false
 nobody_wants = refl
 
--- ---- what is logged was delivered: a refused note of the second flush isn't excused by the finish of the first at its moment
+-- ---- what is logged was delivered: a refused note of the second flush isn't excused by the finish of the first at its time
 
-abbrev every_moment : Config
-every_moment = record base { routes = tree_of (route_every 1 (codes "root")) [] }
+abbrev every_time : Config
+every_time = record base { routes = tree_of (route_every 1 (codes "root")) [] }
 
 abbrev a_over : AlertData
 a_over = ended (named (codes "A")) 0 30_001
@@ -83,13 +83,13 @@ second_open =
     ∷ flush_hook 30_001 2 group_a 40_001 [] (a_over ∷ [])
     ∷ []
 
-second_open_legal : IsLegal every_moment 7 second_open
+second_open_legal : IsLegal every_time 7 second_open
 second_open_legal = (refl, (refl, (refl, (refl, (refl, tt)))))
 
 abbrev note_refused : Record
 note_refused = entry 0 (call.Note 30_001 2 0 (Some Refused)) reply_is.Noted
 
-no_legal_note : reply every_moment 7 (replay every_moment second_open) note_refused.call ≡ None
+no_legal_note : reply every_time 7 (replay every_time second_open) note_refused.call ≡ None
 no_legal_note = refl
 
 would_log : logs group_a 0 (past_of second_open) note_refused.call ≡ true
@@ -135,10 +135,10 @@ first_open = insert 0 a 1 1 1 ∷ flush_hook 30_000 1 group_a 330_000 (a ∷ [])
 taken_while_open : IsOneFlushAtATime (flush_hook 330_000 2 group_a 630_000 (a ∷ []) []) (past_of first_open) → ⊥
 taken_while_open law = false≢true (sym (law.none_open group_a refl))
 
--- ---- a begin asks exactly whom it should
+-- ---- a begin notifies exactly whom it should
 
-asked_too_soon : IsAskedRightly base (flush_hook 330_000 2 group_a 630_000 (a ∷ []) []) (past_of first_notice) → ⊥
-asked_too_soon law = false≢true (ap is_empty (law group_a refl))
+notified_too_soon : IsNotifiedRightly base (flush_hook 330_000 2 group_a 630_000 (a ∷ []) []) (past_of first_notice) → ⊥
+notified_too_soon law = false≢true (ap is_empty (law group_a refl))
 
-not_asked : IsAskedRightly base (quiet 30_000 group_a 0) (past_of (insert 0 a 1 1 1 ∷ [])) → ⊥
-not_asked law = false≢true (sym (ap is_empty (law group_a refl)))
+not_notified : IsNotifiedRightly base (quiet 30_000 group_a 0) (past_of (insert 0 a 1 1 1 ∷ [])) → ⊥
+not_notified law = false≢true (sym (ap is_empty (law group_a refl)))

@@ -21,32 +21,32 @@ use Rattle.am_model.specs.Replay.{IsLegal, reply, replay}
 use Rattle.am_model.specs.State.{opening_state}
 use Rattle.am_model.proofs.examples.Base.{base, integration, named, instance, fires, group, group_a, a, first_notice, insert, quiet, flush_hook, finish, maintain, load, row}
 
--- what `hook/0` was told of A at a moment, 8 hours before the expiry
-abbrev told : ℕ → ℕ → RowView
-told moment expiry = row group_a 0 moment expiry (named (codes "A") ∷ []) []
+-- what `hook/0` was notified of A at a time, 8 hours before the expiry
+abbrev sent_row : ℕ → ℕ → RowView
+sent_row time expiry = row group_a 0 time expiry (named (codes "A") ∷ []) []
 
--- ---- a restart: A still fires, and isn't told again
+-- ---- a restart: A still fires, and isn't notified again
 
 abbrev restarted : List Record
-restarted = load 100_000 (told 30_000 28_830_000) Put ∷ insert 100_000 a 1 1 1 ∷ quiet 100_000 group_a 0 ∷ []
+restarted = load 100_000 (sent_row 30_000 28_830_000) Put ∷ insert 100_000 a 1 1 1 ∷ quiet 100_000 group_a 0 ∷ []
 
 restarted_legal : IsLegal base 7 restarted
 restarted_legal = (refl, (refl, (refl, tt)))
 
-restarted_entry : entry_in base group_a 0 (past_of restarted) ≡ Some (told 30_000 28_830_000)
+restarted_entry : entry_in base group_a 0 (past_of restarted) ≡ Some (sent_row 30_000 28_830_000)
 restarted_entry = refl
 
 restarted_reason : reason_in base group_a 100_000 (past_of restarted) (0, integration (codes "hook") true) ≡ NotYet 14_430_001
 restarted_reason = refl
 
-restarted_handed : handed_in group_a 0 (past_of restarted) ≡ Some (told 30_000 28_830_000)
+restarted_handed : handed_in group_a 0 (past_of restarted) ≡ Some (sent_row 30_000 28_830_000)
 restarted_handed = refl
 
 -- without the row it is
 not_loaded_legal : IsLegal base 7 (insert 100_000 a 1 1 1 ∷ flush_hook 100_000 1 group_a 400_000 (a ∷ []) [] ∷ [])
 not_loaded_legal = (refl, (refl, tt))
 
--- another alert of the group is told, and so is A four hours after the row's moment
+-- another alert of the group is reported, and so is A four hours after the row's time
 another : reason_in base group_a 200_000 (past_of (restarted ++ insert 200_000 (fires (instance (codes "A") (codes "2")) 150_000) 2 1 0 ∷ [])) (0, integration (codes "hook") true) ≡ NewAlert
 another = refl
 
@@ -70,28 +70,28 @@ without_loads name i (r ∷ past) none =
 
 -- the board's own is of 30,000
 abbrev own : List Record
-own = first_notice ++ load 30_000 (told 29_999 28_829_999) Kept ∷ load 40_000 (told 30_000 28_840_000) Kept ∷ []
+own = first_notice ++ load 30_000 (sent_row 29_999 28_829_999) Kept ∷ load 40_000 (sent_row 30_000 28_840_000) Kept ∷ []
 
 own_legal : IsLegal base 7 own
 own_legal = (refl, (refl, (refl, (refl, (refl, (refl, tt))))))
 
-own_entry : entry_in base group_a 0 (past_of own) ≡ Some (told 30_000 28_830_000)
+own_entry : entry_in base group_a 0 (past_of own) ≡ Some (sent_row 30_000 28_830_000)
 own_entry = refl
 
-own_delivered : was_delivered (told 30_000 28_830_000) (past_of own) ≡ true
+own_delivered : was_delivered (sent_row 30_000 28_830_000) (past_of own) ≡ true
 own_delivered = refl
 
--- a later one takes its place, as it was handed in
+-- a later one takes its index, as it was handed in
 abbrev later : List Record
-later = own ++ load 40_000 (told 30_001 50_000) Put ∷ load 40_000 (told 30_001 60_000) Kept ∷ []
+later = own ++ load 40_000 (sent_row 30_001 50_000) Put ∷ load 40_000 (sent_row 30_001 60_000) Kept ∷ []
 
 later_legal : IsLegal base 7 later
 later_legal = (refl, (refl, (refl, (refl, (refl, (refl, (refl, (refl, tt))))))))
 
-later_entry : entry_in base group_a 0 (past_of later) ≡ Some (told 30_001 50_000)
+later_entry : entry_in base group_a 0 (past_of later) ≡ Some (sent_row 30_001 50_000)
 later_entry = refl
 
-later_state : find (is_entry_of group_a 0) (replay base later).rows ≡ Some (told 30_001 50_000)
+later_state : find (is_entry_of group_a 0) (replay base later).rows ≡ Some (sent_row 30_001 50_000)
 later_state = refl
 
 -- no other key has it
@@ -100,13 +100,13 @@ no_other = refl
 
 -- ---- a row stays up to its expiry, and isn't put in after it
 
-expired_legal : IsLegal base 7 (load 28_830_001 (told 30_000 28_830_000) Expired ∷ [])
+expired_legal : IsLegal base 7 (load 28_830_001 (sent_row 30_000 28_830_000) Expired ∷ [])
 expired_legal = (refl, tt)
 
-expired_entry : entry_in base group_a 0 (past_of (load 28_830_001 (told 30_000 28_830_000) Expired ∷ [])) ≡ None
+expired_entry : entry_in base group_a 0 (past_of (load 28_830_001 (sent_row 30_000 28_830_000) Expired ∷ [])) ≡ None
 expired_entry = refl
 
-at_expiry_legal : IsLegal base 7 (load 28_830_000 (told 30_000 28_830_000) Put ∷ maintain 28_830_000 0 1 ∷ load 28_830_000 (told 30_000 28_830_000) Put ∷ [])
+at_expiry_legal : IsLegal base 7 (load 28_830_000 (sent_row 30_000 28_830_000) Put ∷ maintain 28_830_000 0 1 ∷ load 28_830_000 (sent_row 30_000 28_830_000) Put ∷ [])
 at_expiry_legal = (refl, (refl, (refl, tt)))
 
 -- ---- what may not be loaded
@@ -128,13 +128,13 @@ unordered = refl
 twice : load_cause base 0 opening_state 100_000 (row group_a 0 30_000 28_830_000 [] (named (codes "A") ∷ named (codes "A") ∷ [])) ≡ Some Unordered
 twice = refl
 
--- of a later moment
-ahead : load_cause base 0 opening_state 29_999 (told 30_000 28_830_000) ≡ Some Ahead
+-- of a later time
+ahead : load_cause base 0 opening_state 29_999 (sent_row 30_000 28_830_000) ≡ Some Ahead
 ahead = refl
 
 -- where the history is full
-full : load_cause base 1_048_576 opening_state 30_000 (told 30_000 28_830_000) ≡ Some HistoryFull
+full : load_cause base 1_048_576 opening_state 30_000 (sent_row 30_000 28_830_000) ≡ Some HistoryFull
 full = refl
 
-allowed : load_cause base 1_048_575 opening_state 30_000 (told 30_000 28_830_000) ≡ None
+allowed : load_cause base 1_048_575 opening_state 30_000 (sent_row 30_000 28_830_000) ≡ None
 allowed = refl

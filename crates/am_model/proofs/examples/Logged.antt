@@ -55,8 +55,8 @@ not_ready = refl
 not_delivered : reply base 7 (replay base flushed) (Note 31_000 1 0 (Some Refused)) ≡ None
 not_delivered = refl
 
-not_asked : reply base 7 (replay base flushed) (Note 31_000 1 1 (Some Delivered)) ≡ None
-not_asked = refl
+not_notified : reply base 7 (replay base flushed) (Note 31_000 1 1 (Some Delivered)) ≡ None
+not_notified = refl
 
 not_open : reply base 7 (replay base flushed) (Note 31_000 2 0 (Some Delivered)) ≡ None
 not_open = refl

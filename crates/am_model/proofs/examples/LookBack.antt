@@ -9,7 +9,7 @@ use Rattle.am_model.specs.declared.record.Reply.TheVariants.{Noted, Silenced}
 use Rattle.am_model.specs.Records.{entry}
 use Rattle.am_model.specs.Begin.{is_entry_of}
 use Rattle.am_model.specs.look_back.Entry.{entry_in, begins_group}
-use Rattle.am_model.specs.look_back.Laws.{member_with, was_delivered, insert_during, has_open, begun_at, asked_after}
+use Rattle.am_model.specs.look_back.Laws.{member_with, was_delivered, insert_during, has_open, begun_at, notified_after}
 use Rattle.am_model.specs.look_back.Past.{past_of, begin_of, has_begun, has_finished}
 use Rattle.am_model.specs.look_back.Presence.{goes_to, presence}
 use Rattle.am_model.specs.Replay.{IsLegal, replay}
@@ -24,15 +24,15 @@ notice_present = refl
 notice_entry : entry_in base group_a 0 (past_of first_notice) ≡ Some (row group_a 0 30_000 28_830_000 (named (codes "A") ∷ []) [])
 notice_entry = refl
 
-notice_told : was_delivered (row group_a 0 30_000 28_830_000 (named (codes "A") ∷ []) []) (past_of first_notice) ≡ true
-notice_told = refl
+notice_logged : was_delivered (row group_a 0 30_000 28_830_000 (named (codes "A") ∷ []) []) (past_of first_notice) ≡ true
+notice_logged = refl
 
--- no other integration has an entry, and no moment but the finish's told it
+-- no other integration has an entry, and no time but the finish's reported it
 no_other_entry : entry_in base group_a 1 (past_of first_notice) ≡ None
 no_other_entry = refl
 
-not_told_then : was_delivered (row group_a 0 29_999 28_829_999 (named (codes "A") ∷ []) []) (past_of first_notice) ≡ false
-not_told_then = refl
+not_logged_then : was_delivered (row group_a 0 29_999 28_829_999 (named (codes "A") ∷ []) []) (past_of first_notice) ≡ false
+not_logged_then = refl
 
 -- an alert that was never inserted isn't there
 never_there : presence base group_a (named (codes "B")) (past_of first_notice) ≡ None
@@ -129,14 +129,14 @@ collected_entry = refl
 kept_entry : entry_in for_an_hour group_a 0 (past_of (noted ++ maintain 3_630_999 0 0 ∷ [])) ≡ Some (row group_a 0 31_000 3_631_000 (named (codes "A") ∷ []) [])
 kept_entry = refl
 
--- ---- whom a begin asks
+-- ---- whom a begin notifies
 
 -- after the first notice nobody, until the repeat interval is over
-quiet_then : asked_after base group_a 330_000 (past_of first_notice) ≡ []
+quiet_then : notified_after base group_a 330_000 (past_of first_notice) ≡ []
 quiet_then = refl
 
-asked_then : asked_after base group_a 14_430_001 (past_of first_notice) ≡ 0 ∷ []
-asked_then = refl
+notified_then : notified_after base group_a 14_430_001 (past_of first_notice) ≡ 0 ∷ []
+notified_then = refl
 
 -- the last begin, and none once a maintenance found the group without alerts
 begun_then : begun_at base group_a (past_of again) ≡ Some 330_000
@@ -162,14 +162,14 @@ refiring_goes = refl
 goes_nowhere_else : goes_to base group_a (named (codes "B")) ≡ false
 goes_nowhere_else = refl
 
--- a finish that isn't there told nothing, and a refused notice isn't told
-refused_not_told : was_delivered (row group_a 0 30_000 28_830_000 (named (codes "A") ∷ []) []) (past_of failed) ≡ false
-refused_not_told = refl
+-- a finish that isn't there reported nothing, and a refused notice isn't reported
+refused_not_logged : was_delivered (row group_a 0 30_000 28_830_000 (named (codes "A") ∷ []) []) (past_of failed) ≡ false
+refused_not_logged = refl
 
-note_told : was_delivered (row group_a 0 31_000 3_631_000 (named (codes "A") ∷ []) []) (past_of noted) ≡ true
-note_told = refl
+note_logged : was_delivered (row group_a 0 31_000 3_631_000 (named (codes "A") ∷ []) []) (past_of noted) ≡ true
+note_logged = refl
 
--- a silenced group: nothing is told, nobody is asked, and the quiet begin takes the resolved alert out, though it was muted
+-- a silenced group: nothing is reported, nobody is notified, and the quiet begin takes the resolved alert out, though it was muted
 abbrev over_silence : List Record
 over_silence =
     insert 0 (ended (named (codes "A")) 0 20_000) 1 1 1
@@ -183,8 +183,8 @@ silence_legal = (refl, (refl, (refl, tt)))
 silence_gone : presence base group_a (named (codes "A")) (past_of over_silence) ≡ None
 silence_gone = refl
 
-silence_asks : asked_after base group_a 30_000 (past_of (insert 0 a 1 1 1 ∷ entry 0 (Silence 10 1 (record { name = codes "alertname"; op = Equal; value = codes "A" } ∷ []) 0 100_000) (Silenced (record { replaced = false })) ∷ [])) ≡ []
-silence_asks = refl
+silence_notifies : notified_after base group_a 30_000 (past_of (insert 0 a 1 1 1 ∷ entry 0 (Silence 10 1 (record { name = codes "alertname"; op = Equal; value = codes "A" } ∷ []) 0 100_000) (Silenced (record { replaced = false })) ∷ [])) ≡ []
+silence_notifies = refl
 
-unsilenced_asks : asked_after base group_a 30_000 (past_of (insert 0 a 1 1 1 ∷ [])) ≡ 0 ∷ []
-unsilenced_asks = refl
+unsilenced_notifies : notified_after base group_a 30_000 (past_of (insert 0 a 1 1 1 ∷ [])) ≡ 0 ∷ []
+unsilenced_notifies = refl

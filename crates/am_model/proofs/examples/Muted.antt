@@ -49,7 +49,7 @@ silenced_rows = refl
 replaced_legal : IsLegal base 7 (silence 0 1 5 false ∷ silence 0 2 5 false ∷ silence 0 1 9 true ∷ [])
 replaced_legal = (refl, (refl, (refl, tt)))
 
--- nobody is asked where all is muted, though the entry has a firing alert
+-- nobody is notified where all is muted, though the entry has a firing alert
 all_muted_legal : IsLegal base 7 (first_notice ++ silence 100_000 1 400_000 false ∷ quiet 330_000 group_a 0 ∷ [])
 all_muted_legal = (refl, (refl, (refl, (refl, (refl, (refl, tt))))))
 

@@ -1,4 +1,4 @@
--- Worked histories of notes: one is of an open flush, and once for each integration; and a flush that asks nobody is none.
+-- Worked histories of notes: one is of an open flush, and once for each integration; and a flush that notifies nobody is none.
 use Rattle.std.proofs.Common.{◌≡◌, true, false, Some, None, List, [], ◌∷◌, ◌++◌, refl, sym}
 use Rattle.std.specs.Prelude.{codes, find}
 use Rattle.std.proofs.lemmas.Bool.{false≢true}
@@ -8,7 +8,7 @@ use Rattle.am_model.specs.declared.record.Record.{Record}
 use Rattle.am_model.specs.declared.record.Reply.TheVariants as reply_is
 use Rattle.am_model.specs.Begin.{is_entry_of}
 use Rattle.am_model.specs.Records.{entry, flush_reply}
-use Rattle.am_model.specs.look_back.Laws.{reports_delivery, IsOneFlushAtATime, IsToldRightly}
+use Rattle.am_model.specs.look_back.Laws.{reports_delivery, IsOneFlushAtATime, IsReplyFound}
 use Rattle.am_model.specs.look_back.Past.{past_of, replay_past, has_begun, has_finished, was_noted}
 use Rattle.am_model.specs.Replay.{IsLegal}
 use Rattle.am_model.proofs.examples.Base.{base, named, group_a, a, first_notice, insert, flush_hook, finish, row}
@@ -38,7 +38,7 @@ not_noted_before = refl
 noted_after : was_noted 1 0 (past_of noted) ≡ true
 noted_after = refl
 
--- its row comes into the log by the note, at its moment, and the finish adds none
+-- its row comes into the log by the note, at its time, and the finish adds none
 no_row_before : find (is_entry_of group_a 0) (replay_past base (past_of first_open)).rows ≡ None
 no_row_before = refl
 
@@ -58,6 +58,6 @@ noted_too_late law = false≢true (sym (law.note_open 1 0 refl).1)
 noted_for_none : IsOneFlushAtATime (entry 0 (call.Note 31_000 2 0 (Some Delivered)) reply_is.Noted) (past_of first_open) → ⊥
 noted_for_none law = false≢true (law.note_open 2 0 refl).0
 
--- a flush with no notice breaks the law of what a begin tells
-asks_nobody : IsToldRightly base 30_000 (past_of (insert 0 a 1 1 1 ∷ [])) (flush_reply 1 group_a 330_000 []) → ⊥
-asks_nobody told = false≢true (sym told.asks)
+-- a flush with no notice breaks the law of what a begin says
+notifies_nobody : IsReplyFound base 30_000 (past_of (insert 0 a 1 1 1 ∷ [])) (flush_reply 1 group_a 330_000 []) → ⊥
+notifies_nobody returned = false≢true (sym returned.notifies)

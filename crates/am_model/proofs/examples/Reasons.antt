@@ -1,4 +1,4 @@
--- Worked histories of reasons: why a begin asks an integration, or why not, and that it does so.
+-- Worked histories of reasons: why a begin notifies an integration, or why not, and that it does so.
 use Rattle.std.proofs.Common.{◌≡◌, ℕ, Bool, true, false, Option, Some, None, is_some, List, [], ◌∷◌, ◌++◌, refl, sym, ap, ◌∙◌, arith}
 use Rattle.std.specs.Prelude.{codes}
 use Rattle.std.proofs.lemmas.Bool.{false≢true}
@@ -23,7 +23,7 @@ use Rattle.am_model.specs.Configured.{integrations_of}
 use Rattle.am_model.specs.look_back.Entry.{known_in, silences_in, unmuted_in, firing_in, resolved_in, entry_in}
 use Rattle.am_model.specs.Records.{entry}
 use Rattle.am_model.specs.look_back.Past.{past_of}
-use Rattle.am_model.specs.look_back.Reasons.{asks, IsSo, reason_in, is_asked_in, AsksForReasons}
+use Rattle.am_model.specs.look_back.Reasons.{notifies, ReasonApplies, reason_in, is_notified_in, NotifiesForReasons}
 use Rattle.am_model.specs.Replay.{IsLegal}
 use Rattle.am_model.proofs.examples.Base.{base, firing_only, integration, label, named, instance, group, fires, ended, group_a, a, first_notice, insert, quiet, flush_hook, finish, row}
 
@@ -45,26 +45,26 @@ begin_a = flush_hook 30_000 1 group_a 330_000 (a ∷ []) []
 first_reason : reason_in base group_a 30_000 (past_of (insert 0 a 1 1 1 ∷ [])) hook ≡ FirstNotice
 first_reason = refl
 
-first_asks : asks FirstNotice ≡ true
-first_asks = refl
+first_notifies : notifies FirstNotice ≡ true
+first_notifies = refl
 
-hook_is_asked : is_asked_in 0 begin_a.reply ≡ true
-hook_is_asked = refl
+hook_is_notified : is_notified_in 0 begin_a.reply ≡ true
+hook_is_notified = refl
 
-mail_is_not_asked : is_asked_in 1 begin_a.reply ≡ false
-mail_is_not_asked = refl
+mail_is_not_notified : is_notified_in 1 begin_a.reply ≡ false
+mail_is_not_notified = refl
 
-quiet_asks_nobody : is_asked_in 0 (quiet 330_000 group_a 0).reply ≡ false
-quiet_asks_nobody = refl
+quiet_notifies_nobody : is_notified_in 0 (quiet 330_000 group_a 0).reply ≡ false
+quiet_notifies_nobody = refl
 
--- a begin that asks nobody where there is a reason breaks the law, and so does one that asks where there is none
-asks_nobody : AsksForReasons base (quiet 30_000 group_a 0) (past_of (insert 0 a 1 1 1 ∷ [])) → ⊥
-asks_nobody asked = false≢true (sym (ap is_empty (asked.only group_a refl)))
+-- a begin that notifies nobody where there is a reason breaks the law, and so does one that notifies where there is none
+notifies_nobody : NotifiesForReasons base (quiet 30_000 group_a 0) (past_of (insert 0 a 1 1 1 ∷ [])) → ⊥
+notifies_nobody notified = false≢true (sym (ap is_empty (notified.only group_a refl)))
 
-asks_again : AsksForReasons base (flush_hook 330_000 2 group_a 630_000 (a ∷ []) []) (past_of first_notice) → ⊥
-asks_again asked = false≢true (ap is_empty (asked.only group_a refl))
+asks_again : NotifiesForReasons base (flush_hook 330_000 2 group_a 630_000 (a ∷ []) []) (past_of first_notice) → ⊥
+asks_again notified = false≢true (ap is_empty (notified.only group_a refl))
 
--- ---- not yet, and the repeat: the reason names its moment
+-- ---- not yet, and the repeat: the reason names its time
 
 waits : reason_in base group_a 330_000 (past_of first_notice) hook ≡ NotYet 14_430_001
 waits = refl
@@ -75,11 +75,11 @@ waits_at_equality = refl
 repeats : reason_in base group_a 14_430_001 (past_of first_notice) hook ≡ Repeat
 repeats = refl
 
-repeat_asks : asks Repeat ≡ true
-repeat_asks = refl
+repeat_notifies : notifies Repeat ≡ true
+repeat_notifies = refl
 
-waiting_asks_not : asks (NotYet 14_430_001) ≡ false
-waiting_asks_not = refl
+waiting_notifies_not : notifies (NotYet 14_430_001) ≡ false
+waiting_notifies_not = refl
 
 waits_legal : IsLegal base 7 (first_notice ++ quiet 330_000 group_a 0 ∷ quiet 14_430_000 group_a 0 ∷ [])
 waits_legal = (refl, (refl, (refl, (refl, (refl, (refl, tt))))))
@@ -121,7 +121,7 @@ all_resolved_firing_only = refl
 all_resolved_legal : IsLegal firing_only 7 (with_end ++ flush_hook 330_000 2 group_a 630_000 [] [] ∷ [])
 all_resolved_legal = (refl, (refl, (refl, (refl, (refl, (refl, tt))))))
 
--- ---- one of two is resolved: told at once, but not where resolved alerts aren't sent
+-- ---- one of two is resolved: reported at once, but not where resolved alerts aren't sent
 
 abbrev second_ended : AlertData
 second_ended = ended (instance (codes "A") (codes "2")) 0 100_000
@@ -147,7 +147,7 @@ newly_resolved_legal = (refl, (refl, (refl, (refl, (refl, (refl, tt))))))
 not_newly_resolved_legal : IsLegal firing_only 7 (one_of_two ++ quiet 330_000 group_a 1 ∷ [])
 not_newly_resolved_legal = (refl, (refl, (refl, (refl, (refl, (refl, tt))))))
 
--- ---- a newly resolved alert where nothing fires isn't told, though resolved alerts are sent: the entry has nothing as firing
+-- ---- a newly resolved alert where nothing fires isn't reported, though resolved alerts are sent: the entry has nothing as firing
 
 abbrev one : AlertData
 one = fires (instance (codes "A") (codes "1")) 0
@@ -186,8 +186,8 @@ resolved_only_reason = refl
 never_fired : reason_in base group_a 30_000 (past_of (insert 0 (ended (named (codes "A")) 0 10_000) 1 1 1 ∷ [])) hook ≡ NothingFiring
 never_fired = refl
 
-never_fired_asks : asks NothingFiring ≡ false
-never_fired_asks = refl
+never_fired_notifies : notifies NothingFiring ≡ false
+never_fired_notifies = refl
 
 -- ---- nothing left: the alert is silenced, though the entry has it as firing
 
@@ -204,8 +204,8 @@ silenced = first_notice ++ insert 100_000 a_ended 2 1 0 ∷ silence 200_000 400_
 nothing_left : reason_in base group_a 330_000 (past_of silenced) hook ≡ NothingLeft
 nothing_left = refl
 
-nothing_left_asks : asks NothingLeft ≡ false
-nothing_left_asks = refl
+nothing_left_notifies : notifies NothingLeft ≡ false
+nothing_left_notifies = refl
 
 none_unmuted : unmuted_in base group_a 330_000 (past_of silenced) ≡ []
 none_unmuted = refl
@@ -263,14 +263,14 @@ inhibited =
 abbrev inhibited_no_more : List Record
 inhibited_no_more = inhibited ++ insert 40_000 source_ended 3 1 0 ∷ []
 
-abbrev target_told : List Record
-target_told =
+abbrev target_reported : List Record
+target_reported =
     inhibited_no_more
     ++ flush_hook 330_000 2 group_s 630_000 [] (source_ended ∷ [])
     ∷ flush_hook 330_000 3 group_t 630_000 (target ∷ []) []
     ∷ []
 
-inhibited_legal : IsLegal inhibiting 7 target_told
+inhibited_legal : IsLegal inhibiting 7 target_reported
 inhibited_legal = (refl, (refl, (refl, (refl, (refl, (refl, (refl, (refl, tt))))))))
 
 inhibited_reason : reason_in inhibiting group_t 30_000 (past_of both) hook ≡ NothingLeft
@@ -307,95 +307,95 @@ abbrev rows_firing : Option RowView → List (List Label)
 rows_firing None = []
 rows_firing (Some r) = r.firing
 
-abbrev rows_moment : Option RowView → ℕ
-rows_moment None = 0
-rows_moment (Some r) = r.moment
+abbrev rows_time : Option RowView → ℕ
+rows_time None = 0
+rows_time (Some r) = r.time
 
-first_is_so : IsSo FirstNotice base group_a 30_000 (past_of (insert 0 a 1 1 1 ∷ [])) hook
+first_is_so : ReasonApplies FirstNotice base group_a 30_000 (past_of (insert 0 a 1 1 1 ∷ [])) hook
 first_is_so = (refl, λ nil. false≢true (ap is_empty nil))
 
-not_first : IsSo FirstNotice base group_a 330_000 (past_of first_notice) hook → ⊥
+not_first : ReasonApplies FirstNotice base group_a 330_000 (past_of first_notice) hook → ⊥
 not_first so = false≢true (sym (ap is_some so.0))
 
-none_first : IsSo FirstNotice base group_a 30_000 (past_of (insert 0 (ended (named (codes "A")) 0 10_000) 1 1 1 ∷ [])) hook → ⊥
+none_first : ReasonApplies FirstNotice base group_a 30_000 (past_of (insert 0 (ended (named (codes "A")) 0 10_000) 1 1 1 ∷ [])) hook → ⊥
 none_first so = so.1 refl
 
-new_is_so : IsSo NewAlert base group_a 330_000 (past_of with_second) hook
+new_is_so : ReasonApplies NewAlert base group_a 330_000 (past_of with_second) hook
 new_is_so = (first_row, refl, (instance (codes "A") (codes "2"), refl, refl))
 
-not_new : IsSo NewAlert base group_a 330_000 (past_of first_notice) hook → ⊥
+not_new : ReasonApplies NewAlert base group_a 330_000 (past_of first_notice) hook → ⊥
 not_new (r, e, more) =
     let same : named (codes "A") ∷ [] ≡ r.firing = ap rows_firing e in
     false≢true (sym more.2 ∙ sym (ap (is_member same_label_set more.0) same) ∙ more.1)
 
-all_is_so : IsSo AllResolved base group_a 330_000 (past_of with_end) hook
+all_is_so : ReasonApplies AllResolved base group_a 330_000 (past_of with_end) hook
 all_is_so = (first_row, refl, refl, λ nil. false≢true (ap is_empty nil), λ nil. false≢true (ap is_empty nil))
 
 -- one still fires; the one that was resolved is silenced; the entry has nothing as firing
-not_all : IsSo AllResolved base group_a 330_000 (past_of one_of_two) hook → ⊥
+not_all : ReasonApplies AllResolved base group_a 330_000 (past_of one_of_two) hook → ⊥
 not_all (r, e, nil, left, fired) = false≢true (ap is_empty nil)
 
-none_left_to_tell : IsSo AllResolved base group_a 330_000 (past_of silenced) hook → ⊥
-none_left_to_tell (r, e, nil, left, fired) = left refl
+none_left_to_report : ReasonApplies AllResolved base group_a 330_000 (past_of silenced) hook → ⊥
+none_left_to_report (r, e, nil, left, fired) = left refl
 
-told_before : IsSo AllResolved base group_a 630_000 (past_of resolved_only) hook → ⊥
-told_before (r, e, nil, left, fired) = fired (sym (ap rows_firing e))
+reported_before : ReasonApplies AllResolved base group_a 630_000 (past_of resolved_only) hook → ⊥
+reported_before (r, e, nil, left, fired) = fired (sym (ap rows_firing e))
 
 abbrev row_of_two : RowView
 row_of_two = row group_a 0 30_000 28_830_000 (named (codes "A") ∷ instance (codes "A") (codes "2") ∷ []) []
 
-newly_is_so : IsSo NewlyResolved base group_a 330_000 (past_of one_of_two) hook
+newly_is_so : ReasonApplies NewlyResolved base group_a 330_000 (past_of one_of_two) hook
 newly_is_so = (row_of_two, refl, λ nil. false≢true (ap is_empty nil), refl, refl, (instance (codes "A") (codes "2"), refl, refl))
 
 -- resolved alerts aren't sent; nothing fires
-not_sent : IsSo NewlyResolved firing_only group_a 330_000 (past_of one_of_two) hook_firing_only → ⊥
+not_sent : ReasonApplies NewlyResolved firing_only group_a 330_000 (past_of one_of_two) hook_firing_only → ⊥
 not_sent (r, e, some, all, sent, more) = false≢true sent
 
-not_newly : IsSo NewlyResolved base group_a 630_000 (past_of resolved_only) hook → ⊥
+not_newly : ReasonApplies NewlyResolved base group_a 630_000 (past_of resolved_only) hook → ⊥
 not_newly (r, e, some, all, sent, more) = some refl
 
-repeat_is_so : IsSo Repeat base group_a 14_430_001 (past_of first_notice) hook
+repeat_is_so : ReasonApplies Repeat base group_a 14_430_001 (past_of first_notice) hook
 repeat_is_so = (first_row, refl, λ nil. false≢true (ap is_empty nil), refl, λ sent. refl, omega arith)
 
 -- at equality the entry isn't older; where nothing fires there is no repeat
-not_older : IsSo Repeat base group_a 14_430_000 (past_of first_notice) hook → ⊥
-not_older (r, e, some, all, told, over) = let at : 30_000 ≡ r.moment = ap rows_moment e in omega (arith, at, over)
+not_older : ReasonApplies Repeat base group_a 14_430_000 (past_of first_notice) hook → ⊥
+not_older (r, e, some, all, ended_listed, over) = let at : 30_000 ≡ r.time = ap rows_time e in omega (arith, at, over)
 
-never_repeated : IsSo Repeat base group_a 20_000_000 (past_of resolved_only) hook → ⊥
-never_repeated (r, e, some, all, told, over) = some refl
+never_repeated : ReasonApplies Repeat base group_a 20_000_000 (past_of resolved_only) hook → ⊥
+never_repeated (r, e, some, all, ended_listed, over) = some refl
 
 -- a new alert comes before the repeat
-new_not_repeated : IsSo Repeat base group_a 14_430_001 (past_of with_second) hook → ⊥
-new_not_repeated (r, e, some, all, told, over) =
+new_not_repeated : ReasonApplies Repeat base group_a 14_430_001 (past_of with_second) hook → ⊥
+new_not_repeated (r, e, some, all, ended_listed, over) =
     let both_labels = named (codes "A") ∷ instance (codes "A") (codes "2") ∷ [] in
     false≢true (ap (λ rows. is_subset same_label_set both_labels rows) (ap rows_firing e) ∙ all)
 
-left_is_so : IsSo NothingLeft base group_a 330_000 (past_of silenced) hook
+left_is_so : ReasonApplies NothingLeft base group_a 330_000 (past_of silenced) hook
 left_is_so = (refl, refl)
 
-one_is_left : IsSo NothingLeft base group_a 630_000 (past_of resolved_only) hook → ⊥
+one_is_left : ReasonApplies NothingLeft base group_a 630_000 (past_of resolved_only) hook → ⊥
 one_is_left so = false≢true (ap is_empty so.1)
 
-none_fires : IsSo NothingFiring base group_a 630_000 (past_of resolved_only) hook
+none_fires : ReasonApplies NothingFiring base group_a 630_000 (past_of resolved_only) hook
 none_fires = (refl, λ nil. false≢true (ap is_empty nil), λ r e. sym (ap rows_firing e))
 
-none_fired_ever : IsSo NothingFiring base group_a 30_000 (past_of (insert 0 (ended (named (codes "A")) 0 10_000) 1 1 1 ∷ [])) hook
+none_fired_ever : ReasonApplies NothingFiring base group_a 30_000 (past_of (insert 0 (ended (named (codes "A")) 0 10_000) 1 1 1 ∷ [])) hook
 none_fired_ever = (refl, λ nil. false≢true (ap is_empty nil), λ r e. sym (ap rows_firing e))
 
 -- the entry has one as firing; nothing is left
-one_was_firing : IsSo NothingFiring base group_a 330_000 (past_of with_end) hook → ⊥
+one_was_firing : ReasonApplies NothingFiring base group_a 330_000 (past_of with_end) hook → ⊥
 one_was_firing (nil, left, none) = false≢true (ap is_empty (none first_row refl))
 
-not_even_resolved : IsSo NothingFiring base group_a 330_000 (past_of silenced) hook → ⊥
+not_even_resolved : ReasonApplies NothingFiring base group_a 330_000 (past_of silenced) hook → ⊥
 not_even_resolved (nil, left, none) = left refl
 
-not_yet_is_so : IsSo (NotYet 14_430_001) base group_a 330_000 (past_of first_notice) hook
+not_yet_is_so : ReasonApplies (NotYet 14_430_001) base group_a 330_000 (past_of first_notice) hook
 not_yet_is_so = (first_row, refl, λ nil. false≢true (ap is_empty nil), refl, λ sent. refl, refl, omega arith)
 
--- from no other moment, and not at that moment any more
-from_no_other : IsSo (NotYet 14_430_000) base group_a 330_000 (past_of first_notice) hook → ⊥
-from_no_other (r, e, some, all, told, from, before) =
-    let at : 30_000 ≡ r.moment = ap rows_moment e in omega (arith, at, from)
+-- from no other time, and not at that time any more
+from_no_other : ReasonApplies (NotYet 14_430_000) base group_a 330_000 (past_of first_notice) hook → ⊥
+from_no_other (r, e, some, all, ended_listed, from, before) =
+    let at : 30_000 ≡ r.time = ap rows_time e in omega (arith, at, from)
 
-no_more : IsSo (NotYet 14_430_001) base group_a 14_430_001 (past_of first_notice) hook → ⊥
-no_more (r, e, some, all, told, from, before) = omega (arith, before)
+no_more : ReasonApplies (NotYet 14_430_001) base group_a 14_430_001 (past_of first_notice) hook → ⊥
+no_more (r, e, some, all, ended_listed, from, before) = omega (arith, before)

@@ -7,7 +7,7 @@ use Rattle.am_retry.specs.declared.outcome.Outcome.{Outcome}
 use Rattle.am_retry.specs.declared.outcome.Outcome.TheVariants.{Delivered, Refused}
 use Rattle.am_model.specs.declared.config.Config.{Config}
 use Rattle.am_model.specs.declared.fault.Fault.{Fault}
-use Rattle.am_model.specs.declared.fault.Fault.TheVariants.{TooManyNames, TooManyGroups, TooManySilences, TooManyOpen, HistoryFull}
+use Rattle.am_model.specs.declared.fault.Fault.TheVariants.{TooManyAlerts, TooManyGroups, TooManySilences, TooManyOpen, HistoryFull}
 use Rattle.am_model.specs.declared.fault.NoteFault.{NoteFault}
 use Rattle.am_model.specs.declared.fault.NoteFault.TheVariants as note
 use Rattle.am_model.specs.declared.record.Record.{Record}
@@ -22,19 +22,19 @@ use Rattle.am_model.proofs.examples.Base.{base, with_children, critical, named, 
 abbrev limited : Config → ℕ → ℕ → ℕ → ℕ → ℕ → Config
 limited config names groups silences flushes history =
     record config {
-      limits = record { names = names; groups = groups; silences = silences; flushes = flushes; history = history };
+      limits = record { alerts = names; groups = groups; silences = silences; flushes = flushes; history = history };
     }
 
 abbrev alert : List ℕ → ℕ → AlertData
 alert name starts = fires (named name) starts
 
 -- why an insert into a board with this history is refused
-abbrev why_insert : Config → List Record → AlertData → Option Fault
-why_insert config history x = insert_cause config (length history) (replay config history) x
+abbrev cause_of_insert : Config → List Record → AlertData → Option Fault
+cause_of_insert config history x = insert_cause config (length history) (replay config history) x
 
 -- why a begin at t is refused
-abbrev why_begin : Config → List Record → ℕ → Option Fault
-why_begin config history t = begin_cause config (length history) (replay config history) t
+abbrev cause_of_begin : Config → List Record → ℕ → Option Fault
+cause_of_begin config history t = begin_cause config (length history) (replay config history) t
 
 -- history of five records
 abbrev five : Config
@@ -47,16 +47,16 @@ three_records =
     ∷ insert 30_000 (alert (codes "B") 30_000) 2 1 1
     ∷ []
 
-fourth_begin : why_begin five three_records 60_000 ≡ Some HistoryFull
+fourth_begin : cause_of_begin five three_records 60_000 ≡ Some HistoryFull
 fourth_begin = refl
 
-fourth_insert : why_insert five three_records (alert (codes "C") 60_000) ≡ None
+fourth_insert : cause_of_insert five three_records (alert (codes "C") 60_000) ≡ None
 fourth_insert = refl
 
 abbrev four_records : List Record
 four_records = three_records ++ insert 60_000 (alert (codes "C") 60_000) 3 1 1 ∷ []
 
-fifth_insert : why_insert five four_records (alert (codes "D") 60_000) ≡ Some HistoryFull
+fifth_insert : cause_of_insert five four_records (alert (codes "D") 60_000) ≡ Some HistoryFull
 fifth_insert = refl
 
 fifth_maintenance : maintain_cause five 4 (replay five four_records) ≡ Some HistoryFull
@@ -68,7 +68,7 @@ five_records = four_records ++ finish 60_000 1 [] 0 0 ∷ []
 five_legal : IsLegal five 7 five_records
 five_legal = (refl, (refl, (refl, (refl, (refl, tt)))))
 
-sixth_insert : why_insert five five_records (alert (codes "E") 60_000) ≡ Some HistoryFull
+sixth_insert : cause_of_insert five five_records (alert (codes "E") 60_000) ≡ Some HistoryFull
 sixth_insert = refl
 
 -- one name and one group
@@ -78,14 +78,14 @@ one_of_each = limited base 1 1 1 1 1_048_576
 abbrev one_insert : List Record
 one_insert = insert 0 a 1 1 1 ∷ []
 
-same_name_again : why_insert one_of_each one_insert a ≡ None
+same_name_again : cause_of_insert one_of_each one_insert a ≡ None
 same_name_again = refl
 
-other_name : why_insert one_of_each one_insert (alert (codes "B") 0) ≡ Some TooManyNames
+other_name : cause_of_insert one_of_each one_insert (alert (codes "B") 0) ≡ Some TooManyAlerts
 other_name = refl
 
 -- two routes with room for one group
-two_groups : why_insert (limited with_children 65_536 1 1_024 64 1_048_576) [] critical ≡ Some TooManyGroups
+two_groups : cause_of_insert (limited with_children 65_536 1 1_024 64 1_048_576) [] critical ≡ Some TooManyGroups
 two_groups = refl
 
 -- one silence
@@ -105,10 +105,10 @@ same_silence_again = refl
 abbrev one_flush : Config
 one_flush = limited base 65_536 4_096 1_024 1 1_048_576
 
-second_flush : why_begin one_flush (insert 0 a 1 1 1 ∷ insert 0 (alert (codes "B") 0) 2 1 1 ∷ flush_hook 30_000 1 group_a 330_000 (a ∷ []) [] ∷ []) 30_000 ≡ Some TooManyOpen
+second_flush : cause_of_begin one_flush (insert 0 a 1 1 1 ∷ insert 0 (alert (codes "B") 0) 2 1 1 ∷ flush_hook 30_000 1 group_a 330_000 (a ∷ []) [] ∷ []) 30_000 ≡ Some TooManyOpen
 second_flush = refl
 
-nothing_due_is_no_flush : why_begin one_flush (insert 0 a 1 1 1 ∷ flush_hook 30_000 1 group_a 330_000 (a ∷ []) [] ∷ []) 330_000 ≡ None
+nothing_due_is_no_flush : cause_of_begin one_flush (insert 0 a 1 1 1 ∷ flush_hook 30_000 1 group_a 330_000 (a ∷ []) [] ∷ []) 330_000 ≡ None
 nothing_due_is_no_flush = refl
 
 -- notes
@@ -116,9 +116,9 @@ abbrev flushed : List Record
 flushed = insert 0 a 1 1 1 ∷ flush_hook 30_000 1 group_a 330_000 (a ∷ []) [] ∷ []
 
 abbrev ticket : ℕ → List (ℕ × Outcome) → TicketData
-ticket desk outcomes =
+ticket board_id outcomes =
     record {
-      desk = desk;
+      board_id = board_id;
       number = 1;
       group = group_a;
       deadline = 330_000;
@@ -127,26 +127,26 @@ ticket desk outcomes =
     }
 
 -- why a note on a board with this history is refused
-abbrev why_note : List Record → TicketData → ℕ → Option NoteFault
-why_note history t place = note_cause base 7 (length history) (replay base history) t place
+abbrev cause_of_note : List Record → TicketData → ℕ → Option NoteFault
+cause_of_note history t index = note_cause base 7 (length history) (replay base history) t index
 
-before_a_report : why_note flushed (ticket 7 []) 0 ≡ Some note.NotReady
+before_a_report : cause_of_note flushed (ticket 7 []) 0 ≡ Some note.NotReady
 before_a_report = refl
 
-not_delivered : why_note flushed (ticket 7 ((0, Refused) ∷ [])) 0 ≡ Some note.NotReady
+not_delivered : cause_of_note flushed (ticket 7 ((0, Refused) ∷ [])) 0 ≡ Some note.NotReady
 not_delivered = refl
 
-no_such_place : why_note flushed (ticket 7 ((0, Delivered) ∷ [])) 1 ≡ Some note.NotReady
-no_such_place = refl
+no_such_index : cause_of_note flushed (ticket 7 ((0, Delivered) ∷ [])) 1 ≡ Some note.NotReady
+no_such_index = refl
 
-delivered : why_note flushed (ticket 7 ((0, Delivered) ∷ [])) 0 ≡ None
+delivered : cause_of_note flushed (ticket 7 ((0, Delivered) ∷ [])) 0 ≡ None
 delivered = refl
 
-already : why_note (flushed ++ entry 0 (Note 31_000 1 0 (Some Delivered)) Noted ∷ []) (ticket 7 ((0, Delivered) ∷ [])) 0 ≡ Some note.Already
+already : cause_of_note (flushed ++ entry 0 (Note 31_000 1 0 (Some Delivered)) Noted ∷ []) (ticket 7 ((0, Delivered) ∷ [])) 0 ≡ Some note.Already
 already = refl
 
-other_desk : why_note flushed (ticket 8 ((0, Delivered) ∷ [])) 0 ≡ Some note.Foreign
-other_desk = refl
+other_board : cause_of_note flushed (ticket 8 ((0, Delivered) ∷ [])) 0 ≡ Some note.Foreign
+other_board = refl
 
-not_open : why_note one_insert (ticket 7 ((0, Delivered) ∷ [])) 0 ≡ Some note.NotOpen
+not_open : cause_of_note one_insert (ticket 7 ((0, Delivered) ∷ [])) 0 ≡ Some note.NotOpen
 not_open = refl

@@ -18,7 +18,7 @@ abbrev matcher : List ℕ → Operator → List ℕ → MatcherParts
 matcher name op value = record { name = name; op = op; value = value }
 
 abbrev route : List MatcherParts → TreeRoute
-route matchers = plain (record { route = route_named (codes "r"); matchers = matchers; goes_on = false })
+route matchers = plain (record { route = route_named (codes "r"); matchers = matchers; continues = false })
 
 abbrev tested : RoutingTree
 tested =
@@ -55,20 +55,20 @@ twice = refl
 
 -- ---- rows
 
--- what a route told of an alert for the children `db` and `crit`
-abbrev told_by : ℕ → RowView
-told_by at = row (record { route = at; labels = named (codes "A") }) 0 30_000 28_830_000 (critical.labels ∷ []) []
+-- what a route reported of an alert for the children `db` and `crit`
+abbrev sent_by : ℕ → RowView
+sent_by at = row (record { route = at; labels = named (codes "A") }) 0 30_000 28_830_000 (critical.labels ∷ []) []
 
 -- children are put in: the root's row stays the root's, although the alert goes to the children
-root_stays : rekeyed (record { old = base; new = with_children }) (told_by 0) ≡ told_by 0 ∷ []
+root_stays : rekeyed (record { old = base; new = with_children }) (sent_by 0) ≡ sent_by 0 ∷ []
 root_stays = refl
 
 -- they are taken out: their rows go nowhere
-nowhere : rekeyed (record { old = with_children; new = base }) (told_by 2) ≡ []
+nowhere : rekeyed (record { old = with_children; new = base }) (sent_by 2) ≡ []
 nowhere = refl
 
 -- `db` and `db2` have one key, so each finds the row of the other too
-twins : rekeyed (record { old = with_children; new = with_children }) (told_by 3) ≡ told_by 1 ∷ told_by 3 ∷ []
+twins : rekeyed (record { old = with_children; new = with_children }) (sent_by 3) ≡ sent_by 1 ∷ sent_by 3 ∷ []
 twins = refl
 
 -- one child alone, and another before it; its matcher's value changes
@@ -78,21 +78,21 @@ crit_alone = configured (child (codes "crit") (codes "severity") (codes "critica
 abbrev pages : Config
 pages = configured (child (codes "crit") (codes "severity") (codes "page") false ∷ []) (integration (codes "hook") true ∷ []) 432_000_000
 
-moves : rekeyed (record { old = crit_alone; new = with_children }) (told_by 1) ≡ told_by 2 ∷ []
+moves : rekeyed (record { old = crit_alone; new = with_children }) (sent_by 1) ≡ sent_by 2 ∷ []
 moves = refl
 
-changed : rekeyed (record { old = crit_alone; new = pages }) (told_by 1) ≡ []
+changed : rekeyed (record { old = crit_alone; new = pages }) (sent_by 1) ≡ []
 changed = refl
 
--- `mail/0` and `hook/1`: integrations go by kind and place
+-- `mail/0` and `hook/1`: integrations go by kind and index
 abbrev swapped : Config
 swapped = configured [] (integration (codes "mail") true ∷ integration (codes "hook") false ∷ []) 432_000_000
 
-abbrev told : ℕ → RowView
-told i = row group_a i 30_000 28_830_000 (named (codes "A") ∷ []) []
+abbrev sent_row : ℕ → RowView
+sent_row i = row group_a i 30_000 28_830_000 (named (codes "A") ∷ []) []
 
-hook_moves : rekeyed (record { old = with_mail; new = swapped }) (told 0) ≡ told 1 ∷ []
+hook_moves : rekeyed (record { old = with_mail; new = swapped }) (sent_row 0) ≡ sent_row 1 ∷ []
 hook_moves = refl
 
-mail_goes : rekeyed (record { old = with_mail; new = base }) (told 1) ≡ []
+mail_goes : rekeyed (record { old = with_mail; new = base }) (sent_row 1) ≡ []
 mail_goes = refl

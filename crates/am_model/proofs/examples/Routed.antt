@@ -25,7 +25,7 @@ b = fires (named (codes "B")) 0
 by_name_legal : IsLegal base 7 (insert 0 b 1 1 1 ∷ insert 0 a 2 1 1 ∷ flush_hook 30_000 1 group_a 330_000 (a ∷ []) [] ∷ flush_hook 30_000 2 (group (codes "B")) 330_000 (b ∷ []) [] ∷ [])
 by_name_legal = (refl, (refl, (refl, (refl, tt))))
 
--- and by due moment before that
+-- and by due time before that
 by_due_legal : IsLegal base 7 (insert 0 b 1 1 1 ∷ insert 1 (fires (named (codes "A")) 1) 2 1 1 ∷ flush_hook 40_000 1 (group (codes "B")) 340_000 (b ∷ []) [] ∷ flush_hook 40_000 2 group_a 340_000 (fires (named (codes "A")) 1 ∷ []) [] ∷ [])
 by_due_legal = (refl, (refl, (refl, (refl, tt))))
 

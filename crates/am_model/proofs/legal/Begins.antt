@@ -9,7 +9,7 @@ use Rattle.std.proofs.lemmas.List.Elements.{All-from_recursion}
 use Rattle.am_nflog.specs.Members.{is_empty}
 use Rattle.am_retry.specs.declared.outcome.Outcome.{Outcome}
 use Rattle.am_model.proofs.lists.Words.{all-upsert, IsDistinct-upsert}
-use Rattle.am_model.specs.Begin.{taken, may_begin, due_cmp, asked_of, begun_group, without_resolved, after_asking, after_taking, reply_asking, reply_taking, begun}
+use Rattle.am_model.specs.Begin.{taken, may_begin, due_cmp, notified_of, begun_group, without_resolved, after_notifying, after_taking, reply_notifying, reply_taking, begun}
 use Rattle.am_model.specs.Finish.{after_finish_of, finished_group, finished}
 use Rattle.am_model.specs.Forget.{forgotten}
 use Rattle.am_model.specs.Insert.{same_group, new_group, group_or_new, group_with, put_into_group, names_for, wait_of, inserted, next_stamp}
@@ -18,8 +18,8 @@ use Rattle.am_model.specs.Lists.{upsert, without, changed_where}
 use Rattle.am_model.specs.Load.{may_load, loaded, load_reply, after_load}
 use Rattle.am_model.specs.Note.{may_note, after_note_of, after_note, noted}
 use Rattle.am_model.specs.Replay.{reply, after, after_call, replay_from, replay, IsLegalFrom, IsLegal}
-use Rattle.am_model.specs.State.{MemberState, GroupState, FlushState, State, opening_state, at_moment, moment, same_name, is_named, has_group, members_in, flush_numbered}
-use Rattle.am_model.specs.Upkeep.{is_deserted, silenced, maintained}
+use Rattle.am_model.specs.State.{MemberState, GroupState, FlushState, State, opening_state, at_time, time, same_name, is_named, has_group, members_in, flush_numbered}
+use Rattle.am_model.specs.Maintenance.{has_no_alerts, silenced, maintained}
 use Rattle.am_mute.specs.Silence.{silence_of}
 use Rattle.am_model.specs.declared.config.Config.{Config}
 use Rattle.am_model.specs.declared.config.Integration.{Integration}
@@ -30,7 +30,7 @@ use Rattle.am_model.specs.declared.record.Record.{Record}
 use Rattle.am_model.specs.declared.record.Reply.{Reply}
 use Rattle.am_model.specs.declared.record.Reply.TheVariants as reply_is
 use Rattle.am_model.specs.declared.views.RowView.{RowView}
-use Rattle.am_model.proofs.lists.Distinct.{IsDistinct-nil, IsDistinct-told, IsDistinct-filter, all-weaker, all-kept, all-filter, all-found, all-lesser, all-both, all-map}
+use Rattle.am_model.proofs.lists.Distinct.{IsDistinct-nil, IsDistinct-mapped, IsDistinct-filter, all-weaker, all-kept, all-filter, all-found, all-lesser, all-both, all-map}
 use Rattle.am_model.proofs.lists.Sets.{any-find}
 use Rattle.am_model.proofs.states.Alike.{same_group_equiv, same_name_equiv}
 use Rattle.am_model.proofs.legal.EachCall.{inside}
@@ -70,7 +70,7 @@ module _ (test : GroupState → Bool) (change : GroupState → GroupState) (kept
   there-changed name (g ∷ groups) = λ i. same_name name (name-changed g i) || there-changed name groups i
 
   apart-changed : (groups : List GroupState) → IsDistinct same_group groups → IsDistinct same_group (changed_where test change groups)
-  apart-changed = IsDistinct-told same_group same_group (λ g. if test g then change g else g) (λ g h i. same_name (name-changed g i) (name-changed h i))
+  apart-changed = IsDistinct-mapped same_group same_group (λ g. if test g then change g else g) (λ g h i. same_name (name-changed g i) (name-changed h i))
 
 -- ---- what each call keeps
 
@@ -80,7 +80,7 @@ IsIn groups name None = Unit {0}
 IsIn groups name (Some t) = has_group groups name ≡ true
 
 -- the groups are due as their last begins say, those that were begun are there, and no two have one name
-pub record Keeps (config : Config) (groups : List GroupState) (last : GroupName → Option ℕ) : Type 0 where
+pub record RespectsIntervals (config : Config) (groups : List GroupState) (last : GroupName → Option ℕ) : Type 0 where
   pub due : AllByRecursion (λ g. IsBegunAt config g (last g.name)) groups
   pub there : (name : GroupName) → IsIn groups name (last name)
   pub apart : IsDistinct same_group groups
@@ -120,7 +120,7 @@ due-group_with config t m g (Some u) h =
     (h.0, ap (λ b. if not b && nat_lt (m.alert.starts + wait_of config g.name) t then min g.due t else g.due) h.0 ∙ h.1)
 
 module _ (config : Config) (last : GroupName → Option ℕ) where
-  keeps-put : (t : ℕ) (m : MemberState) (groups : List GroupState) (name : GroupName) → Keeps config groups last → Keeps config (put_into_group config t m groups name) last
+  keeps-put : (t : ℕ) (m : MemberState) (groups : List GroupState) (name : GroupName) → RespectsIntervals config groups last → RespectsIntervals config (put_into_group config t m groups name) last
   keeps-put t m groups name k =
       let found : IsBegunAt config (group_or_new config t groups name) (last (group_or_new config t groups name).name) =
       elim (find (is_named name) groups) as (λ o. has_group groups name ≡ is_some o → IfSome o (λ g. IsBegunAt config g (last g.name)) → IsBegunAt config (unwrap_or o (new_group config t name)) (last (unwrap_or o (new_group config t name)).name)) [
@@ -135,13 +135,13 @@ module _ (config : Config) (last : GroupName → Option ℕ) where
         apart = IsDistinct-upsert same_group same_group_equiv new groups k.apart;
       }
 
-  keeps-put_all : (t : ℕ) (m : MemberState) (names : List GroupName) (groups : List GroupState) → Keeps config groups last → Keeps config (fold (put_into_group config t m) groups names) last
+  keeps-put_all : (t : ℕ) (m : MemberState) (names : List GroupName) (groups : List GroupState) → RespectsIntervals config groups last → RespectsIntervals config (fold (put_into_group config t m) groups names) last
   keeps-put_all t m [] groups k = k
   keeps-put_all t m (name ∷ names) groups k = keeps-put_all t m names (put_into_group config t m groups name) (keeps-put t m groups name k)
 
   -- the alerts of some groups change
   keeps-members : (test : GroupState → Bool) (change : GroupState → GroupState) (groups : List GroupState) → ((g : GroupState) → (change g).name ≡ g.name) → ((g : GroupState) (o : Option ℕ) → IsBegunAt config g o → IsBegunAt config (change g) o)
-      → Keeps config groups last → Keeps config (changed_where test change groups) last
+      → RespectsIntervals config groups last → RespectsIntervals config (changed_where test change groups) last
   keeps-members test change groups named kept k =
       record {
         due = all-map (λ g. if test g then change g else g) (λ g. IsBegunAt config g (last g.name)) groups
@@ -156,7 +156,7 @@ module _ (config : Config) (last : GroupName → Option ℕ) where
 
   -- a group is begun at t: it is flushed, and due an interval later
   keeps-begin : (t : ℕ) (name : GroupName) (change : GroupState → GroupState) (groups : List GroupState) → has_group groups name ≡ true → ((g : GroupState) → (change g).name ≡ g.name) → ((g : GroupState) → IsBegunAt config (change g) (Some t))
-      → Keeps config groups last → Keeps config (changed_where (is_named name) change groups) (λ n. if same_name n name then Some t else last n)
+      → RespectsIntervals config groups last → RespectsIntervals config (changed_where (is_named name) change groups) (λ n. if same_name n name then Some t else last n)
   keeps-begin t name change groups here named begun k =
       let now : GroupName → Option ℕ = λ n. if same_name n name then Some t else last n in
       record {
@@ -192,38 +192,38 @@ own_members (g ∷ groups) h = (
 )
 
 -- a group with alerts stays
-kept_there : (name : GroupName) (groups : List GroupState) → is_empty (members_in groups name) ≡ false → has_group (without is_deserted groups) name ≡ true
+kept_there : (name : GroupName) (groups : List GroupState) → is_empty (members_in groups name) ≡ false → has_group (without has_no_alerts groups) name ≡ true
 kept_there name [] h = absurd (false≢true (sym h))
 kept_there name (g ∷ groups) h =
-    elim (same_name name g.name) as (λ b. same_name name g.name ≡ b → is_empty (unwrap_or (option_map (λ x. x.members) (cond b (Some g) (find (is_named name) groups))) []) ≡ false → has_group (without is_deserted (g ∷ groups)) name ≡ true) [
+    elim (same_name name g.name) as (λ b. same_name name g.name ≡ b → is_empty (unwrap_or (option_map (λ x. x.members) (cond b (Some g) (find (is_named name) groups))) []) ≡ false → has_group (without has_no_alerts (g ∷ groups)) name ≡ true) [
       | true ↦ λ e alive.
-          ap (λ b. has_group (cond (not b) (g ∷ without is_deserted groups) (without is_deserted groups)) name) alive ∙ or_left (same_name name g.name) (has_group (without is_deserted groups) name) e
+          ap (λ b. has_group (cond (not b) (g ∷ without has_no_alerts groups) (without has_no_alerts groups)) name) alive ∙ or_left (same_name name g.name) (has_group (without has_no_alerts groups) name) e
       | false ↦ λ e alive.
           let rest = kept_there name groups alive in
-          elim (is_deserted g) as (λ b. has_group (cond (not b) (g ∷ without is_deserted groups) (without is_deserted groups)) name ≡ true) [
+          elim (has_no_alerts g) as (λ b. has_group (cond (not b) (g ∷ without has_no_alerts groups) (without has_no_alerts groups)) name ≡ true) [
             | true ↦ rest
-            | false ↦ or_right (same_name name g.name) (has_group (without is_deserted groups) name) rest
+            | false ↦ or_right (same_name name g.name) (has_group (without has_no_alerts groups) name) rest
           ]
     ] refl h
 
 module _ (config : Config) (last : GroupName → Option ℕ) where
-  keeps-maintain : (groups : List GroupState) → Keeps config groups last → Keeps config (without is_deserted groups) (λ n. if is_empty (members_in groups n) then None else last n)
+  keeps-maintain : (groups : List GroupState) → RespectsIntervals config groups last → RespectsIntervals config (without has_no_alerts groups) (λ n. if is_empty (members_in groups n) then None else last n)
   keeps-maintain groups k =
       let now : GroupName → Option ℕ = λ n. if is_empty (members_in groups n) then None else last n in
       record {
-        due = all-kept (λ g. IsBegunAt config g (last g.name) × (members_in groups g.name ≡ g.members)) (λ g. IsBegunAt config g (now g.name)) (λ g. not (is_deserted g))
+        due = all-kept (λ g. IsBegunAt config g (last g.name) × (members_in groups g.name ≡ g.members)) (λ g. IsBegunAt config g (now g.name)) (λ g. not (has_no_alerts g))
             (λ g h alive. subst (λ b. IsBegunAt config g (if b then None else last g.name)) (sym (ap is_empty h.1 ∙ alive_is g alive)) h.0)
             groups (all-both (λ g. IsBegunAt config g (last g.name)) (λ g. members_in groups g.name ≡ g.members) (λ g. IsBegunAt config g (last g.name) × (members_in groups g.name ≡ g.members)) (λ g p q. (p, q)) groups k.due (own_members groups k.apart));
         there = λ n.
-            elim (is_empty (members_in groups n)) as (λ b. is_empty (members_in groups n) ≡ b → IsIn (without is_deserted groups) n (if b then None else last n)) [
-              | true ↦ λ _. none_in (without is_deserted groups) n
-              | false ↦ λ e. still_in n groups (without is_deserted groups) (λ _. kept_there n groups e) (last n) (k.there n)
+            elim (is_empty (members_in groups n)) as (λ b. is_empty (members_in groups n) ≡ b → IsIn (without has_no_alerts groups) n (if b then None else last n)) [
+              | true ↦ λ _. none_in (without has_no_alerts groups) n
+              | false ↦ λ e. still_in n groups (without has_no_alerts groups) (λ _. kept_there n groups e) (last n) (k.there n)
             ] refl;
-        apart = IsDistinct-filter same_group (λ g. not (is_deserted g)) groups k.apart;
+        apart = IsDistinct-filter same_group (λ g. not (has_no_alerts g)) groups k.apart;
       }
     where
-      alive_is : (g : GroupState) → not (is_deserted g) ≡ true → is_empty g.members ≡ false
-      alive_is g h = by (is_deserted g) h
+      alive_is : (g : GroupState) → not (has_no_alerts g) ≡ true → is_empty g.members ≡ false
+      alive_is g h = by (has_no_alerts g) h
         where
           by : (b : Bool) → not b ≡ true → b ≡ false
           by true e = absurd (false≢true e)
@@ -238,18 +238,18 @@ due-finished : (config : Config) (outcomes : List (ℕ × Outcome)) (f : FlushSt
 due-finished config outcomes f g None h = h
 due-finished config outcomes f g (Some t) h = h
 
-module _ (config : Config) (id : ℕ) (s : State) (last : GroupName → Option ℕ) (k : Keeps config s.groups last) where
-  -- what is kept after a call that leads to a state and was told a reply
+module _ (config : Config) (id : ℕ) (s : State) (last : GroupName → Option ℕ) (k : RespectsIntervals config s.groups last) where
+  -- what is kept after a call that leads to a state and returned a reply
   abbrev After : State → Reply → Type 0
-  After new p = Keeps config new.groups (λ n. last_begin_after n s new.clock (last n) p)
+  After new p = RespectsIntervals config new.groups (λ n. last_begin_after n s new.clock (last n) p)
 
-  keeps-asking : (t : ℕ) (g : GroupState) → has_group s.groups g.name ≡ true → (asked : List (ℕ × Integration)) → After (after_asking config s t g asked) (reply_asking config id s t g asked)
-  keeps-asking t g here [] = keeps-begin config last t g.name (λ h. without_resolved t (begun_group config t h)) s.groups here (λ h. refl) (λ h. (refl, refl)) k
-  keeps-asking t g here (i ∷ is) = keeps-begin config last t g.name (begun_group config t) s.groups here (λ h. refl) (λ h. (refl, refl)) k
+  keeps-notifying : (t : ℕ) (g : GroupState) → has_group s.groups g.name ≡ true → (notified : List (ℕ × Integration)) → After (after_notifying config s t g notified) (reply_notifying config id s t g notified)
+  keeps-notifying t g here [] = keeps-begin config last t g.name (λ h. without_resolved t (begun_group config t h)) s.groups here (λ h. refl) (λ h. (refl, refl)) k
+  keeps-notifying t g here (i ∷ is) = keeps-begin config last t g.name (begun_group config t) s.groups here (λ h. refl) (λ h. (refl, refl)) k
 
   keeps-taking : (t : ℕ) (o : Option GroupState) → IfSome o (λ g. has_group s.groups g.name ≡ true) → After (after_taking config s t o) (reply_taking config id s t o)
   keeps-taking t None here = k
-  keeps-taking t (Some g) here = keeps-asking t g here (asked_of config s t g)
+  keeps-taking t (Some g) here = keeps-notifying t g here (notified_of config s t g)
 
   keeps-finish : (t : ℕ) (outcomes : List (ℕ × Outcome)) (o : Option FlushState) (p : Reply) → option_map (λ f. reply_is.Finished (finished s outcomes f)) o ≡ Some p → After (after_finish_of config s t outcomes o) p
   keeps-finish t outcomes None p e = absurd (cc)
@@ -260,43 +260,43 @@ module _ (config : Config) (id : ℕ) (s : State) (last : GroupName → Option �
   keeps-note : (t integration : ℕ) (outcome : Option Outcome) (o : Option FlushState) (p : Reply) → noted integration outcome o ≡ Some p → After (after_note_of config s t integration outcome o) p
   keeps-note t integration outcome None p e = absurd (cc)
   keeps-note t integration outcome (Some f) p e =
-      elim (may_note integration outcome f) as (λ b. (if b then Some reply_is.Noted else None) ≡ Some p → After (if b then after_note config s t integration f else at_moment s t) p) [
-        | true ↦ λ told. subst (After (after_note config s t integration f)) (inside reply_is.Noted p told) k
-        | false ↦ λ told. absurd (cc)
+      elim (may_note integration outcome f) as (λ b. (if b then Some reply_is.Noted else None) ≡ Some p → After (if b then after_note config s t integration f else at_time s t) p) [
+        | true ↦ λ returned. subst (After (after_note config s t integration f)) (inside reply_is.Noted p returned) k
+        | false ↦ λ returned. absurd (cc)
       ] e
 
   keeps-load : (t : ℕ) (row : RowView) (p : Reply) → load_reply config s t row ≡ Some p → After (after_load config s t row) p
   keeps-load t row p e =
       elim (may_load config t row) as (λ b. (if b then Some (reply_is.Loaded (loaded s.rows t row)) else None) ≡ Some p → After (after_load config s t row) p) [
-        | true ↦ λ told. subst (After (after_load config s t row)) (inside (reply_is.Loaded (loaded s.rows t row)) p told) k
-        | false ↦ λ told. absurd (cc)
+        | true ↦ λ returned. subst (After (after_load config s t row)) (inside (reply_is.Loaded (loaded s.rows t row)) p returned) k
+        | false ↦ λ returned. absurd (cc)
       ] e
 
   pub keeps-call : (c : Call) (p : Reply) → reply config id s c ≡ Some p → After (after_call config s c) p
   keeps-call (Insert now alert) p e =
       subst (After (after_call config s (Insert now alert))) (inside (reply_is.Inserted (inserted config s alert)) p e)
-      (keeps-put_all config last (moment s now) (record { alert = alert; stamp = next_stamp s }) (names_for config alert.labels) s.groups k)
+      (keeps-put_all config last (time s now) (record { alert = alert; stamp = next_stamp s }) (names_for config alert.labels) s.groups k)
   keeps-call (Silence now number matchers start end) p e =
       subst (After (after_call config s (Silence now number matchers start end))) (inside (reply_is.Silenced (silenced s (silence_of number matchers start end))) p e) k
   keeps-call (Begin now) p e =
-      subst (After (after_call config s (Begin now))) (inside (begun config id s (moment s now)) p e) (keeps-taking (moment s now) (taken s (moment s now)) (taken_there s (moment s now)))
-  keeps-call (Finish now number outcomes) p e = keeps-finish (moment s now) outcomes (flush_numbered s.flushes number) p e
+      subst (After (after_call config s (Begin now))) (inside (begun config id s (time s now)) p e) (keeps-taking (time s now) (taken s (time s now)) (taken_there s (time s now)))
+  keeps-call (Finish now number outcomes) p e = keeps-finish (time s now) outcomes (flush_numbered s.flushes number) p e
   keeps-call (Maintain now) p e =
-      subst (After (after_call config s (Maintain now))) (inside (reply_is.Maintained (maintained s (moment s now))) p e) (keeps-maintain config last s.groups k)
+      subst (After (after_call config s (Maintain now))) (inside (reply_is.Maintained (maintained s (time s now))) p e) (keeps-maintain config last s.groups k)
   keeps-call (Forget now) p e =
-      subst (After (after_call config s (Forget now))) (inside (reply_is.Forgotten (forgotten s (moment s now))) p e) k
-  keeps-call (Load now row) p e = keeps-load (moment s now) row p e
-  keeps-call (Note now number integration outcome) p e = keeps-note (moment s now) integration outcome (flush_numbered s.flushes number) p e
+      subst (After (after_call config s (Forget now))) (inside (reply_is.Forgotten (forgotten s (time s now))) p e) k
+  keeps-call (Load now row) p e = keeps-load (time s now) row p e
+  keeps-call (Note now number integration outcome) p e = keeps-note (time s now) integration outcome (flush_numbered s.flushes number) p e
 
 -- ---- each legal history
 
-keeps_from : (config : Config) (id : ℕ) (history : List Record) (s : State) (last : GroupName → Option ℕ) → IsLegalFrom config id s history → Keeps config s.groups last
-    → Keeps config (replay_from config s history).groups (λ n. last_begin_from config n s (last n) history)
+keeps_from : (config : Config) (id : ℕ) (history : List Record) (s : State) (last : GroupName → Option ℕ) → IsLegalFrom config id s history → RespectsIntervals config s.groups last
+    → RespectsIntervals config (replay_from config s history).groups (λ n. last_begin_from config n s (last n) history)
 keeps_from config id [] s last legal k = k
 keeps_from config id (r ∷ history) s last legal k =
     keeps_from config id history (after config s r) (λ n. last_begin_after n s (after config s r).clock (last n) r.reply) legal.1 (keeps-call config id s last k r.call r.reply legal.0)
 
-pub opening_keeps : (config : Config) → Keeps config [] (λ n. None)
+pub opening_keeps : (config : Config) → RespectsIntervals config [] (λ n. None)
 opening_keeps config = record { due = tt; there = λ n. none_in [] n; apart = IsDistinct-nil same_group }
 
 is_there : (s : State) (name : GroupName) (o : Option ℕ) → IsIn s.groups name o → IsThere s name o

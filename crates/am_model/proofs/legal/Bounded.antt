@@ -10,14 +10,14 @@ use Rattle.am_model.specs.declared.config.Integration.{Integration}
 use Rattle.am_model.specs.declared.record.Call.{Call}
 use Rattle.am_model.specs.declared.record.Call.TheVariants.{Insert, Silence, Begin, Finish, Maintain, Forget, Load, Note}
 use Rattle.am_model.specs.declared.record.Record.{Record}
-use Rattle.am_model.specs.Begin.{due_cmp, may_begin, taken, asked_of, begun_group, without_resolved, flush_asking, after_asking, after_taking}
+use Rattle.am_model.specs.Begin.{due_cmp, may_begin, taken, notified_of, begun_group, without_resolved, flush_notifying, after_notifying, after_taking}
 use Rattle.am_model.specs.Finish.{leaves_by, finished_group, after_finish, after_finish_of}
 use Rattle.am_model.specs.Insert.{names_for, next_stamp, after_insert}
 use Rattle.am_model.specs.Lists.{changed_where}
 use Rattle.am_model.specs.Note.{with_note, may_note, after_note, after_note_of}
 use Rattle.am_model.specs.Replay.{after, after_call, replay, replay_from}
-use Rattle.am_model.specs.State.{MemberState, GroupState, FlushState, State, opening_state, moment, at_moment, is_named, flush_numbered}
-use Rattle.am_model.specs.Upkeep.{is_deserted, after_maintain}
+use Rattle.am_model.specs.State.{MemberState, GroupState, FlushState, State, opening_state, time, at_time, is_named, flush_numbered}
+use Rattle.am_model.specs.Maintenance.{has_no_alerts, after_maintain}
 use Rattle.am_model.proofs.legal.BoundedAlerts.{count_alerts, count_alerts-sum, count-filter, count-changed, count-each, length-filter, length-names, routed-each, routed-names}
 use Rattle.am_model.proofs.lists.Distinct.{all_from, all-filter, all-least, all-map, all-push, all-weaker}
 
@@ -77,7 +77,7 @@ small_insert config s t a h =
       alerts = λ within. let before = h.alerts within in omega (arith, before, within, count-each config t m names s.groups, length-names config a.labels);
     }
 
-small_at : (config : Config) (s : State) (t : ℕ) → IsSmall config s → IsSmall config (at_moment s t)
+small_at : (config : Config) (s : State) (t : ℕ) → IsSmall config s → IsSmall config (at_time s t)
 small_at config s t h = record { groups = h.groups; flushes = h.flushes; alerts = h.alerts }
 
 -- groups that are changed without a new name or a new alert
@@ -99,18 +99,18 @@ taken-routed config s t g h e =
     let P : GroupState → Type 0 = λ k. k.name.route ≤ last_route config in
     all-least P due_cmp g (filter (may_begin s t) s.groups) (all-filter P (may_begin s t) s.groups h.groups) e
 
-small_asking : (config : Config) (s : State) (t : ℕ) (g : GroupState) (asked : List (ℕ × Integration)) → g.name.route ≤ last_route config → IsSmall config s → IsSmall config (after_asking config s t g asked)
-small_asking config s t g [] routed h =
+small_notifying : (config : Config) (s : State) (t : ℕ) (g : GroupState) (notified : List (ℕ × Integration)) → g.name.route ≤ last_route config → IsSmall config s → IsSmall config (after_notifying config s t g notified)
+small_notifying config s t g [] routed h =
     small_changed config s (is_named g.name) (λ k. without_resolved t (begun_group config t k)) s.flushes h (λ k. refl)
-    (λ k. length-filter (λ (m : MemberState). not (is_resolved m.alert t)) k.members) h.flushes (after_asking config s t g []) refl refl refl
-small_asking config s t g (i ∷ is) routed h =
-    let f = flush_asking config s t g (i ∷ is) in
+    (λ k. length-filter (λ (m : MemberState). not (is_resolved m.alert t)) k.members) h.flushes (after_notifying config s t g []) refl refl refl
+small_notifying config s t g (i ∷ is) routed h =
+    let f = flush_notifying config s t g (i ∷ is) in
     small_changed config s (is_named g.name) (begun_group config t) (s.flushes ++ f ∷ []) h (λ k. refl) (λ k. omega arith)
-    (all-push (λ (k : FlushState). k.group.route ≤ last_route config) s.flushes f h.flushes routed) (after_asking config s t g (i ∷ is)) refl refl refl
+    (all-push (λ (k : FlushState). k.group.route ≤ last_route config) s.flushes f h.flushes routed) (after_notifying config s t g (i ∷ is)) refl refl refl
 
 small_taking : (config : Config) (s : State) (t : ℕ) (o : Option GroupState) → taken s t ≡ o → IsSmall config s → IsSmall config (after_taking config s t o)
 small_taking config s t None e h = small_at config s t h
-small_taking config s t (Some g) e h = small_asking config s t g (asked_of config s t g) (taken-routed config s t g h e) h
+small_taking config s t (Some g) e h = small_notifying config s t g (notified_of config s t g) (taken-routed config s t g h e) h
 
 small_finish : (config : Config) (s : State) (t : ℕ) (outcomes : List (ℕ × Outcome)) (o : Option FlushState) → IsSmall config s → IsSmall config (after_finish_of config s t outcomes o)
 small_finish config s t outcomes None h = small_at config s t h
@@ -122,7 +122,7 @@ small_finish config s t outcomes (Some f) h =
 
 small_maintain : (config : Config) (s : State) (t : ℕ) → IsSmall config s → IsSmall config (after_maintain s t)
 small_maintain config s t h =
-    let stays : GroupState → Bool = λ g. not (is_deserted g) in
+    let stays : GroupState → Bool = λ g. not (has_no_alerts g) in
     record {
       groups = all-filter (λ (g : GroupState). g.name.route ≤ last_route config) stays s.groups h.groups;
       flushes = h.flushes;
@@ -132,7 +132,7 @@ small_maintain config s t h =
 small_note : (config : Config) (s : State) (t integration : ℕ) (outcome : Option Outcome) (o : Option FlushState) → IsSmall config s → IsSmall config (after_note_of config s t integration outcome o)
 small_note config s t integration outcome None h = small_at config s t h
 small_note config s t integration outcome (Some f) h =
-    elim (may_note integration outcome f) as (λ b. IsSmall config (cond b (after_note config s t integration f) (at_moment s t))) [
+    elim (may_note integration outcome f) as (λ b. IsSmall config (cond b (after_note config s t integration f) (at_time s t))) [
       | true ↦ record { groups = h.groups; flushes = noted; alerts = h.alerts }
       | false ↦ small_at config s t h
     ]
@@ -148,24 +148,24 @@ small_note config s t integration outcome (Some f) h =
         all-map change P s.flushes (all-weaker P (λ k. P (change k)) (λ k routed. by k (k.number == f.number) routed) s.flushes h.flushes)
 
 small_call : (config : Config) (s : State) (c : Call) → IsSmall config s → IsSmall config (after_call config s c)
-small_call config s (Insert now alert) h = small_insert config s (moment s now) alert h
+small_call config s (Insert now alert) h = small_insert config s (time s now) alert h
 small_call config s (Silence now number matchers start end) h = record { groups = h.groups; flushes = h.flushes; alerts = h.alerts }
-small_call config s (Begin now) h = small_taking config s (moment s now) (taken s (moment s now)) refl h
-small_call config s (Finish now number outcomes) h = small_finish config s (moment s now) outcomes (flush_numbered s.flushes number) h
-small_call config s (Maintain now) h = small_maintain config s (moment s now) h
+small_call config s (Begin now) h = small_taking config s (time s now) (taken s (time s now)) refl h
+small_call config s (Finish now number outcomes) h = small_finish config s (time s now) outcomes (flush_numbered s.flushes number) h
+small_call config s (Maintain now) h = small_maintain config s (time s now) h
 small_call config s (Forget now) h = record { groups = h.groups; flushes = h.flushes; alerts = h.alerts }
 small_call config s (Load now row) h = record { groups = h.groups; flushes = h.flushes; alerts = h.alerts }
-small_call config s (Note now number integration outcome) h = small_note config s (moment s now) integration outcome (flush_numbered s.flushes number) h
+small_call config s (Note now number integration outcome) h = small_note config s (time s now) integration outcome (flush_numbered s.flushes number) h
 
 -- ---- the numbers
 
-step_asking : (config : Config) (s : State) (t : ℕ) (g : GroupState) (asked : List (ℕ × Integration)) → IsStep s (after_asking config s t g asked)
-step_asking config s t g [] = record { inserts = omega arith; next_number = omega arith }
-step_asking config s t g (i ∷ is) = record { inserts = omega arith; next_number = omega arith }
+step_notifying : (config : Config) (s : State) (t : ℕ) (g : GroupState) (notified : List (ℕ × Integration)) → IsStep s (after_notifying config s t g notified)
+step_notifying config s t g [] = record { inserts = omega arith; next_number = omega arith }
+step_notifying config s t g (i ∷ is) = record { inserts = omega arith; next_number = omega arith }
 
 step_taking : (config : Config) (s : State) (t : ℕ) (o : Option GroupState) → IsStep s (after_taking config s t o)
 step_taking config s t None = record { inserts = omega arith; next_number = omega arith }
-step_taking config s t (Some g) = step_asking config s t g (asked_of config s t g)
+step_taking config s t (Some g) = step_notifying config s t g (notified_of config s t g)
 
 step_finish : (config : Config) (s : State) (t : ℕ) (outcomes : List (ℕ × Outcome)) (o : Option FlushState) → IsStep s (after_finish_of config s t outcomes o)
 step_finish config s t outcomes None = record { inserts = omega arith; next_number = omega arith }
@@ -174,7 +174,7 @@ step_finish config s t outcomes (Some f) = record { inserts = omega arith; next_
 step_note : (config : Config) (s : State) (t integration : ℕ) (outcome : Option Outcome) (o : Option FlushState) → IsStep s (after_note_of config s t integration outcome o)
 step_note config s t integration outcome None = record { inserts = omega arith; next_number = omega arith }
 step_note config s t integration outcome (Some f) =
-    elim (may_note integration outcome f) as (λ b. IsStep s (cond b (after_note config s t integration f) (at_moment s t))) [
+    elim (may_note integration outcome f) as (λ b. IsStep s (cond b (after_note config s t integration f) (at_time s t))) [
       | true ↦ record { inserts = omega arith; next_number = omega arith }
       | false ↦ record { inserts = omega arith; next_number = omega arith }
     ]
@@ -182,12 +182,12 @@ step_note config s t integration outcome (Some f) =
 step_call : (config : Config) (s : State) (c : Call) → IsStep s (after_call config s c)
 step_call config s (Insert now alert) = record { inserts = omega arith; next_number = omega arith }
 step_call config s (Silence now number matchers start end) = record { inserts = omega arith; next_number = omega arith }
-step_call config s (Begin now) = step_taking config s (moment s now) (taken s (moment s now))
-step_call config s (Finish now number outcomes) = step_finish config s (moment s now) outcomes (flush_numbered s.flushes number)
+step_call config s (Begin now) = step_taking config s (time s now) (taken s (time s now))
+step_call config s (Finish now number outcomes) = step_finish config s (time s now) outcomes (flush_numbered s.flushes number)
 step_call config s (Maintain now) = record { inserts = omega arith; next_number = omega arith }
 step_call config s (Forget now) = record { inserts = omega arith; next_number = omega arith }
 step_call config s (Load now row) = record { inserts = omega arith; next_number = omega arith }
-step_call config s (Note now number integration outcome) = step_note config s (moment s now) integration outcome (flush_numbered s.flushes number)
+step_call config s (Note now number integration outcome) = step_note config s (time s now) integration outcome (flush_numbered s.flushes number)
 
 -- ---- along a history
 

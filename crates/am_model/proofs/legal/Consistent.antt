@@ -1,6 +1,6 @@
 -- The state after any list of records is consistent.
 use Rattle.std.proofs.Common.{ℕ, ◌≤◌, List, [], ◌∷◌, arith}
-use Rattle.am_alerts.specs.declared.limits.TheConstants.{MAX_MOMENT}
+use Rattle.am_alerts.specs.declared.limits.TheConstants.{MAX_TIME}
 use Rattle.am_mute.specs.Silence.{silence_of}
 use Rattle.am_model.specs.declared.config.Config.{Config}
 use Rattle.am_model.specs.declared.record.Call.{Call}
@@ -10,29 +10,29 @@ use Rattle.am_model.specs.Insert.{same_alert, same_group}
 use Rattle.am_model.specs.Finish.{same_key}
 use Rattle.am_model.specs.Laws.{same_flushed, same_number, IsConsistent, ReplaysAreConsistent}
 use Rattle.am_model.specs.Replay.{after, after_call, replay, replay_from}
-use Rattle.am_model.specs.State.{State, opening_state, moment, flush_numbered}
-use Rattle.am_model.specs.Upkeep.{same_silence}
+use Rattle.am_model.specs.State.{State, opening_state, time, flush_numbered}
+use Rattle.am_model.specs.Maintenance.{same_silence}
 use Rattle.am_model.proofs.legal.ConsistentBegin.{steady_begin}
 use Rattle.am_model.proofs.legal.ConsistentFinish.{steady_finish, steady_maintain, steady_forget, steady_load, steady_note}
 use Rattle.am_model.proofs.legal.ConsistentInsert.{steady_insert, steady_silence}
 use Rattle.am_model.proofs.lists.Distinct.{IsDistinct-nil}
 use Rattle.am_model.proofs.legal.ConsistentState.{IsSteady, consistent_from, consistent_to}
 
--- no moment is after the greatest
-pub moment-within : (s : State) (now : ℕ) → s.clock ≤ MAX_MOMENT → moment s now ≤ MAX_MOMENT
-moment-within s now h = omega (arith, h)
+-- no time is after the greatest
+pub time-within : (s : State) (now : ℕ) → s.clock ≤ MAX_TIME → time s now ≤ MAX_TIME
+time-within s now h = omega (arith, h)
 
 steady_call : (config : Config) (s : State) (c : Call) → IsSteady s → IsSteady (after_call config s c)
-steady_call config s (Insert now alert) h = steady_insert config s (moment s now) alert (moment-within s now h.clock) h
+steady_call config s (Insert now alert) h = steady_insert config s (time s now) alert (time-within s now h.clock) h
 steady_call config s (Silence now number matchers start end) h =
-    steady_silence s (moment s now) (silence_of number matchers start end) (moment-within s now h.clock) h
-steady_call config s (Begin now) h = steady_begin config s (moment s now) (moment-within s now h.clock) h
-steady_call config s (Finish now number outcomes) h = steady_finish config s (moment s now) number outcomes (moment-within s now h.clock) h
-steady_call config s (Maintain now) h = steady_maintain s (moment s now) (moment-within s now h.clock) h
-steady_call config s (Forget now) h = steady_forget s (moment s now) (moment-within s now h.clock) h
-steady_call config s (Load now row) h = steady_load config s (moment s now) row (moment-within s now h.clock) h
+    steady_silence s (time s now) (silence_of number matchers start end) (time-within s now h.clock) h
+steady_call config s (Begin now) h = steady_begin config s (time s now) (time-within s now h.clock) h
+steady_call config s (Finish now number outcomes) h = steady_finish config s (time s now) number outcomes (time-within s now h.clock) h
+steady_call config s (Maintain now) h = steady_maintain s (time s now) (time-within s now h.clock) h
+steady_call config s (Forget now) h = steady_forget s (time s now) (time-within s now h.clock) h
+steady_call config s (Load now row) h = steady_load config s (time s now) row (time-within s now h.clock) h
 steady_call config s (Note now number integration outcome) h =
-    steady_note config s (moment s now) integration outcome (flush_numbered s.flushes number) (moment-within s now h.clock) h
+    steady_note config s (time s now) integration outcome (flush_numbered s.flushes number) (time-within s now h.clock) h
 
 steady_opening : IsSteady opening_state
 steady_opening =

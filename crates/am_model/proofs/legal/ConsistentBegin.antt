@@ -5,15 +5,15 @@ use Rattle.std.specs.List.{enumerate_from, AllByRecursion, IsDistinct}
 use Rattle.std.proofs.lemmas.Bool.{ne_eqb}
 use Rattle.std.proofs.lemmas.Map.Keys.{IsDistinct-head, IsDistinct-tail, IsDistinct-cons}
 use Rattle.am_alerts.specs.AlertData.{AlertData, is_resolved}
-use Rattle.am_alerts.specs.declared.limits.TheConstants.{MAX_MOMENT}
+use Rattle.am_alerts.specs.declared.limits.TheConstants.{MAX_TIME}
 use Rattle.am_nflog.specs.Members.{is_empty}
 use Rattle.am_model.specs.declared.config.Config.{Config}
 use Rattle.am_model.specs.declared.config.Integration.{Integration}
 use Rattle.am_model.specs.declared.group.GroupName.{GroupName}
-use Rattle.am_model.specs.Begin.{due_cmp, may_begin, taken, label_sets, firing_of, resolved_of, needs, alert_cmp, asked_about, asked_of, begun_group, without_resolved, asked_state, flush_asking, after_asking, after_taking, after_begin}
+use Rattle.am_model.specs.Begin.{due_cmp, may_begin, taken, label_sets, firing_of, resolved_of, needs, alert_cmp, notified_about, notified_of, begun_group, without_resolved, notified_state, flush_notifying, after_notifying, after_taking, after_begin}
 use Rattle.am_model.specs.Configured.{integrations_named, integrations_of, route_of, route_muted}
 use Rattle.am_model.specs.Insert.{same_group}
-use Rattle.am_model.specs.Laws.{same_flushed, same_number, same_asked}
+use Rattle.am_model.specs.Laws.{same_flushed, same_number, same_notified}
 use Rattle.am_model.specs.Lists.{changed_where, in_order, unless, without}
 use Rattle.am_model.specs.State.{MemberState, GroupState, FlushState, State, same_name, is_named, is_flushing}
 use Rattle.am_model.proofs.legal.ConsistentFinish.{steady-at, tidy-fewer, tidy-changed, distinct-changed}
@@ -45,30 +45,30 @@ taken-is s t g h e =
     (filter test s.groups) (all-passes test s.groups) (all-filter own test s.groups (members_of-own s.groups h)))
     e
 
--- ---- whom a flush asks
+-- ---- whom a flush notifies
 
--- the places of a list's elements
-later_places : {X : Type 0} (n : ℕ) (xs : List X) → AllByRecursion (λ p. n ≤ p.0) (enumerate_from n xs)
-later_places n [] = tt
-later_places {X = X} n (x ∷ xs) =
-    let rest = later_places (n + 1) xs in
+-- the indexes of a list's elements
+later_indexes : {X : Type 0} (n : ℕ) (xs : List X) → AllByRecursion (λ p. n ≤ p.0) (enumerate_from n xs)
+later_indexes n [] = tt
+later_indexes {X = X} n (x ∷ xs) =
+    let rest = later_indexes (n + 1) xs in
     let P : ℕ × X → Type 0 = λ p. n + 1 ≤ p.0 in
     (omega arith, all-weaker P (λ p. n ≤ p.0) (λ p h. omega (arith, h)) (enumerate_from (n + 1) xs) rest)
 
-pub distinct_places : {X : Type 0} (n : ℕ) (xs : List X) → IsDistinct (λ (p q : ℕ × X). p.0 == q.0) (enumerate_from n xs)
-distinct_places {X = X} n [] = IsDistinct-nil (λ (p q : ℕ × X). p.0 == q.0)
-distinct_places {X = X} n (x ∷ xs) =
+pub distinct_indexes : {X : Type 0} (n : ℕ) (xs : List X) → IsDistinct (λ (p q : ℕ × X). p.0 == q.0) (enumerate_from n xs)
+distinct_indexes {X = X} n [] = IsDistinct-nil (λ (p q : ℕ × X). p.0 == q.0)
+distinct_indexes {X = X} n (x ∷ xs) =
     let like : ℕ × X → ℕ × X → Bool = λ p q. p.0 == q.0 in
     let P : ℕ × X → Type 0 = λ p. n + 1 ≤ p.0 in
     let later : (p : ℕ × X) → n + 1 ≤ p.0 → (n == p.0) ≡ false = λ p h. ne_eqb n p.0 (λ e. omega (arith, e, h)) in
     IsDistinct-cons like (n, x) (enumerate_from (n + 1) xs)
-    (all-weaker P (λ p. (n == p.0) ≡ false) later (enumerate_from (n + 1) xs) (later_places (n + 1) xs))
-    (distinct_places (n + 1) xs)
+    (all-weaker P (λ p. (n == p.0) ≡ false) later (enumerate_from (n + 1) xs) (later_indexes (n + 1) xs))
+    (distinct_indexes (n + 1) xs)
 
--- a flush asks each integration once
+-- a flush notifies each integration once
 module _ (config : Config) (s : State) (t : ℕ) where
-  distinct_asked : (g : GroupState) → IsDistinct (λ (p q : ℕ × Integration). p.0 == q.0) (asked_of config s t g)
-  distinct_asked g =
+  distinct_notified : (g : GroupState) → IsDistinct (λ (p q : ℕ × Integration). p.0 == q.0) (notified_of config s t g)
+  distinct_notified g =
       let like : ℕ × Integration → ℕ × Integration → Bool = λ p q. p.0 == q.0 in
       let firing = label_sets (firing_of config s t g) in
       let resolved = label_sets (resolved_of config s t g) in
@@ -76,27 +76,27 @@ module _ (config : Config) (s : State) (t : ℕ) where
       let some = filter (needs config s t g.name firing resolved) all in
       elim (is_empty firing && is_empty resolved) as (λ b. IsDistinct like (cond b [] some)) [
         | true ↦ IsDistinct-nil like
-        | false ↦ IsDistinct-filter like (needs config s t g.name firing resolved) all (distinct_places 0 (integrations_named (route_of config g.name).receiver config.receivers))
+        | false ↦ IsDistinct-filter like (needs config s t g.name firing resolved) all (distinct_indexes 0 (integrations_named (route_of config g.name).receiver config.receivers))
       ]
 
-  -- none is asked about a group without alerts
-  none_asked : (name : GroupName) (due : ℕ) (flushed : Bool) → asked_of config s t (record { name = name; due = due; flushed = flushed; members = [] }) ≡ []
-  none_asked name due flushed =
-      ap (λ xs. asked_about config s t name (label_sets (in_order alert_cmp (without (λ a. is_resolved a t) xs))) (label_sets (in_order alert_cmp (filter (λ a. is_resolved a t) xs))))
+  -- none is notified about a group without alerts
+  none_notified : (name : GroupName) (due : ℕ) (flushed : Bool) → notified_of config s t (record { name = name; due = due; flushed = flushed; members = [] }) ≡ []
+  none_notified name due flushed =
+      ap (λ xs. notified_about config s t name (label_sets (in_order alert_cmp (without (λ a. is_resolved a t) xs))) (label_sets (in_order alert_cmp (filter (λ a. is_resolved a t) xs))))
       (none-unless (route_muted config name t))
     where
       none-unless : (o : Option ℕ) → unless {X = AlertData} o [] ≡ []
       none-unless None = refl
       none-unless (Some until) = refl
 
-  some_members : (name : GroupName) (due : ℕ) (flushed : Bool) (members : List MemberState) (i : ℕ × Integration) (is : List (ℕ × Integration)) → asked_of config s t (record { name = name; due = due; flushed = flushed; members = members }) ≡ i ∷ is → is_empty members ≡ false
-  some_members name due flushed [] i is e = let no : [] ≡ i ∷ is = sym (none_asked name due flushed) ∙ e in absurd (cc)
+  some_members : (name : GroupName) (due : ℕ) (flushed : Bool) (members : List MemberState) (i : ℕ × Integration) (is : List (ℕ × Integration)) → notified_of config s t (record { name = name; due = due; flushed = flushed; members = members }) ≡ i ∷ is → is_empty members ≡ false
+  some_members name due flushed [] i is e = let no : [] ≡ i ∷ is = sym (none_notified name due flushed) ∙ e in absurd (cc)
   some_members name due flushed (m ∷ ms) i is e = refl
 
 -- ---- the two ways that a begin goes on
 
--- nothing is to be told: the resolved alerts leave
-quiet : (config : Config) (s : State) (t : ℕ) (g : GroupState) → t ≤ MAX_MOMENT → IsTaken s g → IsSteady s → IsSteady (after_asking config s t g [])
+-- nothing is to be reported: the resolved alerts leave
+quiet : (config : Config) (s : State) (t : ℕ) (g : GroupState) → t ≤ MAX_TIME → IsTaken s g → IsSteady s → IsSteady (after_notifying config s t g [])
 quiet config s t g within at h =
     let change : GroupState → GroupState = λ k. without_resolved t (begun_group config t k) in
     record {
@@ -112,7 +112,7 @@ quiet config s t g within at h =
       numbers = h.numbers;
       opened =
           all-both (λ f. same_name g.name f.group ≡ false) (IsOpen s.next_number s.groups) (IsOpen s.next_number (changed_where (is_named g.name) change s.groups))
-          (λ f apart o. record { number = o.number; asked = o.asked; each_once = o.each_once; alive = ap is_empty (members_of-elsewhere g.name change (λ k. refl) f.group apart s.groups) ∙ o.alive })
+          (λ f apart o. record { number = o.number; notified = o.notified; each_once = o.each_once; alive = ap is_empty (members_of-elsewhere g.name change (λ k. refl) f.group apart s.groups) ∙ o.alive })
           s.flushes at.free h.opened;
     }
 
@@ -125,16 +125,16 @@ distinct-last like turns f (k ∷ fs) all h =
     (distinct-last like turns f fs all.1 (IsDistinct-tail like k fs h))
 
 -- a flush is opened
-opens : (config : Config) (s : State) (t : ℕ) (g : GroupState) (i : ℕ × Integration) (is : List (ℕ × Integration)) → t ≤ MAX_MOMENT → asked_of config s t g ≡ i ∷ is → IsTaken s g → IsSteady s → IsSteady (after_asking config s t g (i ∷ is))
-opens config s t g i is within asked at h =
+opens : (config : Config) (s : State) (t : ℕ) (g : GroupState) (i : ℕ × Integration) (is : List (ℕ × Integration)) → t ≤ MAX_TIME → notified_of config s t g ≡ i ∷ is → IsTaken s g → IsSteady s → IsSteady (after_notifying config s t g (i ∷ is))
+opens config s t g i is within notified at h =
     let change = begun_group config t in
     let groups = changed_where (is_named g.name) change s.groups in
-    let f = flush_asking config s t g (i ∷ is) in
+    let f = flush_notifying config s t g (i ∷ is) in
     let next = s.next_number + 1 in
     let kept : (name : GroupName) → members_of groups name ≡ members_of s.groups name = λ name. members_of-kept g.name change (λ k. refl) (λ k. refl) name s.groups in
     let like : ℕ × Integration → ℕ × Integration → Bool = λ p q. p.0 == q.0 in
-    let once : IsDistinct like (i ∷ is) = subst (IsDistinct like) asked (distinct_asked config s t g) in
-    let some : is_empty g.members ≡ false = some_members config s t g.name g.due g.flushed g.members i is asked in
+    let once : IsDistinct like (i ∷ is) = subst (IsDistinct like) notified (distinct_notified config s t g) in
+    let some : is_empty g.members ≡ false = some_members config s t g.name g.due g.flushed g.members i is notified in
     record {
       clock = within;
       known = h.known;
@@ -150,23 +150,23 @@ opens config s t g i is within asked at h =
       opened =
           all-push (IsOpen next groups) s.flushes f
           (all-weaker (IsOpen s.next_number s.groups) (IsOpen next groups)
-          (λ k o. record { number = omega (arith, o.number); asked = o.asked; each_once = o.each_once; alive = ap is_empty (kept k.group) ∙ o.alive })
+          (λ k o. record { number = omega (arith, o.number); notified = o.notified; each_once = o.each_once; alive = ap is_empty (kept k.group) ∙ o.alive })
           s.flushes h.opened)
           (record {
             number = omega arith;
-            asked = refl;
-            each_once = IsDistinct-map (asked_state config s t g) same_asked (i ∷ is) once;
+            notified = refl;
+            each_once = IsDistinct-map (notified_state config s t g) same_notified (i ∷ is) once;
             alive = ap is_empty (kept g.name ∙ at.own) ∙ some;
           });
     }
 
-asking : (config : Config) (s : State) (t : ℕ) (g : GroupState) (asked : List (ℕ × Integration)) → t ≤ MAX_MOMENT → asked_of config s t g ≡ asked → IsTaken s g → IsSteady s → IsSteady (after_asking config s t g asked)
-asking config s t g [] within is at h = quiet config s t g within at h
-asking config s t g (i ∷ more) within is at h = opens config s t g i more within is at h
+notifying : (config : Config) (s : State) (t : ℕ) (g : GroupState) (notified : List (ℕ × Integration)) → t ≤ MAX_TIME → notified_of config s t g ≡ notified → IsTaken s g → IsSteady s → IsSteady (after_notifying config s t g notified)
+notifying config s t g [] within is at h = quiet config s t g within at h
+notifying config s t g (i ∷ more) within is at h = opens config s t g i more within is at h
 
-pub steady_begin : (config : Config) (s : State) (t : ℕ) → t ≤ MAX_MOMENT → IsSteady s → IsSteady (after_begin config s t)
+pub steady_begin : (config : Config) (s : State) (t : ℕ) → t ≤ MAX_TIME → IsSteady s → IsSteady (after_begin config s t)
 steady_begin config s t within h =
     elim (taken s t) as (λ o. taken s t ≡ o → IsSteady (after_taking config s t o)) [
       | None ↦ λ e. steady-at s t within h
-      | Some g ↦ λ e. asking config s t g (asked_of config s t g) within refl (taken-is s t g h.groups e) h
+      | Some g ↦ λ e. notifying config s t g (notified_of config s t g) within refl (taken-is s t g h.groups e) h
     ] refl

@@ -4,7 +4,7 @@ use Rattle.std.specs.Prelude.{find, fold, filter, ◌==◌}
 use Rattle.std.specs.List.{AllByRecursion, IsDistinct}
 use Rattle.std.proofs.lemmas.Cmp.{nat_eq_equiv}
 use Rattle.std.proofs.lemmas.Map.Keys.{IsDistinct-head, IsDistinct-tail}
-use Rattle.am_alerts.specs.declared.limits.TheConstants.{MAX_MOMENT}
+use Rattle.am_alerts.specs.declared.limits.TheConstants.{MAX_TIME}
 use Rattle.am_mute.specs.Silence.{is_over}
 use Rattle.am_retry.specs.declared.outcome.Outcome.{Outcome}
 use Rattle.am_nflog.specs.Members.{is_empty}
@@ -13,12 +13,12 @@ use Rattle.am_model.specs.declared.views.RowView.{RowView}
 use Rattle.am_model.specs.Finish.{same_key, row_at, log_with, logged_by, leaves_by, finished_group, after_finish, after_finish_of}
 use Rattle.am_model.specs.Forget.{is_idle, after_forget}
 use Rattle.am_model.specs.Insert.{same_alert, same_member, same_group}
-use Rattle.am_model.specs.Laws.{same_flushed, same_number, same_asked}
+use Rattle.am_model.specs.Laws.{same_flushed, same_number, same_notified}
 use Rattle.am_model.specs.Lists.{without, changed_where}
 use Rattle.am_model.specs.Load.{may_load, loaded, is_put, rows_loading, after_load}
 use Rattle.am_model.specs.Note.{as_noted, with_note, may_note, after_note, after_note_of}
-use Rattle.am_model.specs.State.{MemberState, GroupState, AskedState, FlushState, State, at_moment, same_name, is_named, flush_numbered}
-use Rattle.am_model.specs.Upkeep.{same_silence, is_deserted, has_expired, after_maintain}
+use Rattle.am_model.specs.State.{MemberState, GroupState, NotifiedState, FlushState, State, at_time, same_name, is_named, flush_numbered}
+use Rattle.am_model.specs.Maintenance.{same_silence, has_no_alerts, has_expired, after_maintain}
 use Rattle.am_model.proofs.lists.Words.{IsDistinct-upsert}
 use Rattle.am_model.proofs.legal.ConsistentGroups.{members_of-elsewhere, alive-kept}
 use Rattle.am_model.proofs.lists.Distinct.{IsDistinct-filter, IsDistinct-changed, all-filter, all-find, all-passes, all-weaker, all-both, all-map}
@@ -27,7 +27,7 @@ use Rattle.am_model.proofs.states.Alike.{same_flushed_equiv, same_key_equiv}
 use Rattle.std.proofs.lemmas.Bool.{not-true}
 
 -- the clock alone
-pub steady-at : (s : State) (t : ℕ) → t ≤ MAX_MOMENT → IsSteady s → IsSteady (at_moment s t)
+pub steady-at : (s : State) (t : ℕ) → t ≤ MAX_TIME → IsSteady s → IsSteady (at_time s t)
 steady-at s t within h =
     record {
       clock = within;
@@ -104,12 +104,12 @@ others_apart number f fs h found =
     (filter test fs) (all-passes test fs) (all-filter P test fs (apart_from_found (λ k. k.number == number) f fs h found))
 
 -- rows that are logged one by one
-distinct-rows : (config : Config) (t : ℕ) (f : FlushState) (asked : List AskedState) (rows : List RowView) → IsDistinct same_key rows → IsDistinct same_key (fold (λ log a. log_with (row_at config t f a.integration) log) rows asked)
+distinct-rows : (config : Config) (t : ℕ) (f : FlushState) (notified : List NotifiedState) (rows : List RowView) → IsDistinct same_key rows → IsDistinct same_key (fold (λ log a. log_with (row_at config t f a.integration) log) rows notified)
 distinct-rows config t f [] rows h = h
-distinct-rows config t f (a ∷ asked) rows h =
-    distinct-rows config t f asked (log_with (row_at config t f a.integration) rows) (IsDistinct-upsert same_key same_key_equiv (row_at config t f a.integration) rows h)
+distinct-rows config t f (a ∷ notified) rows h =
+    distinct-rows config t f notified (log_with (row_at config t f a.integration) rows) (IsDistinct-upsert same_key same_key_equiv (row_at config t f a.integration) rows h)
 
-finish_open : (config : Config) (s : State) (t number : ℕ) (outcomes : List (ℕ × Outcome)) (f : FlushState) → flush_numbered s.flushes number ≡ Some f → t ≤ MAX_MOMENT → IsSteady s → IsSteady (after_finish config s t outcomes f)
+finish_open : (config : Config) (s : State) (t number : ℕ) (outcomes : List (ℕ × Outcome)) (f : FlushState) → flush_numbered s.flushes number ≡ Some f → t ≤ MAX_TIME → IsSteady s → IsSteady (after_finish config s t outcomes f)
 finish_open config s t number outcomes f found within h =
     let change = finished_group outcomes f in
     let stays : FlushState → Bool = λ k. not (k.number == f.number) in
@@ -127,11 +127,11 @@ finish_open config s t number outcomes f found within h =
       numbers = IsDistinct-filter same_number stays s.flushes h.numbers;
       opened =
           all-both (λ k. same_name f.group k.group ≡ false) held (IsOpen s.next_number (changed_where (is_named f.group) change s.groups))
-          (λ k apart o. record { number = o.number; asked = o.asked; each_once = o.each_once; alive = ap is_empty (members_of-elsewhere f.group change (λ g. refl) k.group apart s.groups) ∙ o.alive })
+          (λ k apart o. record { number = o.number; notified = o.notified; each_once = o.each_once; alive = ap is_empty (members_of-elsewhere f.group change (λ g. refl) k.group apart s.groups) ∙ o.alive })
           (filter stays s.flushes) (others_apart number f s.flushes h.flushes found) (all-filter held stays s.flushes h.opened);
     }
 
-pub steady_finish : (config : Config) (s : State) (t number : ℕ) (outcomes : List (ℕ × Outcome)) → t ≤ MAX_MOMENT → IsSteady s → IsSteady (after_finish_of config s t outcomes (flush_numbered s.flushes number))
+pub steady_finish : (config : Config) (s : State) (t number : ℕ) (outcomes : List (ℕ × Outcome)) → t ≤ MAX_TIME → IsSteady s → IsSteady (after_finish_of config s t outcomes (flush_numbered s.flushes number))
 steady_finish config s t number outcomes within h =
     elim (flush_numbered s.flushes number) as (λ o. flush_numbered s.flushes number ≡ o → IsSteady (after_finish_of config s t outcomes o)) [
       | None ↦ λ e. steady-at s t within h
@@ -140,9 +140,9 @@ steady_finish config s t number outcomes within h =
 
 -- ---- a maintenance
 
-pub steady_maintain : (s : State) (t : ℕ) → t ≤ MAX_MOMENT → IsSteady s → IsSteady (after_maintain s t)
+pub steady_maintain : (s : State) (t : ℕ) → t ≤ MAX_TIME → IsSteady s → IsSteady (after_maintain s t)
 steady_maintain s t within h =
-    let stays : GroupState → Bool = λ g. not (is_deserted g) in
+    let stays : GroupState → Bool = λ g. not (has_no_alerts g) in
     record {
       clock = within;
       known = h.known;
@@ -153,14 +153,14 @@ steady_maintain s t within h =
       flushes = h.flushes;
       numbers = h.numbers;
       opened =
-          all-weaker (IsOpen s.next_number s.groups) (IsOpen s.next_number (without is_deserted s.groups))
-          (λ f o. record { number = o.number; asked = o.asked; each_once = o.each_once; alive = alive-kept f.group s.groups o.alive })
+          all-weaker (IsOpen s.next_number s.groups) (IsOpen s.next_number (without has_no_alerts s.groups))
+          (λ f o. record { number = o.number; notified = o.notified; each_once = o.each_once; alive = alive-kept f.group s.groups o.alive })
           s.flushes h.opened;
     }
 
 -- ---- a forgetting
 
-pub steady_forget : (s : State) (t : ℕ) → t ≤ MAX_MOMENT → IsSteady s → IsSteady (after_forget s t)
+pub steady_forget : (s : State) (t : ℕ) → t ≤ MAX_TIME → IsSteady s → IsSteady (after_forget s t)
 steady_forget s t within h =
     record {
       clock = within;
@@ -183,7 +183,7 @@ rows_loaded config rows t row h =
       | false ↦ h
     ]
 
-pub steady_load : (config : Config) (s : State) (t : ℕ) (row : RowView) → t ≤ MAX_MOMENT → IsSteady s → IsSteady (after_load config s t row)
+pub steady_load : (config : Config) (s : State) (t : ℕ) (row : RowView) → t ≤ MAX_TIME → IsSteady s → IsSteady (after_load config s t row)
 steady_load config s t row within h =
     record {
       clock = within;
@@ -199,26 +199,26 @@ steady_load config s t row within h =
 
 -- ---- a note
 
--- a note of an integration keeps whom a flush asked
+-- a note of an integration keeps whom a flush notified
 module _ (integration : ℕ) where
-  noted_or : (a : AskedState) (b : Bool) → (cond b (as_noted a) a).integration ≡ a.integration
+  noted_or : (a : NotifiedState) (b : Bool) → (cond b (as_noted a) a).integration ≡ a.integration
   noted_or a true = refl
   noted_or a false = refl
 
-  some_noted : (asked : List AskedState) → is_empty asked ≡ false → is_empty (changed_where (λ a. a.integration == integration) as_noted asked) ≡ false
+  some_noted : (notified : List NotifiedState) → is_empty notified ≡ false → is_empty (changed_where (λ a. a.integration == integration) as_noted notified) ≡ false
   some_noted [] e = e
-  some_noted (a ∷ asked) e = refl
+  some_noted (a ∷ notified) e = refl
 
-  once_noted : (asked : List AskedState) → IsDistinct same_asked asked → IsDistinct same_asked (changed_where (λ a. a.integration == integration) as_noted asked)
-  once_noted asked h =
-      IsDistinct-changed same_asked (λ a. cond (a.integration == integration) (as_noted a) a)
+  once_noted : (notified : List NotifiedState) → IsDistinct same_notified notified → IsDistinct same_notified (changed_where (λ a. a.integration == integration) as_noted notified)
+  once_noted notified h =
+      IsDistinct-changed same_notified (λ a. cond (a.integration == integration) (as_noted a) a)
       (λ a b. ap (λ n. n == (cond (b.integration == integration) (as_noted b) b).integration) (noted_or a (a.integration == integration))
       ∙ ap (λ n. a.integration == n) (noted_or b (b.integration == integration)))
-      asked h
+      notified h
 
   open_noted : (next : ℕ) (gs : List GroupState) (f : FlushState) → IsOpen next gs f → IsOpen next gs (with_note integration f)
   open_noted next gs f o =
-      record { number = o.number; asked = some_noted f.asked o.asked; each_once = once_noted f.asked o.each_once; alive = o.alive }
+      record { number = o.number; notified = some_noted f.notified o.notified; each_once = once_noted f.notified o.each_once; alive = o.alive }
 
   open_noted_or : (next : ℕ) (gs : List GroupState) (f : FlushState) (b : Bool) → IsOpen next gs f → IsOpen next gs (cond b (with_note integration f) f)
   open_noted_or next gs f true o = open_noted next gs f o
@@ -232,7 +232,7 @@ module _ (integration : ℕ) where
   number_noted_or f true = refl
   number_noted_or f false = refl
 
-note_open : (config : Config) (s : State) (t integration : ℕ) (f : FlushState) → t ≤ MAX_MOMENT → IsSteady s → IsSteady (after_note config s t integration f)
+note_open : (config : Config) (s : State) (t integration : ℕ) (f : FlushState) → t ≤ MAX_TIME → IsSteady s → IsSteady (after_note config s t integration f)
 note_open config s t integration f within h =
     let test : FlushState → Bool = λ k. k.number == f.number in
     let change : FlushState → FlushState = λ k. cond (test k) (with_note integration k) k in
@@ -255,10 +255,10 @@ note_open config s t integration f within h =
       opened = all-map change held s.flushes (all-weaker held (λ k. held (change k)) (λ k o. open_noted_or integration s.next_number s.groups k (test k) o) s.flushes h.opened);
     }
 
-pub steady_note : (config : Config) (s : State) (t integration : ℕ) (outcome : Option Outcome) (f : Option FlushState) → t ≤ MAX_MOMENT → IsSteady s → IsSteady (after_note_of config s t integration outcome f)
+pub steady_note : (config : Config) (s : State) (t integration : ℕ) (outcome : Option Outcome) (f : Option FlushState) → t ≤ MAX_TIME → IsSteady s → IsSteady (after_note_of config s t integration outcome f)
 steady_note config s t integration outcome None within h = steady-at s t within h
 steady_note config s t integration outcome (Some f) within h =
-    elim (may_note integration outcome f) as (λ b. IsSteady (cond b (after_note config s t integration f) (at_moment s t))) [
+    elim (may_note integration outcome f) as (λ b. IsSteady (cond b (after_note config s t integration f) (at_time s t))) [
       | true ↦ note_open config s t integration f within h
       | false ↦ steady-at s t within h
     ]

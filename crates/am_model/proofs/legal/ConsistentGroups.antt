@@ -9,7 +9,7 @@ use Rattle.am_model.specs.declared.group.GroupName.{GroupName}
 use Rattle.am_model.specs.Insert.{same_group}
 use Rattle.am_model.specs.Lists.{upsert, without, changed_where}
 use Rattle.am_model.specs.State.{MemberState, GroupState, same_name, is_named, members_in}
-use Rattle.am_model.specs.Upkeep.{is_deserted}
+use Rattle.am_model.specs.Maintenance.{has_no_alerts}
 use Rattle.am_model.proofs.lists.Distinct.{all-both}
 use Rattle.am_model.proofs.states.Alike.{same_name_equiv}
 
@@ -103,18 +103,18 @@ alive-upsert name g (k ∷ gs) some alive =
     later false rest h = rest h
 
 -- groups with alerts stay where those without go
-pub alive-kept : (name : GroupName) (gs : List GroupState) → IsAlive gs name → IsAlive (without is_deserted gs) name
+pub alive-kept : (name : GroupName) (gs : List GroupState) → IsAlive gs name → IsAlive (without has_no_alerts gs) name
 alive-kept name [] alive = alive
 alive-kept name (g ∷ gs) alive =
-    elim (is_empty g.members) as (λ b. is_empty g.members ≡ b → IsAlive (cond (not b) (g ∷ without is_deserted gs) (without is_deserted gs)) name) [
+    elim (is_empty g.members) as (λ b. is_empty g.members ≡ b → IsAlive (cond (not b) (g ∷ without has_no_alerts gs) (without has_no_alerts gs)) name) [
       | true ↦ λ e. gone (is_named name g) (alive-kept name gs) e alive
       | false ↦ λ e. stays (is_named name g) (alive-kept name gs) e alive
     ] refl
   where
-    gone : (b : Bool) → (IsAlive gs name → IsAlive (without is_deserted gs) name) → is_empty g.members ≡ true → is_empty (cond b g.members (members_of gs name)) ≡ false → IsAlive (without is_deserted gs) name
+    gone : (b : Bool) → (IsAlive gs name → IsAlive (without has_no_alerts gs) name) → is_empty g.members ≡ true → is_empty (cond b g.members (members_of gs name)) ≡ false → IsAlive (without has_no_alerts gs) name
     gone true rest e h = absurd (cc)
     gone false rest e h = rest h
 
-    stays : (b : Bool) → (IsAlive gs name → IsAlive (without is_deserted gs) name) → is_empty g.members ≡ false → is_empty (cond b g.members (members_of gs name)) ≡ false → is_empty (cond b g.members (members_of (without is_deserted gs) name)) ≡ false
+    stays : (b : Bool) → (IsAlive gs name → IsAlive (without has_no_alerts gs) name) → is_empty g.members ≡ false → is_empty (cond b g.members (members_of gs name)) ≡ false → is_empty (cond b g.members (members_of (without has_no_alerts gs) name)) ≡ false
     stays true rest e h = e
     stays false rest e h = rest h

@@ -3,7 +3,7 @@ use Rattle.std.proofs.Common.{◌≡◌, ℕ, ◌≤◌, Bool, true, false, cond
 use Rattle.std.specs.Prelude.{find, fold, unwrap_or}
 use Rattle.std.specs.List.{AllByRecursion, IsDistinct}
 use Rattle.am_alerts.specs.AlertData.{AlertData}
-use Rattle.am_alerts.specs.declared.limits.TheConstants.{MAX_MOMENT}
+use Rattle.am_alerts.specs.declared.limits.TheConstants.{MAX_TIME}
 use Rattle.am_mute.specs.Silence.{SilenceData}
 use Rattle.am_nflog.specs.Members.{is_empty}
 use Rattle.am_model.specs.declared.config.Config.{Config}
@@ -11,7 +11,7 @@ use Rattle.am_model.specs.declared.group.GroupName.{GroupName}
 use Rattle.am_model.specs.Insert.{same_alert, same_member, same_group, names_for, next_stamp, new_group, group_or_new, group_with, put_into_group, groups_with, after_insert}
 use Rattle.am_model.specs.Lists.{upsert}
 use Rattle.am_model.specs.State.{MemberState, GroupState, State, is_named}
-use Rattle.am_model.specs.Upkeep.{same_silence, after_silence}
+use Rattle.am_model.specs.Maintenance.{same_silence, after_silence}
 use Rattle.am_model.proofs.lists.Words.{all-upsert, IsDistinct-upsert}
 use Rattle.am_model.proofs.legal.ConsistentGroups.{IsAlive, alive-upsert}
 use Rattle.am_model.proofs.lists.Distinct.{IsDistinct-nil, all-find, all-weaker}
@@ -72,7 +72,7 @@ tidy-later n k g more h =
       stamps = all-weaker (λ (m : MemberState). m.stamp ≤ n) (λ m. m.stamp ≤ k) (λ m least. omega (arith, least, more)) g.members h.stamps;
     }
 
-pub steady_insert : (config : Config) (s : State) (t : ℕ) (a : AlertData) → t ≤ MAX_MOMENT → IsSteady s → IsSteady (after_insert config s t a)
+pub steady_insert : (config : Config) (s : State) (t : ℕ) (a : AlertData) → t ≤ MAX_TIME → IsSteady s → IsSteady (after_insert config s t a)
 steady_insert config s t a within h =
     let m : MemberState = record { alert = a; stamp = next_stamp s } in
     let names = names_for config a.labels in
@@ -88,11 +88,11 @@ steady_insert config s t a within h =
       numbers = h.numbers;
       opened =
           all-weaker (IsOpen s.next_number s.groups) (IsOpen s.next_number (groups_with config t m s.groups))
-          (λ f k. record { number = k.number; asked = k.asked; each_once = k.each_once; alive = alive-each config t m f.group names s.groups k.alive })
+          (λ f k. record { number = k.number; notified = k.notified; each_once = k.each_once; alive = alive-each config t m f.group names s.groups k.alive })
           s.flushes h.opened;
     }
 
-pub steady_silence : (s : State) (t : ℕ) (silence : SilenceData) → t ≤ MAX_MOMENT → IsSteady s → IsSteady (after_silence s t silence)
+pub steady_silence : (s : State) (t : ℕ) (silence : SilenceData) → t ≤ MAX_TIME → IsSteady s → IsSteady (after_silence s t silence)
 steady_silence s t silence within h =
     record {
       clock = within;

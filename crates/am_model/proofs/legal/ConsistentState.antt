@@ -2,13 +2,13 @@
 use Rattle.std.proofs.Common.{◌≡◌, ℕ, ◌<◌, ◌≤◌, Bool, true, false, not, List, refl, sym, ap, ◌∙◌}
 use Rattle.std.specs.Prelude.{IsTrue, All}
 use Rattle.std.specs.List.{AllByRecursion, IsDistinct}
-use Rattle.am_alerts.specs.declared.limits.TheConstants.{MAX_MOMENT}
+use Rattle.am_alerts.specs.declared.limits.TheConstants.{MAX_TIME}
 use Rattle.am_nflog.specs.Members.{is_empty}
 use Rattle.am_model.specs.Finish.{same_key}
 use Rattle.am_model.specs.Insert.{same_alert, same_member, same_group}
-use Rattle.am_model.specs.Laws.{same_flushed, same_number, same_asked, IsHeld, IsConsistent}
+use Rattle.am_model.specs.Laws.{same_flushed, same_number, same_notified, IsHeld, IsConsistent}
 use Rattle.am_model.specs.State.{MemberState, GroupState, FlushState, State, members_in}
-use Rattle.am_model.specs.Upkeep.{same_silence}
+use Rattle.am_model.specs.Maintenance.{same_silence}
 use Rattle.am_model.proofs.legal.ConsistentGroups.{IsAlive, members_of-in}
 use Rattle.am_model.proofs.lists.Distinct.{all_from, all_to, all-weaker, all-both}
 
@@ -20,13 +20,13 @@ pub record IsTidy (inserts : ℕ) (g : GroupState) : Type 0 where
 -- an open flush among these groups, before this number
 pub record IsOpen (next_number : ℕ) (groups : List GroupState) (f : FlushState) : Type 0 where
   pub number : f.number < next_number
-  pub asked : is_empty f.asked ≡ false
-  pub each_once : IsDistinct same_asked f.asked
+  pub notified : is_empty f.notified ≡ false
+  pub each_once : IsDistinct same_notified f.notified
   pub alive : IsAlive groups f.group
 
 -- a consistent state
 pub record IsSteady (s : State) : Type 0 where
-  pub clock : s.clock ≤ MAX_MOMENT
+  pub clock : s.clock ≤ MAX_TIME
   pub known : IsDistinct same_alert s.known
   pub groups : IsDistinct same_group s.groups
   pub tidy : AllByRecursion (IsTidy s.inserts) s.groups
@@ -48,7 +48,7 @@ held_from : (s : State) (f : FlushState) → IsOpen s.next_number s.groups f →
 held_from s f h =
     record {
       number = h.number;
-      asked = some_from (is_empty f.asked) h.asked;
+      notified = some_from (is_empty f.notified) h.notified;
       each_once = h.each_once;
       alive = some_from (is_empty (members_in s.groups f.group)) (ap is_empty (members_of-in s.groups f.group) ∙ h.alive);
     }
@@ -57,7 +57,7 @@ held_to : (s : State) (f : FlushState) → IsHeld s f → IsOpen s.next_number s
 held_to s f h =
     record {
       number = h.number;
-      asked = some_to (is_empty f.asked) h.asked;
+      notified = some_to (is_empty f.notified) h.notified;
       each_once = h.each_once;
       alive = ap is_empty (sym (members_of-in s.groups f.group)) ∙ some_to (is_empty (members_in s.groups f.group)) h.alive;
     }

@@ -1,4 +1,4 @@
--- An insert makes no more groups than it tells, and no other call makes any.
+-- An insert makes no more groups than it says, and no other call makes any.
 use Rattle.std.proofs.Common.{◌≡◌, ℕ, ◌+◌, ◌≤◌, Bool, true, false, cond, not, ◌||◌, Option, Some, None, List, [], ◌∷◌, length, refl, sym, ◌∙◌, subst, arith, if◌then◌else◌}
 use Rattle.std.specs.Prelude.{fold, count_by}
 use Rattle.std.specs.List.{list_any}
@@ -9,19 +9,19 @@ use Rattle.am_alerts.specs.AlertData.{AlertData}
 use Rattle.am_retry.specs.declared.outcome.Outcome.{Outcome}
 use Rattle.am_model.specs.declared.config.Config.{Config}
 use Rattle.am_model.specs.declared.config.Integration.{Integration}
-use Rattle.am_model.specs.declared.fault.Fault.TheVariants.{TooManyNames, TooManyGroups}
+use Rattle.am_model.specs.declared.fault.Fault.TheVariants.{TooManyAlerts, TooManyGroups}
 use Rattle.am_model.specs.declared.group.GroupName.{GroupName}
 use Rattle.am_model.specs.declared.record.Call.{Call}
 use Rattle.am_model.specs.declared.record.Call.TheVariants.{Insert, Silence, Begin, Finish, Maintain, Forget, Load, Note}
-use Rattle.am_model.specs.Begin.{taken, asked_of, after_asking, after_taking, begun_group, without_resolved}
+use Rattle.am_model.specs.Begin.{taken, notified_of, after_notifying, after_taking, begun_group, without_resolved}
 use Rattle.am_model.specs.Causes.{makes_too_many}
 use Rattle.am_model.specs.Finish.{after_finish_of, finished_group}
 use Rattle.am_model.specs.Insert.{same_group, names_for, group_or_new, group_with, put_into_group, inserted, after_insert, next_stamp}
 use Rattle.am_model.specs.Lists.{upsert, changed_where}
 use Rattle.am_model.specs.Note.{after_note, after_note_of, may_note}
 use Rattle.am_model.specs.Replay.{after_call}
-use Rattle.am_model.specs.State.{MemberState, GroupState, FlushState, State, at_moment, is_named, has_group, moment, flush_numbered}
-use Rattle.am_model.specs.Upkeep.{is_deserted}
+use Rattle.am_model.specs.State.{MemberState, GroupState, FlushState, State, at_time, is_named, has_group, time, flush_numbered}
+use Rattle.am_model.specs.Maintenance.{has_no_alerts}
 use Rattle.am_model.proofs.legal.Begins.{there-upsert}
 use Rattle.am_model.proofs.legal.BoundedAlerts.{length-upsert, length-put_known, length-filter, named-or_new}
 use Rattle.am_model.proofs.states.Alike.{same_name_equiv}
@@ -75,12 +75,12 @@ missing_is : (gs : List GroupState) (ns : List GroupName) → missing gs ns ≡ 
 missing_is gs ns = is_count_by (missing gs) (λ name. not (has_group gs name)) refl (λ x xs. refl) ns
 
 -- an insert passes no limit where it isn't refused for one
-pub few_inserted : (config : Config) (s : State) (t : ℕ) (a : AlertData) (known : Bool) → (if known then Some TooManyNames else (if makes_too_many config s a then Some TooManyGroups else None)) ≡ None → length (after_insert config s t a).groups ≤ config.limits.groups
+pub few_inserted : (config : Config) (s : State) (t : ℕ) (a : AlertData) (known : Bool) → (if known then Some TooManyAlerts else (if makes_too_many config s a then Some TooManyGroups else None)) ≡ None → length (after_insert config s t a).groups ≤ config.limits.groups
 few_inserted config s t a known none =
     let m : MemberState = record { alert = a; stamp = next_stamp s } in
     let few = few-each config t m (names_for config a.labels) s.groups in
     let made = missing_is s.groups (names_for config a.labels) in
-    elim known as (λ b. (if b then Some TooManyNames else (if makes_too_many config s a then Some TooManyGroups else None)) ≡ None → length (after_insert config s t a).groups ≤ config.limits.groups) [
+    elim known as (λ b. (if b then Some TooManyAlerts else (if makes_too_many config s a then Some TooManyGroups else None)) ≡ None → length (after_insert config s t a).groups ≤ config.limits.groups) [
       | true ↦ λ e. absurd (cc)
       | false ↦
           elim (makes_too_many config s a) as (λ b. makes_too_many config s a ≡ b → (if b then Some TooManyGroups else None) ≡ None → length (after_insert config s t a).groups ≤ config.limits.groups) [
@@ -103,13 +103,13 @@ IsInsert (Note now number integration outcome) = false
 length-changed : (test : GroupState → Bool) (f : GroupState → GroupState) (gs : List GroupState) → length (changed_where test f gs) ≡ length gs
 length-changed test f gs = length-map gs (λ x. if test x then f x else x)
 
-few_asking : (config : Config) (s : State) (t : ℕ) (g : GroupState) (asked : List (ℕ × Integration)) → length (after_asking config s t g asked).groups ≡ length s.groups
-few_asking config s t g [] = length-changed (is_named g.name) (λ h. without_resolved t (begun_group config t h)) s.groups
-few_asking config s t g (i ∷ is) = length-changed (is_named g.name) (begun_group config t) s.groups
+few_notifying : (config : Config) (s : State) (t : ℕ) (g : GroupState) (notified : List (ℕ × Integration)) → length (after_notifying config s t g notified).groups ≡ length s.groups
+few_notifying config s t g [] = length-changed (is_named g.name) (λ h. without_resolved t (begun_group config t h)) s.groups
+few_notifying config s t g (i ∷ is) = length-changed (is_named g.name) (begun_group config t) s.groups
 
 few_taking : (config : Config) (s : State) (t : ℕ) (o : Option GroupState) → length (after_taking config s t o).groups ≡ length s.groups
 few_taking config s t None = refl
-few_taking config s t (Some g) = few_asking config s t g (asked_of config s t g)
+few_taking config s t (Some g) = few_notifying config s t g (notified_of config s t g)
 
 few_finished : (config : Config) (s : State) (t : ℕ) (outcomes : List (ℕ × Outcome)) (o : Option FlushState) → length (after_finish_of config s t outcomes o).groups ≡ length s.groups
 few_finished config s t outcomes None = refl
@@ -119,7 +119,7 @@ few_noted : (config : Config) (s : State) (t integration : ℕ) (outcome : Optio
 few_noted config s t integration outcome None = refl
 few_noted config s t integration outcome (Some f) =
     let noted : State = after_note config s t integration f in
-    let moved : State = at_moment s t in
+    let moved : State = at_time s t in
     elim (may_note integration outcome f) as (λ b. length (cond b noted moved).groups ≡ length s.groups) [
       | true ↦ refl
       | false ↦ refl
@@ -128,9 +128,9 @@ few_noted config s t integration outcome (Some f) =
 pub few_others : (config : Config) (s : State) (call : Call) → IsInsert call ≡ false → length (after_call config s call).groups ≤ length s.groups
 few_others config s (Insert now alert) e = absurd (cc)
 few_others config s (Silence now number matchers start end) e = omega arith
-few_others config s (Begin now) e = omega (arith, few_taking config s (moment s now) (taken s (moment s now)))
-few_others config s (Finish now number outcomes) e = omega (arith, few_finished config s (moment s now) outcomes (flush_numbered s.flushes number))
-few_others config s (Maintain now) e = length-filter (λ g. not (is_deserted g)) s.groups
+few_others config s (Begin now) e = omega (arith, few_taking config s (time s now) (taken s (time s now)))
+few_others config s (Finish now number outcomes) e = omega (arith, few_finished config s (time s now) outcomes (flush_numbered s.flushes number))
+few_others config s (Maintain now) e = length-filter (λ g. not (has_no_alerts g)) s.groups
 few_others config s (Forget now) e = omega arith
 few_others config s (Load now row) e = omega arith
-few_others config s (Note now number integration outcome) e = omega (arith, few_noted config s (moment s now) integration outcome (flush_numbered s.flushes number))
+few_others config s (Note now number integration outcome) e = omega (arith, few_noted config s (time s now) integration outcome (flush_numbered s.flushes number))

@@ -8,13 +8,13 @@ use Rattle.am_model.specs.declared.config.Config.{Config}
 use Rattle.am_model.specs.declared.config.Integration.{Integration}
 use Rattle.am_model.specs.declared.record.Call.{Call}
 use Rattle.am_model.specs.declared.record.Call.TheVariants.{Insert, Silence, Begin, Finish, Maintain, Forget, Load, Note}
-use Rattle.am_model.specs.Begin.{taken, asked_of, after_asking, after_taking}
+use Rattle.am_model.specs.Begin.{taken, notified_of, after_notifying, after_taking}
 use Rattle.am_model.specs.Finish.{after_finish_of}
 use Rattle.am_model.specs.Forget.{is_idle}
 use Rattle.am_model.specs.Lists.{upsert}
 use Rattle.am_model.specs.Note.{after_note, after_note_of, may_note}
 use Rattle.am_model.specs.Replay.{after_call}
-use Rattle.am_model.specs.State.{GroupState, FlushState, State, at_moment, moment, flush_numbered}
+use Rattle.am_model.specs.State.{GroupState, FlushState, State, at_time, time, flush_numbered}
 use Rattle.am_model.proofs.legal.BoundedAlerts.{length-filter, length-upsert, length-put_known}
 use Rattle.am_model.proofs.legal.FewGroups.{IsInsert}
 
@@ -62,13 +62,13 @@ module _ (config : Config) (s : State) where
   abbrev pub KeepsKnown : State → Type 0
   KeepsKnown new = (new.known ≡ s.known) × (new.silences ≡ s.silences)
 
-  known_asking : (t : ℕ) (g : GroupState) (asked : List (ℕ × Integration)) → KeepsKnown (after_asking config s t g asked)
-  known_asking t g [] = (refl, refl)
-  known_asking t g (i ∷ is) = (refl, refl)
+  known_notifying : (t : ℕ) (g : GroupState) (notified : List (ℕ × Integration)) → KeepsKnown (after_notifying config s t g notified)
+  known_notifying t g [] = (refl, refl)
+  known_notifying t g (i ∷ is) = (refl, refl)
 
   known_taking : (t : ℕ) (o : Option GroupState) → KeepsKnown (after_taking config s t o)
   known_taking t None = (refl, refl)
-  known_taking t (Some g) = known_asking t g (asked_of config s t g)
+  known_taking t (Some g) = known_notifying t g (notified_of config s t g)
 
   known_finished : (t : ℕ) (outcomes : List (ℕ × Outcome)) (o : Option FlushState) → KeepsKnown (after_finish_of config s t outcomes o)
   known_finished t outcomes None = (refl, refl)
@@ -78,19 +78,19 @@ module _ (config : Config) (s : State) where
   known_noted t integration outcome None = (refl, refl)
   known_noted t integration outcome (Some f) =
       let noted : State = after_note config s t integration f in
-      let moved : State = at_moment s t in
+      let moved : State = at_time s t in
       elim (may_note integration outcome f) as (λ b. KeepsKnown (cond b noted moved)) [ true ↦ (refl, refl) | false ↦ (refl, refl) ]
 
   -- an insert and a forgetting alone change what is known, and a silence and a forgetting the silences
   pub known_others : (call : Call) → IsInsert call ≡ false → IsSilence call ≡ false → IsForget call ≡ false → KeepsKnown (after_call config s call)
   known_others (Insert now alert) e f g = absurd (cc)
   known_others (Silence now number matchers start end) e f g = absurd (cc)
-  known_others (Begin now) e f g = known_taking (moment s now) (taken s (moment s now))
-  known_others (Finish now number outcomes) e f g = known_finished (moment s now) outcomes (flush_numbered s.flushes number)
+  known_others (Begin now) e f g = known_taking (time s now) (taken s (time s now))
+  known_others (Finish now number outcomes) e f g = known_finished (time s now) outcomes (flush_numbered s.flushes number)
   known_others (Maintain now) e f g = (refl, refl)
   known_others (Forget now) e f g = absurd (cc)
   known_others (Load now row) e f g = (refl, refl)
-  known_others (Note now number integration outcome) e f g = known_noted (moment s now) integration outcome (flush_numbered s.flushes number)
+  known_others (Note now number integration outcome) e f g = known_noted (time s now) integration outcome (flush_numbered s.flushes number)
 
   -- no more is known, and there are no more silences
   abbrev pub KnowsNoMore : State → Type 0
@@ -108,8 +108,8 @@ module _ (config : Config) (s : State) where
       no_more (after_call config s (Finish now number outcomes)) (known_others (Finish now number outcomes) refl refl refl)
   fewer_others (Maintain now) e f = no_more (after_call config s (Maintain now)) (refl, refl)
   fewer_others (Forget now) e f = (
-    length-filter (λ a. not (is_idle s.groups (moment s now) a)) s.known,
-    length-filter (λ x. not (is_over (moment s now) x)) s.silences,
+    length-filter (λ a. not (is_idle s.groups (time s now) a)) s.known,
+    length-filter (λ x. not (is_over (time s now) x)) s.silences,
   )
   fewer_others (Load now row) e f = no_more (after_call config s (Load now row)) (refl, refl)
   fewer_others (Note now number integration outcome) e f =

@@ -7,21 +7,21 @@ use Rattle.std.proofs.lemmas.List.Sorted.{All-permutation}
 use Rattle.am_model.specs.declared.views.RowView.{RowView}
 use Rattle.am_model.specs.Lists.{in_order}
 use Rattle.am_model.specs.Load.{has_integration, is_ordered, may_load}
-use Rattle.am_model.specs.Rekey.{Reload, rekeyed, RekeyedHandoversMayBeLoaded, RestartsFindShownRows}
+use Rattle.am_model.specs.Rekey.{Reload, rekeyed, RekeyedDispatcherChangesMayBeLoaded, RestartsFindShownRows}
 use Rattle.am_model.specs.Replay.{replay}
-use Rattle.am_model.specs.State.{moment}
+use Rattle.am_model.specs.State.{time}
 use Rattle.am_model.specs.Views.{row_cmp}
 use Rattle.am_model.proofs.configuration.Rekeyed.{rekeyed_rows_may_be_loaded, restarts_find_rows}
 use Rattle.am_model.proofs.legal.Consistent.{consistent_replay}
-use Rattle.am_model.proofs.legal.LoadableRows.{moment-from, rows-load}
+use Rattle.am_model.proofs.legal.LoadableRows.{time-from, rows-load}
 use Rattle.am_model.proofs.lists.Distinct.{all_from, all-weaker}
 use Rattle.am_model.proofs.lists.Words.{in_order-moves}
 
-pub rekeyed_handovers_may_be_loaded : RekeyedHandoversMayBeLoaded
-rekeyed_handovers_may_be_loaded reload history s now later =
+pub rekeyed_dispatcher_changes_may_be_loaded : RekeyedDispatcherChangesMayBeLoaded
+rekeyed_dispatcher_changes_may_be_loaded reload history s now later =
     let rows = (replay reload.old history).rows in
-    let t = moment s now in
-    let from = moment-from s now (replay reload.old history).clock (consistent_replay reload.old history).clock later in
+    let t = time s now in
+    let from = time-from s now (replay reload.old history).clock (consistent_replay reload.old history).clock later in
     let P : RowView → Type 0 = λ row. All (λ found. may_load reload.new t found ≡ true) (rekeyed reload row) in
     All-permutation P rows (in_order row_cmp rows) (in_order-moves row_cmp rows)
     (all_from P rows
@@ -36,6 +36,6 @@ restarts_find_shown_rows config history =
     (all_from P s.rows
     (all-weaker (λ row. may_load config s.clock row ≡ true) P
     (λ row may.
-    let fit = (and_parts (has_integration config row && is_ordered row) (nat_le row.moment s.clock) may).0 in
+    let fit = (and_parts (has_integration config row && is_ordered row) (nat_le row.time s.clock) may).0 in
     restarts_find_rows config row (and_parts (has_integration config row) (is_ordered row) fit).0)
     s.rows (rows-load config history s.clock (omega arith))))

@@ -3,19 +3,19 @@ use Rattle.std.proofs.Common.{◌≡◌, ℕ, true, false, cond, max, min, Optio
 use Rattle.std.specs.Prelude.{fold}
 use Rattle.std.proofs.lemmas.List.Sums.{fold-append}
 use Rattle.am_retry.specs.declared.outcome.Outcome.{Outcome}
-use Rattle.am_alerts.specs.declared.limits.TheConstants.{MAX_MOMENT}
+use Rattle.am_alerts.specs.declared.limits.TheConstants.{MAX_TIME}
 use Rattle.am_model.specs.declared.config.Config.{Config}
 use Rattle.am_model.specs.declared.config.Integration.{Integration}
 use Rattle.am_model.specs.declared.record.Call.{Call}
 use Rattle.am_model.specs.declared.record.Call.TheVariants.{Insert, Silence, Begin, Finish, Maintain, Forget, Load, Note}
 use Rattle.am_model.specs.declared.record.Record.{Record}
-use Rattle.am_model.specs.Begin.{taken, asked_of, after_asking, after_taking}
+use Rattle.am_model.specs.Begin.{taken, notified_of, after_notifying, after_taking}
 use Rattle.am_model.specs.Finish.{after_finish_of}
 use Rattle.am_model.specs.Note.{may_note, after_note, after_note_of}
 use Rattle.am_model.specs.Records.{now_of}
-use Rattle.am_model.specs.Laws.{ReplayAppends, LegalAppends, ClockIsMoment, BeginningsAreLegal}
+use Rattle.am_model.specs.Laws.{ReplayAppends, LegalAppends, ClockIsTime, BeginningsAreLegal}
 use Rattle.am_model.specs.Replay.{reply, after, after_call, replay_from, IsLegalFrom}
-use Rattle.am_model.specs.State.{GroupState, FlushState, State, opening_state, moment, at_moment, flush_numbered}
+use Rattle.am_model.specs.State.{GroupState, FlushState, State, opening_state, time, at_time, flush_numbered}
 
 pub replay_appends : ReplayAppends
 replay_appends config history r = fold-append (after config) opening_state history (r ∷ [])
@@ -43,14 +43,14 @@ beginning_legal config id s (r ∷ beginning) rest h = (h.0, beginning_legal con
 pub beginnings_are_legal : BeginningsAreLegal
 beginnings_are_legal config id beginning rest h = beginning_legal config id opening_state beginning rest h
 
--- each begin leaves the clock at its moment
-asking_clock : (config : Config) (s : State) (t : ℕ) (g : GroupState) (asked : List (ℕ × Integration)) → (after_asking config s t g asked).clock ≡ t
-asking_clock config s t g [] = refl
-asking_clock config s t g (i ∷ is) = refl
+-- each begin leaves the clock at its time
+notifying_clock : (config : Config) (s : State) (t : ℕ) (g : GroupState) (notified : List (ℕ × Integration)) → (after_notifying config s t g notified).clock ≡ t
+notifying_clock config s t g [] = refl
+notifying_clock config s t g (i ∷ is) = refl
 
 taking_clock : (config : Config) (s : State) (t : ℕ) (g : Option GroupState) → (after_taking config s t g).clock ≡ t
 taking_clock config s t None = refl
-taking_clock config s t (Some g) = asking_clock config s t g (asked_of config s t g)
+taking_clock config s t (Some g) = notifying_clock config s t g (notified_of config s t g)
 
 -- so does each finish
 finish_clock : (config : Config) (s : State) (t : ℕ) (outcomes : List (ℕ × Outcome)) (f : Option FlushState) → (after_finish_of config s t outcomes f).clock ≡ t
@@ -61,25 +61,25 @@ finish_clock config s t outcomes (Some f) = refl
 note_clock : (config : Config) (s : State) (t integration : ℕ) (outcome : Option Outcome) (f : Option FlushState) → (after_note_of config s t integration outcome f).clock ≡ t
 note_clock config s t integration outcome None = refl
 note_clock config s t integration outcome (Some f) =
-    elim (may_note integration outcome f) as (λ b. (cond b (after_note config s t integration f) (at_moment s t)).clock ≡ t) [ true ↦ refl | false ↦ refl ]
+    elim (may_note integration outcome f) as (λ b. (cond b (after_note config s t integration f) (at_time s t)).clock ≡ t) [ true ↦ refl | false ↦ refl ]
 
--- each call leaves the clock at its moment
-pub after_clock : (config : Config) (s : State) (c : Call) → (after_call config s c).clock ≡ moment s (now_of c)
+-- each call leaves the clock at its time
+pub after_clock : (config : Config) (s : State) (c : Call) → (after_call config s c).clock ≡ time s (now_of c)
 after_clock config s (Insert now alert) = refl
 after_clock config s (Silence now number matchers start end) = refl
-after_clock config s (Begin now) = taking_clock config s (moment s now) (taken s (moment s now))
-after_clock config s (Finish now number outcomes) = finish_clock config s (moment s now) outcomes (flush_numbered s.flushes number)
+after_clock config s (Begin now) = taking_clock config s (time s now) (taken s (time s now))
+after_clock config s (Finish now number outcomes) = finish_clock config s (time s now) outcomes (flush_numbered s.flushes number)
 after_clock config s (Maintain now) = refl
 after_clock config s (Forget now) = refl
 after_clock config s (Load now row) = refl
 after_clock config s (Note now number integration outcome) =
-    note_clock config s (moment s now) integration outcome (flush_numbered s.flushes number)
+    note_clock config s (time s now) integration outcome (flush_numbered s.flushes number)
 
-clock_from : (config : Config) (s : State) (history : List Record) → (replay_from config s history).clock ≡ fold (λ t r. max t (min (now_of r.call) MAX_MOMENT)) s.clock history
+clock_from : (config : Config) (s : State) (history : List Record) → (replay_from config s history).clock ≡ fold (λ t r. max t (min (now_of r.call) MAX_TIME)) s.clock history
 clock_from config s [] = refl
 clock_from config s (r ∷ history) =
     clock_from config (after config s r) history
-    ∙ ap (λ t. fold (λ t r. max t (min (now_of r.call) MAX_MOMENT)) t history) (after_clock config s r.call)
+    ∙ ap (λ t. fold (λ t r. max t (min (now_of r.call) MAX_TIME)) t history) (after_clock config s r.call)
 
-pub clock_is_moment : ClockIsMoment
-clock_is_moment config history = clock_from config opening_state history
+pub clock_is_time : ClockIsTime
+clock_is_time config history = clock_from config opening_state history

@@ -17,7 +17,7 @@ use Rattle.am_model.specs.declared.group.GroupName.{GroupName}
 use Rattle.am_model.specs.declared.record.Call.{Call}
 use Rattle.am_model.specs.declared.record.Call.TheVariants.{Insert, Silence, Begin, Finish, Maintain, Forget, Load, Note}
 use Rattle.am_model.specs.declared.record.Record.{Record}
-use Rattle.am_model.specs.Begin.{taken, asked_of, begun_group, without_resolved, after_asking, after_taking}
+use Rattle.am_model.specs.Begin.{taken, notified_of, begun_group, without_resolved, after_notifying, after_taking}
 use Rattle.am_model.specs.Finish.{leaves_by, finished_group, after_finish_of}
 use Rattle.am_model.specs.Forget.{is_grouped, is_idle, after_forget}
 use Rattle.am_model.specs.Insert.{same_alert, same_member, same_group, names_for, next_stamp, new_group, group_or_new, group_with, put_into_group, after_insert}
@@ -25,8 +25,8 @@ use Rattle.am_model.specs.Laws.{IsConsistent, IsKnownMember, IsStampedAs, KnowsM
 use Rattle.am_model.specs.Lists.{upsert, changed_where}
 use Rattle.am_model.specs.Note.{may_note, after_note, after_note_of}
 use Rattle.am_model.specs.Replay.{after, after_call, replay, replay_from}
-use Rattle.am_model.specs.State.{MemberState, GroupState, FlushState, State, opening_state, at_moment, moment, same_name, is_named, flush_numbered}
-use Rattle.am_model.specs.Upkeep.{is_deserted}
+use Rattle.am_model.specs.State.{MemberState, GroupState, FlushState, State, opening_state, at_time, time, same_name, is_named, flush_numbered}
+use Rattle.am_model.specs.Maintenance.{has_no_alerts}
 use Rattle.am_model.proofs.legal.Consistent.{consistent_after, consistent_replay}
 use Rattle.am_model.proofs.legal.ConsistentState.{IsTidy, IsSteady, consistent_to}
 use Rattle.am_model.proofs.lists.Distinct.{IsDistinct-nil, all_from, all-both, all-filter, all-find, all-map, all-weaker, find-passes}
@@ -88,7 +88,7 @@ module _ (config : Config) (t : ℕ) (m : MemberState) (known : List AlertData) 
   abbrev all_names : List GroupName
   all_names = names_for config m.alert.labels
 
-  -- an alert is known as it stands, or it is the one that is put in, whose group comes later
+  -- an alert is known as it is, or it is the one that is put in, whose group comes later
   abbrev IsDue : List GroupName → GroupName → MemberState → Type 0
   IsDue rest name k = IsKnown config later later_stamps name k ⊎ ((same_member m k ≡ true) × IsAmong rest name)
 
@@ -227,15 +227,15 @@ module _ (config : Config) (known : List AlertData) (stamps : List Label → ℕ
       by g h false = h
 
 module _ (config : Config) (s : State) (stamps : List Label → ℕ) (h : KnowsBy config s stamps) (t : ℕ) where
-  known_asking : (g : GroupState) (asked : List (ℕ × Integration)) → KnowsBy config (after_asking config s t g asked) stamps
-  known_asking g [] =
+  known_notifying : (g : GroupState) (notified : List (ℕ × Integration)) → KnowsBy config (after_notifying config s t g notified) stamps
+  known_notifying g [] =
       known-changed config s.known stamps (is_named g.name) (λ k. without_resolved t (begun_group config t k))
       (λ k all. known-fewer config s.known stamps (λ m. not (is_resolved m.alert t)) k all) s.groups h
-  known_asking g (i ∷ is) = known-changed config s.known stamps (is_named g.name) (begun_group config t) (λ k all. all) s.groups h
+  known_notifying g (i ∷ is) = known-changed config s.known stamps (is_named g.name) (begun_group config t) (λ k all. all) s.groups h
 
   known_begin : (g : Option GroupState) → KnowsBy config (after_taking config s t g) stamps
   known_begin None = h
-  known_begin (Some g) = known_asking g (asked_of config s t g)
+  known_begin (Some g) = known_notifying g (notified_of config s t g)
 
   known_finish : (outcomes : List (ℕ × Outcome)) (f : Option FlushState) → KnowsBy config (after_finish_of config s t outcomes f) stamps
   known_finish outcomes None = h
@@ -246,7 +246,7 @@ module _ (config : Config) (s : State) (stamps : List Label → ℕ) (h : KnowsB
   known_note : (integration : ℕ) (outcome : Option Outcome) (f : Option FlushState) → KnowsBy config (after_note_of config s t integration outcome f) stamps
   known_note integration outcome None = h
   known_note integration outcome (Some f) =
-      elim (may_note integration outcome f) as (λ b. KnowsBy config (cond b (after_note config s t integration f) (at_moment s t)) stamps) [
+      elim (may_note integration outcome f) as (λ b. KnowsBy config (cond b (after_note config s t integration f) (at_time s t)) stamps) [
         | true ↦ h
         | false ↦ h
       ]
@@ -316,16 +316,16 @@ module _ (config : Config) (s : State) (stamps : List Label → ℕ) (t : ℕ) w
 -- ---- any list of records
 
 pub known_call : (config : Config) (s : State) (c : Call) → IsSteady s → KnowsAll config s → KnowsAll config (after_call config s c)
-known_call config s (Insert now alert) steady h = known_insert config s (moment s now) alert steady h
+known_call config s (Insert now alert) steady h = known_insert config s (time s now) alert steady h
 known_call config s (Silence now number matchers start end) steady h = h
-known_call config s (Begin now) steady h = (h.0, known_begin config s h.0 h.1 (moment s now) (taken s (moment s now)))
+known_call config s (Begin now) steady h = (h.0, known_begin config s h.0 h.1 (time s now) (taken s (time s now)))
 known_call config s (Finish now number outcomes) steady h =
-    (h.0, known_finish config s h.0 h.1 (moment s now) outcomes (flush_numbered s.flushes number))
-known_call config s (Maintain now) steady h = (h.0, all-filter (AreKnown config s.known h.0) (λ g. not (is_deserted g)) s.groups h.1)
-known_call config s (Forget now) steady h = (h.0, known_forget config s h.0 (moment s now) h.1)
+    (h.0, known_finish config s h.0 h.1 (time s now) outcomes (flush_numbered s.flushes number))
+known_call config s (Maintain now) steady h = (h.0, all-filter (AreKnown config s.known h.0) (λ g. not (has_no_alerts g)) s.groups h.1)
+known_call config s (Forget now) steady h = (h.0, known_forget config s h.0 (time s now) h.1)
 known_call config s (Load now row) steady h = h
 known_call config s (Note now number integration outcome) steady h =
-    (h.0, known_note config s h.0 h.1 (moment s now) integration outcome (flush_numbered s.flushes number))
+    (h.0, known_note config s h.0 h.1 (time s now) integration outcome (flush_numbered s.flushes number))
 
 known_from : (config : Config) (s : State) (history : List Record) → IsConsistent s → KnowsAll config s → KnowsAll config (replay_from config s history)
 known_from config s [] consistent h = h

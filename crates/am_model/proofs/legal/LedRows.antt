@@ -15,7 +15,7 @@ use Rattle.am_model.specs.declared.record.Call.{Call}
 use Rattle.am_model.specs.declared.record.Call.TheVariants.{Insert, Silence, Begin, Finish, Maintain, Forget, Load, Note}
 use Rattle.am_model.specs.declared.record.Record.{Record}
 use Rattle.am_model.specs.declared.views.RowView.{RowView}
-use Rattle.am_model.specs.Begin.{alert_cmp, due_cmp, may_begin, taken, copied, copy_under, copy_of, label_sets, firing_of, resolved_of, needs, asked_of, flush_asking, after_asking, after_taking}
+use Rattle.am_model.specs.Begin.{alert_cmp, due_cmp, may_begin, taken, copied, copy_under, copy_of, label_sets, firing_of, resolved_of, needs, notified_of, flush_notifying, after_notifying, after_taking}
 use Rattle.am_model.specs.Carry.{carried, is_led_to}
 use Rattle.am_model.specs.Configured.{integrations_of, route_muted, rules_of}
 use Rattle.am_model.specs.Finish.{same_key, log_with, row_at, logged_by, after_finish_of}
@@ -26,8 +26,8 @@ use Rattle.am_model.specs.Load.{has_integration, is_ordered, may_load, loaded, i
 use Rattle.am_model.specs.look_back.Entry.{row_in}
 use Rattle.am_model.specs.Note.{may_note, with_note, after_note, after_note_of}
 use Rattle.am_model.specs.Replay.{after, after_call, replay, replay_from}
-use Rattle.am_model.specs.State.{AskedState, MemberState, FlushState, GroupState, State, opening_state, at_moment, moment, same_name, flush_numbered}
-use Rattle.am_model.specs.Upkeep.{has_expired}
+use Rattle.am_model.specs.State.{NotifiedState, MemberState, FlushState, GroupState, State, opening_state, at_time, time, same_name, flush_numbered}
+use Rattle.am_model.specs.Maintenance.{has_expired}
 use Rattle.am_model.specs.Views.{row_cmp}
 use Rattle.am_model.proofs.configuration.Carried.{restarts_carry_rows}
 use Rattle.am_model.proofs.legal.Consistent.{consistent_after, consistent_replay}
@@ -85,34 +85,34 @@ module _ (config : Config) where
         all-map (λ (a : AlertData). a.labels) (λ (labels : List Label). goes labels ≡ true) (in_order alert_cmp xs)
         (all_to Goes (in_order alert_cmp xs) (All-permutation Goes xs (in_order alert_cmp xs) (in_order-moves alert_cmp xs) (all_from Goes xs all)))
 
-    -- one that asks somebody has an alert
-    asks-about : (i : ℕ × Integration) (is : List (ℕ × Integration)) → asked_of config s t g ≡ i ∷ is
+    -- one that notifies somebody has an alert
+    notifies-about : (i : ℕ × Integration) (is : List (ℕ × Integration)) → notified_of config s t g ≡ i ∷ is
         → (is_empty (label_sets (firing_of config s t g)) && is_empty (label_sets (resolved_of config s t g))) ≡ false
-    asks-about i is asked =
+    notifies-about i is notified =
         let firing = label_sets (firing_of config s t g) in
         let resolved = label_sets (resolved_of config s t g) in
         elim (is_empty firing && is_empty resolved) as (λ b. (cond b [] (filter (needs config s t g.name firing resolved) (integrations_of config g.name))) ≡ i ∷ is → b ≡ false) [
           | true ↦ λ e. absurd (cc)
           | false ↦ λ e. refl
-        ] asked
+        ] notified
 
-    opened : (i : ℕ × Integration) (is : List (ℕ × Integration)) → asked_of config s t g ≡ i ∷ is → AllByRecursion (λ m. Goes m.alert) g.members → HasAlert (flush_asking config s t g (i ∷ is))
-    opened i is asked all =
+    opened : (i : ℕ × Integration) (is : List (ℕ × Integration)) → notified_of config s t g ≡ i ∷ is → AllByRecursion (λ m. Goes m.alert) g.members → HasAlert (flush_notifying config s t g (i ∷ is))
+    opened i is notified all =
         let copy = copy_of config s t g in
         let each = copied-goes all in
-        any-of goes (label_sets (firing_of config s t g)) (label_sets (resolved_of config s t g)) (asks-about i is asked)
+        any-of goes (label_sets (firing_of config s t g)) (label_sets (resolved_of config s t g)) (notifies-about i is notified)
         (sets-go (without (λ a. is_resolved a t) copy) (all-filter Goes (λ a. not (is_resolved a t)) copy each))
         (sets-go (filter (λ a. is_resolved a t) copy) (all-filter Goes (λ a. is_resolved a t) copy each))
 
-    asking : (asked : List (ℕ × Integration)) → asked_of config s t g ≡ asked → AllByRecursion (λ m. Goes m.alert) g.members → HasLedRows s → HasLedRows (after_asking config s t g asked)
-    asking [] is all h = record { rows = h.rows; flushes = h.flushes }
-    asking (i ∷ more) is all h =
+    notifying : (notified : List (ℕ × Integration)) → notified_of config s t g ≡ notified → AllByRecursion (λ m. Goes m.alert) g.members → HasLedRows s → HasLedRows (after_notifying config s t g notified)
+    notifying [] is all h = record { rows = h.rows; flushes = h.flushes }
+    notifying (i ∷ more) is all h =
         record {
           rows = h.rows;
-          flushes = all-push HasAlert s.flushes (flush_asking config s t g (i ∷ more)) h.flushes (opened i more is all);
+          flushes = all-push HasAlert s.flushes (flush_notifying config s t g (i ∷ more)) h.flushes (opened i more is all);
         }
 
-  at : (s : State) (t : ℕ) → HasLedRows s → HasLedRows (at_moment s t)
+  at : (s : State) (t : ℕ) → HasLedRows s → HasLedRows (at_time s t)
   at s t h = record { rows = h.rows; flushes = h.flushes }
 
   taking : (s : State) (t : ℕ) (o : Option GroupState) → taken s t ≡ o → KnowsAll config s → HasLedRows s → HasLedRows (after_taking config s t o)
@@ -122,15 +122,15 @@ module _ (config : Config) where
       let due = filter (may_begin s t) s.groups in
       let each : AreKnown config s.known stamps g =
       all-least (AreKnown config s.known stamps) due_cmp g due (all-filter (AreKnown config s.known stamps) (may_begin s t) s.groups known.1) e in
-      asking s t g (asked_of config s t g) refl (all-weaker (IsKnown config s.known stamps g.name) (λ m. Goes s t g m.alert) (λ m k. k.routed) g.members each) h
+      notifying s t g (notified_of config s t g) refl (all-weaker (IsKnown config s.known stamps g.name) (λ m. Goes s t g m.alert) (λ m k. k.routed) g.members each) h
 
   -- ---- a finish, a note and a load
 
-  logged : (t : ℕ) (f : FlushState) (asked : List AskedState) (rows : List RowView) → HasAlert f → AllByRecursion IsLed rows
-      → AllByRecursion IsLed (fold (λ log a. log_with (row_at config t f a.integration) log) rows asked)
+  logged : (t : ℕ) (f : FlushState) (notified : List NotifiedState) (rows : List RowView) → HasAlert f → AllByRecursion IsLed rows
+      → AllByRecursion IsLed (fold (λ log a. log_with (row_at config t f a.integration) log) rows notified)
   logged t f [] rows own all = all
-  logged t f (a ∷ asked) rows own all =
-      logged t f asked (log_with (row_at config t f a.integration) rows) own (all-upsert same_key (row_at config t f a.integration) IsLed rows own all)
+  logged t f (a ∷ notified) rows own all =
+      logged t f notified (log_with (row_at config t f a.integration) rows) own (all-upsert same_key (row_at config t f a.integration) IsLed rows own all)
 
   finishing : (s : State) (t number : ℕ) (outcomes : List (ℕ × Outcome)) (o : Option FlushState) → flush_numbered s.flushes number ≡ o → HasLedRows s → HasLedRows (after_finish_of config s t outcomes o)
   finishing s t number outcomes None e h = at s t h
@@ -144,7 +144,7 @@ module _ (config : Config) where
       → HasLedRows (after_note_of config s t integration outcome o)
   noting s t number integration outcome None e h = at s t h
   noting s t number integration outcome (Some f) e h =
-      elim (may_note integration outcome f) as (λ b. HasLedRows (cond b (after_note config s t integration f) (at_moment s t))) [
+      elim (may_note integration outcome f) as (λ b. HasLedRows (cond b (after_note config s t integration f) (at_time s t))) [
         | true ↦ record {
           rows = all-upsert same_key (row_at config t f integration) IsLed s.rows (all-find HasAlert (λ k. k.number == number) f s.flushes h.flushes e) h.rows;
           flushes =
@@ -173,14 +173,14 @@ module _ (config : Config) where
   call : (s : State) (c : Call) → IsLedCall c → KnowsAll config s → HasLedRows s → HasLedRows (after_call config s c)
   call s (Insert now a) led known h = record { rows = h.rows; flushes = h.flushes }
   call s (Silence now number matchers start end) led known h = record { rows = h.rows; flushes = h.flushes }
-  call s (Begin now) led known h = taking s (moment s now) (taken s (moment s now)) refl known h
-  call s (Finish now number outcomes) led known h = finishing s (moment s now) number outcomes (flush_numbered s.flushes number) refl h
+  call s (Begin now) led known h = taking s (time s now) (taken s (time s now)) refl known h
+  call s (Finish now number outcomes) led known h = finishing s (time s now) number outcomes (flush_numbered s.flushes number) refl h
   call s (Maintain now) led known h =
-      record { rows = all-filter IsLed (λ row. not (has_expired (moment s now) row)) s.rows h.rows; flushes = h.flushes }
+      record { rows = all-filter IsLed (λ row. not (has_expired (time s now) row)) s.rows h.rows; flushes = h.flushes }
   call s (Forget now) led known h = record { rows = h.rows; flushes = h.flushes }
-  call s (Load now row) led known h = record { rows = loading s.rows (moment s now) row (led row refl) h.rows; flushes = h.flushes }
+  call s (Load now row) led known h = record { rows = loading s.rows (time s now) row (led row refl) h.rows; flushes = h.flushes }
   call s (Note now number integration outcome) led known h =
-      noting s (moment s now) number integration outcome (flush_numbered s.flushes number) refl h
+      noting s (time s now) number integration outcome (flush_numbered s.flushes number) refl h
 
   each : (s : State) (history : List Record) → AllByRecursion (λ r. IsLedCall r.call) history → IsConsistent s → KnowsAll config s → HasLedRows s → HasLedRows (replay_from config s history)
   each s [] led consistent known h = h
@@ -202,6 +202,6 @@ restarts_keep_rows config history led =
     (all_from P s.rows
     (all-both (λ row. may_load config s.clock row ≡ true) (λ row. is_led_to config row ≡ true) P
     (λ row may leads.
-    let fit = (and_parts (has_integration config row && is_ordered row) (nat_le row.moment s.clock) may).0 in
+    let fit = (and_parts (has_integration config row && is_ordered row) (nat_le row.time s.clock) may).0 in
     restarts_carry_rows config row (and_parts (has_integration config row) (is_ordered row) fit).0 leads)
     s.rows (rows-load config history s.clock (omega arith)) (rows-led config history led)))

@@ -11,7 +11,7 @@ use Rattle.std.specs.List.{remove, position_or_len, IsDistinct, AllByRecursion}
 use Rattle.std.proofs.lemmas.Map.Keys.{IsDistinct-head, IsDistinct-tail}
 use Rattle.am_model.specs.Lists.{without, changed_where}
 
--- the element at a place passes, and no other one does
+-- the element at an index passes, and no other one does
 abbrev pub IsAlone : {X : Type 0} → (X → Bool) → List X → ℕ → Type 0
 IsAlone test [] i = ⊥
 IsAlone test (x ∷ xs) zero = (test x ≡ true) × AllByRecursion (λ y. test y ≡ false) xs

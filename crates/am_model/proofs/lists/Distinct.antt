@@ -105,9 +105,9 @@ all-none test (x ∷ xs) none =
     ] refl none
 
 module _ {X Y : Type 0} (f : X → Y) where
-  -- what holds of what is told of each element
-  pub all-told : (P : Y → Type 0) (xs : List X) → All P (map f xs) → All (λ x. P (f x)) xs
-  all-told P xs all i d within = subst P (get_or-map f xs i d (f d) within) (all i (f d) (omega (arith, length-map xs f, within)))
+  -- what holds of what is reported of each element
+  pub all-mapped : (P : Y → Type 0) (xs : List X) → All P (map f xs) → All (λ x. P (f x)) xs
+  all-mapped P xs all i d within = subst P (get_or-map f xs i d (f d) within) (all i (f d) (omega (arith, length-map xs f, within)))
 
   pub all-map : (P : Y → Type 0) (xs : List X) → AllByRecursion (λ x. P (f x)) xs → AllByRecursion P (map f xs)
   all-map P [] all = tt
@@ -117,7 +117,7 @@ module _ {X Y : Type 0} (f : X → Y) where
   all-unmap P [] all = tt
   all-unmap P (x ∷ xs) all = (all.0, all-unmap P xs all.1)
 
-  -- elements that are told apart by what is told of each
+  -- elements that are distinguished by what is reported of each
   pub IsDistinct-unmap : (like : Y → Y → Bool) (xs : List X) → IsDistinct like (map f xs) → IsDistinct (λ x y. like (f x) (f y)) xs
   IsDistinct-unmap like [] h = IsDistinct-nil (λ x y. like (f x) (f y))
   IsDistinct-unmap like (x ∷ xs) h =
@@ -151,7 +151,7 @@ module _ {X : Type 0} (like : X → X → Bool) where
       let rest = IsDistinct-last xs x (IsDistinct-tail like y (xs ++ x ∷ []) h) in
       (IsDistinct-cons like y xs head.0 rest.0, (head.1, rest.1))
 
-  -- elements that another test tells apart
+  -- elements that another test says apart
   pub IsDistinct-alike : (other : X → X → Bool) → ((x y : X) → other x y ≡ like x y) → (xs : List X) → IsDistinct like xs → IsDistinct other xs
   IsDistinct-alike other same [] h = IsDistinct-nil other
   IsDistinct-alike other same (x ∷ xs) h =
@@ -159,10 +159,10 @@ module _ {X : Type 0} (like : X → X → Bool) where
       (all-weaker (λ y. like x y ≡ false) (λ y. other x y ≡ false) (λ y e. same x y ∙ e) xs (IsDistinct-head like x xs h))
       (IsDistinct-alike other same xs (IsDistinct-tail like x xs h))
 
-  -- what is made of elements that differ, where it keeps what they are told apart by
-  pub IsDistinct-told : {Y : Type 0} (alike : Y → Y → Bool) (f : X → Y) → ((x y : X) → alike (f x) (f y) ≡ like x y) → (xs : List X) → IsDistinct like xs → IsDistinct alike (map f xs)
-  IsDistinct-told alike f told xs h = IsDistinct-map f alike xs (IsDistinct-alike (λ x y. alike (f x) (f y)) told xs h)
+  -- what is made of elements that differ, where it keeps what they are distinguished by
+  pub IsDistinct-mapped : {Y : Type 0} (alike : Y → Y → Bool) (f : X → Y) → ((x y : X) → alike (f x) (f y) ≡ like x y) → (xs : List X) → IsDistinct like xs → IsDistinct alike (map f xs)
+  IsDistinct-mapped alike f agrees xs h = IsDistinct-map f alike xs (IsDistinct-alike (λ x y. alike (f x) (f y)) agrees xs h)
 
   -- a change that the test doesn't see
   pub IsDistinct-changed : (f : X → X) → ((x y : X) → like (f x) (f y) ≡ like x y) → (xs : List X) → IsDistinct like xs → IsDistinct like (map f xs)
-  IsDistinct-changed f same xs h = IsDistinct-told like f same xs h
+  IsDistinct-changed f same xs h = IsDistinct-mapped like f same xs h

@@ -10,7 +10,7 @@ use Rattle.am_model.specs.Lists.{upsert, without}
 
 -- a relation of lists that an exchange of the first two elements keeps, and one more element in front, holds of each two lists that are permutations of each other
 module _ {X : Type 0} (R : List X → List X → Type 0) (same : (xs : List X) → R xs xs) (more : (x : X) (xs ys : List X) → R xs ys → R (x ∷ xs) (x ∷ ys)) (two : (x y : X) (xs : List X) → R (x ∷ y ∷ xs) (y ∷ x ∷ xs)) (chain : (xs ys zs : List X) → R xs ys → R ys zs → R xs zs) where
-  -- the first element and a later one change places
+  -- the first element and a later one change indexes
   first_and : (x : X) (xs : List X) (j : ℕ) (d : X) → j < length xs → R (x ∷ xs) (get_or xs j d ∷ set xs j x)
   first_and x [] j d h = absurd (omega arith)
   first_and x (y ∷ ys) zero d h = two x y ys

@@ -179,17 +179,17 @@ pub is_ascending-map : {X Y : Type 0} (cmp : Y → Y → Ordering) (key : X → 
 is_ascending-map cmp key [] = refl
 is_ascending-map cmp key (x ∷ xs) = λ i. list_all-map (λ y. is_lt (cmp (key x) y)) key xs i && is_ascending-map cmp key xs i
 
--- a list of elements that a test tells apart, where the test answers as ties do
+-- a list of elements that a test says apart, where the test answers as ties do
 pub apart_by_ties : {X : Type 0} (like : X → X → Bool) (cmp : X → X → Ordering) → ((x y : X) → like x y ≡ eq_by_cmp cmp x y) → (xs : List X) → IsDistinct like xs → IsDistinct (eq_by_cmp cmp) xs
-apart_by_ties like cmp told xs h = subst (λ e. IsDistinct e xs) (λ i x y. told x y i) h
+apart_by_ties like cmp agrees xs h = subst (λ e. IsDistinct e xs) (λ i x y. agrees x y i) h
 
 -- ---- what is made of the elements in order
 
-module _ {X Y : Type 0} (cmp : X → X → Ordering) (other : Y → Y → Ordering) (f : X → Y) (told : (x y : X) → other (f x) (f y) ≡ cmp x y) where
+module _ {X Y : Type 0} (cmp : X → X → Ordering) (other : Y → Y → Ordering) (f : X → Y) (agrees : (x y : X) → other (f x) (f y) ≡ cmp x y) where
   put_in_order-map : (x : X) (xs : List X) → map f (put_in_order cmp x xs) ≡ put_in_order other (f x) (map f xs)
   put_in_order-map x [] = refl
   put_in_order-map x (y ∷ ys) =
-      by (is_gt (cmp x y)) (put_in_order-map x ys) ∙ ap (λ o. cond (is_gt o) (f y ∷ put_in_order other (f x) (map f ys)) (f x ∷ f y ∷ map f ys)) (sym (told x y))
+      by (is_gt (cmp x y)) (put_in_order-map x ys) ∙ ap (λ o. cond (is_gt o) (f y ∷ put_in_order other (f x) (map f ys)) (f x ∷ f y ∷ map f ys)) (sym (agrees x y))
     where
       by : (b : Bool) → map f (put_in_order cmp x ys) ≡ put_in_order other (f x) (map f ys) → map f (cond b (y ∷ put_in_order cmp x ys) (x ∷ y ∷ ys)) ≡ cond b (f y ∷ put_in_order other (f x) (map f ys)) (f x ∷ f y ∷ map f ys)
       by true rest = ap (λ l. f y ∷ l) rest

@@ -102,14 +102,14 @@ module _ {X Y : Type 0} where
       by None = refl
       by (Some y) = refl
 
--- where no two are alike, one that passes two tests of which the first is told by being alike is the one that is found
+-- where no two are alike, one that passes two tests of which the first is reported by being alike is the one that is found
 pub any-found : {X : Type 0} (like : X → X → Bool) (test also : X → Bool) → ((x y : X) → test x ≡ true → test y ≡ true → like x y ≡ true) → (xs : List X) → IsDistinct like xs
     → list_any (λ x. test x && also x) xs ≡ passes also (find test xs)
-any-found like test also tells [] h = refl
-any-found {X} like test also tells (x ∷ xs) h =
+any-found like test also agrees [] h = refl
+any-found {X} like test also agrees (x ∷ xs) h =
     elim (test x) as (λ b. test x ≡ b → ((b && also x) || list_any (λ y. test y && also y) xs) ≡ passes also (cond b (Some x) (find test xs))) [
       | true ↦ λ e. ap (λ b. also x || b) (none xs (IsDistinct-head like x xs h) e) ∙ or_none (also x)
-      | false ↦ λ e. any-found like test also tells xs (IsDistinct-tail like x xs h)
+      | false ↦ λ e. any-found like test also agrees xs (IsDistinct-tail like x xs h)
     ] refl
   where
     or_none : (b : Bool) → (b || false) ≡ b
@@ -117,7 +117,7 @@ any-found {X} like test also tells (x ∷ xs) h =
     or_none false = refl
 
     no : (y : X) (b : Bool) → test y ≡ b → like x y ≡ false → test x ≡ true → (b && also y) ≡ false
-    no y true e apart own = absurd (false≢true (sym apart ∙ tells x y own e))
+    no y true e apart own = absurd (false≢true (sym apart ∙ agrees x y own e))
     no y false e apart own = refl
 
     none : (ys : List X) → AllByRecursion (λ y. like x y ≡ false) ys → test x ≡ true → list_any (λ y. test y && also y) ys ≡ false

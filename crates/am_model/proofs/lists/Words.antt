@@ -1,4 +1,4 @@
--- The words on the lists of a state, as code that looks a place up and then writes or pushes meets them.
+-- The words on the lists of a state, as code that looks an index up and then writes or pushes meets them.
 use Rattle.std.proofs.Common.{◌≡◌, ◌+◌, Bool, true, false, cond, not, ◌||◌, Some, None, List, [], ◌∷◌, ◌++◌, refl, sym, ap, ◌∙◌}
 use Rattle.std.specs.Prelude.{find, slice_set, IsPermutation}
 use Rattle.std.specs.List.{list_any, position_or_len, IsDistinct, AllByRecursion}

@@ -17,7 +17,7 @@ use Rattle.am_model.specs.declared.config.Integration.{Integration}
 use Rattle.am_model.specs.declared.record.Call.{Call}
 use Rattle.am_model.specs.declared.record.Call.TheVariants.{Insert, Silence, Begin, Finish, Maintain, Forget, Load, Note}
 use Rattle.am_model.specs.Records.{flush_reply}
-use Rattle.am_model.specs.Begin.{alert_cmp, label_sets, copied, copy_of, firing_of, resolved_of, asked_about, asked_of, sent, deadline_of, leaving_of, begun_group, reply_asking, reply_taking, flush_asking, after_asking, after_taking, taken}
+use Rattle.am_model.specs.Begin.{alert_cmp, label_sets, copied, copy_of, firing_of, resolved_of, notified_about, notified_of, sent, deadline_of, leaving_of, begun_group, reply_notifying, reply_taking, flush_notifying, after_notifying, after_taking, taken}
 use Rattle.am_model.specs.Configured.{rules_of, route_muted}
 use Rattle.am_model.specs.Finish.{after_finish_of}
 use Rattle.am_model.specs.Forget.{is_grouped, is_idle, after_forget}
@@ -27,8 +27,8 @@ use Rattle.am_model.specs.Lists.{upsert, without, unless, changed_where, in_orde
 use Rattle.am_model.specs.Note.{may_note, after_note, after_note_of}
 use Rattle.am_model.specs.Notice.{NoticeData}
 use Rattle.am_model.specs.Replay.{reply, after_call}
-use Rattle.am_model.specs.State.{GroupState, AskedState, FlushState, State, at_moment, moment, is_named, flush_numbered}
-use Rattle.am_model.specs.Upkeep.{same_silence}
+use Rattle.am_model.specs.State.{GroupState, NotifiedState, FlushState, State, at_time, time, is_named, flush_numbered}
+use Rattle.am_model.specs.Maintenance.{same_silence}
 use Rattle.am_model.proofs.legal.FewKnown.{known_others}
 use Rattle.am_model.proofs.legal.Histories.{after_clock}
 use Rattle.am_model.proofs.lists.Distinct.{IsDistinct-filter}
@@ -72,7 +72,7 @@ blind-over t u later test blind x e = blind x (still-over x t u later e)
 since : (s : State) (t u : ℕ) → s.clock ≤ t → t ≤ u → s.clock ≤ u
 since s t u later come = omega (arith, later, come)
 
--- without what is idle and what is over at a moment
+-- without what is idle and what is over at a time
 alike-forgotten : (s : State) (ks : List AlertData) (xs : List SilenceData) (t : ℕ) → s.clock ≤ t → AreAlike s ks xs
     → AreAlike (after_forget s t) (without (is_idle s.groups t) ks) (without (is_over t) xs)
 alike-forgotten s ks xs t later h =
@@ -92,7 +92,7 @@ alike-forgotten s ks xs t later h =
     }
 
 -- a forgetting leaves such
-alike-at_first : (s : State) (t : ℕ) → IsConsistent s → AreAlike (at_moment s t) (without (is_idle s.groups t) s.known) (without (is_over t) s.silences)
+alike-at_first : (s : State) (t : ℕ) → IsConsistent s → AreAlike (at_time s t) (without (is_idle s.groups t) s.known) (without (is_over t) s.silences)
 alike-at_first s t consistent =
     record {
       known = λ u come test blind. any-blind (is_idle s.groups t) test (blind-idle s.groups t u come test blind) s.known;
@@ -125,29 +125,29 @@ module _ (config : Config) (s : State) (ks : List AlertData) (xs : List SilenceD
       resolved : resolved_of config other t g ≡ resolved_of config s t g
       resolved = ap (λ c. in_order alert_cmp (filter (λ a. is_resolved a t) c)) copy
 
-      asked : asked_of config other t g ≡ asked_of config s t g
-      asked = λ j. asked_about config s t g.name (label_sets (firing j)) (label_sets (resolved j))
+      notified : notified_of config other t g ≡ notified_of config s t g
+      notified = λ j. notified_about config s t g.name (label_sets (firing j)) (label_sets (resolved j))
 
-      told-asking : (id : ℕ) (is : List (ℕ × Integration)) → reply_asking config id other t g is ≡ reply_asking config id s t g is
-      told-asking id [] = refl
-      told-asking id (i ∷ is) =
+      returned-notifying : (id : ℕ) (is : List (ℕ × Integration)) → reply_notifying config id other t g is ≡ reply_notifying config id s t g is
+      returned-notifying id [] = refl
+      returned-notifying id (i ∷ is) =
           λ j. flush_reply s.next_number g.name (deadline_of config t g) (map (λ (k : ℕ × Integration).
-          let n : NoticeData = record { desk = id; ticket = s.next_number; deadline = deadline_of config t g; group = g.name; integration = k.0; firing = firing j; resolved = sent k.1 (resolved j) } in n) (i ∷ is))
+          let n : NoticeData = record { board_id = id; ticket = s.next_number; deadline = deadline_of config t g; group = g.name; integration = k.0; firing = firing j; resolved = sent k.1 (resolved j) } in n) (i ∷ is))
 
-      opened : (is : List (ℕ × Integration)) → flush_asking config other t g is ≡ flush_asking config s t g is
+      opened : (is : List (ℕ × Integration)) → flush_notifying config other t g is ≡ flush_notifying config s t g is
       opened is =
           λ j. record {
             number = s.next_number;
             group = g.name;
-            asked = map (λ (k : ℕ × Integration). let a : AskedState = record { integration = k.0; nothing = is_empty (firing j) && is_empty (sent k.1 (resolved j)); noted = false } in a) is;
+            notified = map (λ (k : ℕ × Integration). let a : NotifiedState = record { integration = k.0; nothing = is_empty (firing j) && is_empty (sent k.1 (resolved j)); noted = false } in a) is;
             firing = label_sets (firing j);
             resolved = label_sets (resolved j);
             leaving = leaving_of t g;
           }
 
-      then-asking : (is : List (ℕ × Integration)) → after_asking config other t g is ≡ with_others ks xs (after_asking config s t g is)
-      then-asking [] = refl
-      then-asking (i ∷ is) =
+      then-notifying : (is : List (ℕ × Integration)) → after_notifying config other t g is ≡ with_others ks xs (after_notifying config s t g is)
+      then-notifying [] = refl
+      then-notifying (i ∷ is) =
           λ j. record s {
             clock = t;
             known = ks;
@@ -157,13 +157,13 @@ module _ (config : Config) (s : State) (ks : List AlertData) (xs : List SilenceD
             next_number = s.next_number + 1;
           }
 
-    told-taking : (id : ℕ) (o : Option GroupState) → reply_taking config id other t o ≡ reply_taking config id s t o
-    told-taking id None = refl
-    told-taking id (Some g) = ap (reply_asking config id other t g) (asked g) ∙ told-asking g id (asked_of config s t g)
+    returned-taking : (id : ℕ) (o : Option GroupState) → reply_taking config id other t o ≡ reply_taking config id s t o
+    returned-taking id None = refl
+    returned-taking id (Some g) = ap (reply_notifying config id other t g) (notified g) ∙ returned-notifying g id (notified_of config s t g)
 
     then-taking : (o : Option GroupState) → after_taking config other t o ≡ with_others ks xs (after_taking config s t o)
     then-taking None = refl
-    then-taking (Some g) = ap (after_asking config other t g) (asked g) ∙ then-asking g (asked_of config s t g)
+    then-taking (Some g) = ap (after_notifying config other t g) (notified g) ∙ then-notifying g (notified_of config s t g)
 
   -- ---- one call
 
@@ -174,25 +174,25 @@ module _ (config : Config) (s : State) (ks : List AlertData) (xs : List SilenceD
   then-note : (t integration : ℕ) (outcome : Option Outcome) (o : Option FlushState) → after_note_of config other t integration outcome o ≡ with_others ks xs (after_note_of config s t integration outcome o)
   then-note t integration outcome None = refl
   then-note t integration outcome (Some f) =
-      elim (may_note integration outcome f) as (λ b. cond b (after_note config other t integration f) (at_moment other t) ≡ with_others ks xs (cond b (after_note config s t integration f) (at_moment s t))) [
+      elim (may_note integration outcome f) as (λ b. cond b (after_note config other t integration f) (at_time other t) ≡ with_others ks xs (cond b (after_note config s t integration f) (at_time s t))) [
         | true ↦ refl
         | false ↦ refl
       ]
 
   -- no call is before the clock
-  later : (now : ℕ) → s.clock ≤ moment s now
+  later : (now : ℕ) → s.clock ≤ time s now
   later now = omega arith
 
-  -- a call is told the same, but for what bare replies leave out, and leads to such states again
+  -- a call returns the same, but for what bare replies leave out, and leads to such states again
   record IsSame (c : Call) : Type 0 where
-    told : (id : ℕ) → option_map bare_reply (reply config id other c) ≡ option_map bare_reply (reply config id s c)
+    returned : (id : ℕ) → option_map bare_reply (reply config id other c) ≡ option_map bare_reply (reply config id s c)
     known : List AlertData
     silences : List SilenceData
     state : after_call config other c ≡ with_others known silences (after_call config s c)
     alike : AreAlike (after_call config s c) known silences
 
   -- a state whose known alerts and silences stay
-  still : (s' : State) (now : ℕ) → s'.clock ≡ moment s now → s'.known ≡ s.known → s'.silences ≡ s.silences → AreAlike s' ks xs
+  still : (s' : State) (now : ℕ) → s'.clock ≡ time s now → s'.known ≡ s.known → s'.silences ≡ s.silences → AreAlike s' ks xs
   still s' now clock known silences =
       record {
         known = λ u come test blind. h.known u (omega (arith, clock, come)) test blind ∙ sym (ap (list_any test) known);
@@ -209,13 +209,13 @@ module _ (config : Config) (s : State) (ks : List AlertData) (xs : List SilenceD
   same : (c : Call) → IsSame c
   same (Insert now a) =
       record {
-        told = λ id. refl;
+        returned = λ id. refl;
         known = upsert same_alert a ks;
         silences = xs;
         state = refl;
         alike = record {
-          known = λ u come. put-alike same_alert same_alert_equiv a ks s.known h.known_apart h.own_known (λ b. is_resolved b u) (h.known u (since s (moment s now) u (later now) come));
-          silences = λ u come. h.silences u (since s (moment s now) u (later now) come);
+          known = λ u come. put-alike same_alert same_alert_equiv a ks s.known h.known_apart h.own_known (λ b. is_resolved b u) (h.known u (since s (time s now) u (later now) come));
+          silences = λ u come. h.silences u (since s (time s now) u (later now) come);
           known_apart = IsDistinct-upsert same_alert same_alert_equiv a ks h.known_apart;
           own_known = IsDistinct-upsert same_alert same_alert_equiv a s.known h.own_known;
           silences_apart = h.silences_apart;
@@ -225,13 +225,13 @@ module _ (config : Config) (s : State) (ks : List AlertData) (xs : List SilenceD
   same (Silence now number matchers start end) =
       let x = silence_of number matchers start end in
       record {
-        told = λ id. refl;
+        returned = λ id. refl;
         known = ks;
         silences = upsert same_silence x xs;
         state = refl;
         alike = record {
-          known = λ u come. h.known u (since s (moment s now) u (later now) come);
-          silences = λ u come. put-alike same_silence same_silence_equiv x xs s.silences h.silences_apart h.own_silences (is_over u) (h.silences u (since s (moment s now) u (later now) come));
+          known = λ u come. h.known u (since s (time s now) u (later now) come);
+          silences = λ u come. put-alike same_silence same_silence_equiv x xs s.silences h.silences_apart h.own_silences (is_over u) (h.silences u (since s (time s now) u (later now) come));
           known_apart = h.known_apart;
           own_known = h.own_known;
           silences_apart = IsDistinct-upsert same_silence same_silence_equiv x xs h.silences_apart;
@@ -239,10 +239,10 @@ module _ (config : Config) (s : State) (ks : List AlertData) (xs : List SilenceD
         };
       }
   same (Begin now) =
-      let t = moment s now in
+      let t = time s now in
       let kept = known_others config s (Begin now) refl refl refl in
       record {
-        told = λ id. ap (λ p. Some (bare_reply p)) (told-taking t (later now) id (taken s t));
+        returned = λ id. ap (λ p. Some (bare_reply p)) (returned-taking t (later now) id (taken s t));
         known = ks;
         silences = xs;
         state = then-taking t (later now) (taken s t);
@@ -251,15 +251,15 @@ module _ (config : Config) (s : State) (ks : List AlertData) (xs : List SilenceD
   same (Finish now number outcomes) =
       let kept = known_others config s (Finish now number outcomes) refl refl refl in
       record {
-        told = λ id. refl;
+        returned = λ id. refl;
         known = ks;
         silences = xs;
-        state = then-finish (moment s now) outcomes (flush_numbered s.flushes number);
+        state = then-finish (time s now) outcomes (flush_numbered s.flushes number);
         alike = still (after_call config s (Finish now number outcomes)) now (after_clock config s (Finish now number outcomes)) kept.0 kept.1;
       }
   same (Maintain now) =
       record {
-        told = λ id. refl;
+        returned = λ id. refl;
         known = ks;
         silences = xs;
         state = refl;
@@ -267,15 +267,15 @@ module _ (config : Config) (s : State) (ks : List AlertData) (xs : List SilenceD
       }
   same (Forget now) =
       record {
-        told = λ id. refl;
-        known = without (is_idle s.groups (moment s now)) ks;
-        silences = without (is_over (moment s now)) xs;
+        returned = λ id. refl;
+        known = without (is_idle s.groups (time s now)) ks;
+        silences = without (is_over (time s now)) xs;
         state = refl;
-        alike = alike-forgotten s ks xs (moment s now) (later now) h;
+        alike = alike-forgotten s ks xs (time s now) (later now) h;
       }
   same (Load now row) =
       record {
-        told = λ id. refl;
+        returned = λ id. refl;
         known = ks;
         silences = xs;
         state = refl;
@@ -284,10 +284,10 @@ module _ (config : Config) (s : State) (ks : List AlertData) (xs : List SilenceD
   same (Note now number integration outcome) =
       let kept = known_others config s (Note now number integration outcome) refl refl refl in
       record {
-        told = λ id. refl;
+        returned = λ id. refl;
         known = ks;
         silences = xs;
-        state = then-note (moment s now) integration outcome (flush_numbered s.flushes number);
+        state = then-note (time s now) integration outcome (flush_numbered s.flushes number);
         alike = still (after_call config s (Note now number integration outcome)) now (after_clock config s (Note now number integration outcome)) kept.0 kept.1;
       }
 
@@ -299,7 +299,7 @@ replies-alike config id [] s ks xs h = refl
 replies-alike config id (c ∷ cs) s ks xs h =
     let one = same config s ks xs h c in
     let rest = ap (λ (s' : State). replies_from config id s' cs) one.state ∙ replies-alike config id cs (after_call config s c) one.known one.silences one.alike in
-    λ j. one.told id j ∷ rest j
+    λ j. one.returned id j ∷ rest j
 
 state-alike : (config : Config) (calls : List Call) (s : State) (ks : List AlertData) (xs : List SilenceData) → AreAlike s ks xs
     → bare_state (state_from config (with_others ks xs s) calls) ≡ bare_state (state_from config s calls)
@@ -310,8 +310,8 @@ state-alike config (c ∷ cs) s ks xs h =
 
 pub changes_no_reply : ForgettingChangesNoReply
 changes_no_reply config id s t calls consistent =
-    replies-alike config id calls (at_moment s t) (without (is_idle s.groups t) s.known) (without (is_over t) s.silences) (alike-at_first s t consistent)
+    replies-alike config id calls (at_time s t) (without (is_idle s.groups t) s.known) (without (is_over t) s.silences) (alike-at_first s t consistent)
 
 pub changes_no_state : ForgettingChangesNoState
 changes_no_state config s t calls consistent =
-    state-alike config calls (at_moment s t) (without (is_idle s.groups t) s.known) (without (is_over t) s.silences) (alike-at_first s t consistent)
+    state-alike config calls (at_time s t) (without (is_idle s.groups t) s.known) (without (is_over t) s.silences) (alike-at_first s t consistent)

@@ -1,7 +1,7 @@
 -- What looking back says of every legal history, in one.
 use Rattle.am_model.specs.look_back.Laws.{EveryLegalHistory, LooksBack}
 use Rattle.am_model.proofs.looking_back.alerts.AlertsShown.{shown_alerts_are_found}
-use Rattle.am_model.proofs.looking_back.reasons.AskedRightly.{begins_notify_exactly_whom_needed, notices_list_present_alerts}
+use Rattle.am_model.proofs.looking_back.reasons.NotifiedRightly.{begins_notify_exactly_whom_needed, notices_list_present_alerts}
 use Rattle.am_model.proofs.looking_back.flushes.BeginIntervals.{begins_keep_the_interval}
 use Rattle.am_model.proofs.legal.Consistent.{consistent_replay}
 use Rattle.am_model.proofs.looking_back.flushes.FlushesOnce.{flushes_end_once}
@@ -26,8 +26,8 @@ histories_look_back config id history legal =
       loads = loads_put_later_rows config id history legal;
       refiring = refiring_alerts_stay config id history legal;
       once = flushes_end_once config id history legal;
-      asked = begins_notify_exactly_whom_needed config id history legal;
-      tells = notices_list_present_alerts config id history legal;
+      notified = begins_notify_exactly_whom_needed config id history legal;
+      notices = notices_list_present_alerts config id history legal;
       interval = begins_keep_the_interval config id history legal;
       reasons = begins_have_reasons config id history legal;
     }

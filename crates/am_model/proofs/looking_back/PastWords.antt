@@ -15,7 +15,7 @@ use Rattle.am_model.specs.Lists.{upsert, without, changed_where}
 use Rattle.am_model.specs.look_back.Laws.{member_with}
 use Rattle.am_model.specs.State.{MemberState, GroupState, Stamped, same_name, is_named}
 use Rattle.am_model.specs.Finish.{is_leaving}
-use Rattle.am_model.specs.Upkeep.{is_deserted}
+use Rattle.am_model.specs.Maintenance.{has_no_alerts}
 use Rattle.am_model.proofs.legal.ConsistentGroups.{members_of}
 use Rattle.am_model.proofs.lists.Alone.{find-none}
 use Rattle.am_model.proofs.lists.Distinct.{all-filter, all-weaker, find-passes}
@@ -33,11 +33,11 @@ unless-never (Some x) = refl
 module _ {X : Type 0} (test : X → Bool) where
   -- what is put in is found, and else what was found
   pub find-put : (like : X → X → Bool) (x : X) → ((y : X) → like x y ≡ true → test y ≡ test x) → ((y : X) → test x ≡ true → test y ≡ true → like x y ≡ true) → (xs : List X) → find test (upsert like x xs) ≡ cond (test x) (Some x) (find test xs)
-  find-put like x sees tells [] = refl
-  find-put like x sees tells (y ∷ ys) =
+  find-put like x sees agrees [] = refl
+  find-put like x sees agrees (y ∷ ys) =
       elim (like x y) as (λ b. like x y ≡ b → find test (cond b (x ∷ ys) (y ∷ upsert like x ys)) ≡ cond (test x) (Some x) (cond (test y) (Some y) (find test ys))) [
         | true ↦ λ e. here (test x) (test y) (sees y e)
-        | false ↦ λ e. ap (λ o. cond (test y) (Some y) o) (find-put like x sees tells ys) ∙ there (test x) (test y) (λ f g. false≢true (sym e ∙ tells y f g)) refl refl
+        | false ↦ λ e. ap (λ o. cond (test y) (Some y) o) (find-put like x sees agrees ys) ∙ there (test x) (test y) (λ f g. false≢true (sym e ∙ agrees y f g)) refl refl
       ] refl
     where
       here : (a b : Bool) → b ≡ a → cond a (Some x) (find test ys) ≡ cond a (Some x) (cond b (Some y) (find test ys))
@@ -52,12 +52,12 @@ module _ {X : Type 0} (test : X → Bool) where
 
   -- what is found among those that stay: what was found, unless it went
   pub find-without : (like : X → X → Bool) → ((x y : X) → test x ≡ true → test y ≡ true → like x y ≡ true) → (gone : X → Bool) (xs : List X) → IsDistinct like xs → find test (without gone xs) ≡ unless gone (find test xs)
-  find-without like tells gone [] h = refl
-  find-without like tells gone (x ∷ xs) h =
-      by (gone x) (test x) refl refl (find-without like tells gone xs (IsDistinct-tail like x xs h))
+  find-without like agrees gone [] h = refl
+  find-without like agrees gone (x ∷ xs) h =
+      by (gone x) (test x) refl refl (find-without like agrees gone xs (IsDistinct-tail like x xs h))
     where
       later : test x ≡ true → AllByRecursion (λ y. test y ≡ false) xs
-      later e = all-weaker (λ y. like x y ≡ false) (λ y. test y ≡ false) (λ y apart. no (test y) (λ f. false≢true (sym apart ∙ tells x y e f))) xs (IsDistinct-head like x xs h)
+      later e = all-weaker (λ y. like x y ≡ false) (λ y. test y ≡ false) (λ y apart. no (test y) (λ f. false≢true (sym apart ∙ agrees x y e f))) xs (IsDistinct-head like x xs h)
         where
           no : (b : Bool) → (b ≡ true → ⊥) → b ≡ false
           no true f = absurd (f refl)
@@ -143,9 +143,9 @@ module _ (own : GroupName) (change : GroupState → GroupState) (named : (g : Gr
       by false b c e f rest = rest
 
 -- after those without alerts went
-pub members_of-kept_some : (name : GroupName) (gs : List GroupState) → IsDistinct same_group gs → members_of (without is_deserted gs) name ≡ members_of gs name
+pub members_of-kept_some : (name : GroupName) (gs : List GroupState) → IsDistinct same_group gs → members_of (without has_no_alerts gs) name ≡ members_of gs name
 members_of-kept_some name [] h = refl
-members_of-kept_some name (g ∷ gs) h = by (is_deserted g) (is_named name g) refl refl (members_of-kept_some name gs (IsDistinct-tail same_group g gs h))
+members_of-kept_some name (g ∷ gs) h = by (has_no_alerts g) (is_named name g) refl refl (members_of-kept_some name gs (IsDistinct-tail same_group g gs h))
   where
     no_other : (ks : List GroupState) → AllByRecursion (λ k. same_group g k ≡ false) ks → is_named name g ≡ true → members_of ks name ≡ []
     no_other [] all e = refl
@@ -155,15 +155,15 @@ members_of-kept_some name (g ∷ gs) h = by (is_deserted g) (is_named name g) re
     nothing [] e = refl
     nothing (m ∷ ms) e = absurd (false≢true e)
 
-    by : (d n : Bool) → is_deserted g ≡ d → is_named name g ≡ n → members_of (without is_deserted gs) name ≡ members_of gs name
-        → members_of (cond (not d) (g ∷ without is_deserted gs) (without is_deserted gs)) name ≡ cond n g.members (members_of gs name)
+    by : (d n : Bool) → has_no_alerts g ≡ d → is_named name g ≡ n → members_of (without has_no_alerts gs) name ≡ members_of gs name
+        → members_of (cond (not d) (g ∷ without has_no_alerts gs) (without has_no_alerts gs)) name ≡ cond n g.members (members_of gs name)
     by true true e f rest = rest ∙ no_other gs (IsDistinct-head same_group g gs h) f ∙ sym (nothing g.members e)
     by true false e f rest = rest
-    by false n e f rest = ap (λ b. cond b g.members (members_of (without is_deserted gs) name)) f ∙ ap (λ ms. cond n g.members ms) rest
+    by false n e f rest = ap (λ b. cond b g.members (members_of (without has_no_alerts gs) name)) f ∙ ap (λ ms. cond n g.members ms) rest
 
 -- ---- what leaves
 
--- an alert of a group stands among those of its group that passed a test, with its stamp, exactly if it passes it
+-- an alert of a group is among those of its group that passed a test, with its stamp, exactly if it passes it
 module _ (m : MemberState) (test : MemberState → Bool) where
   abbrev stamp_of : MemberState → Stamped
   stamp_of n = record { labels = n.alert.labels; stamp = n.stamp }

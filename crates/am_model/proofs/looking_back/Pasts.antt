@@ -16,7 +16,7 @@ use Rattle.am_model.specs.declared.record.Record.{Record}
 use Rattle.am_model.specs.declared.record.Reply.TheVariants as reply_is
 use Rattle.am_model.specs.Records.{entry}
 use Rattle.am_model.specs.look_back.Past.{AtEach, past_of}
-use Rattle.am_model.specs.look_back.Presence.{goes_to, inserts, inserted_by, stamp_told, last_insert, removes, has_left, unless_left, presence}
+use Rattle.am_model.specs.look_back.Presence.{goes_to, inserts, inserted_by, stamp_returned, last_insert, removes, has_left, unless_left, presence}
 use Rattle.am_model.specs.Replay.{reply, after, replay, IsLegal}
 use Rattle.am_model.specs.State.{MemberState, State, opening_state}
 use Rattle.am_model.proofs.legal.Histories.{replay_appends, legal_appends}
@@ -45,7 +45,7 @@ legal_of_past config id (r ∷ past) h =
     let parts = (legal_appends config id (reverse past) r).0 (subst (IsLegal config id) (reverse_onto past r []) h) in
     (subst (λ s. reply config id s r.call ≡ Some r.reply) (replay_of_past config past) parts.1, legal_of_past config id past parts.0)
 
--- what holds of a record after a legal past, where it was told its reply, holds at each record
+-- what holds of a record after a legal past, where it returned its reply, holds at each record
 pub at_each : (config : Config) (id : ℕ) (P : Record → List Record → Type 0) → ((r : Record) (past : List Record) → IsLegalPast config id past → reply config id (state_after config past) r.call ≡ Some r.reply → P r past)
     → (past : List Record) → IsLegalPast config id past → AtEach P past
 at_each config id P one [] legal = tt
@@ -76,8 +76,8 @@ insert-labels labels stamp m (Note now number integration outcome) e is = absurd
 pub last_insert-labels : (labels : List Label) (m : MemberState) (past : List Record) → last_insert labels past ≡ Some m → same_label_set labels m.alert.labels ≡ true
 last_insert-labels labels m [] is = absurd (cc)
 last_insert-labels labels m (r ∷ past) is =
-    elim (inserts labels r.call) as (λ b. inserts labels r.call ≡ b → cond b (inserted_by (stamp_told r.reply) r.call) (last_insert labels past) ≡ Some m → same_label_set labels m.alert.labels ≡ true) [
-      | true ↦ λ e is. insert-labels labels (stamp_told r.reply) m r.call e is
+    elim (inserts labels r.call) as (λ b. inserts labels r.call ≡ b → cond b (inserted_by (stamp_returned r.reply) r.call) (last_insert labels past) ≡ Some m → same_label_set labels m.alert.labels ≡ true) [
+      | true ↦ λ e is. insert-labels labels (stamp_returned r.reply) m r.call e is
       | false ↦ λ e is. last_insert-labels labels m past is
     ] refl is
 
@@ -101,16 +101,16 @@ presence-step config name labels r past e = by (goes_to config name labels)
 
     by : (b : Bool) → cond b (unless_left name (r ∷ past) (last_insert labels (r ∷ past))) None ≡ unless (λ m. removes name m.alert r past) (cond b (unless_left name past (last_insert labels past)) None)
     by true =
-        ap (λ b. unless_left name (r ∷ past) (cond b (inserted_by (stamp_told r.reply) r.call) (last_insert labels past))) e
+        ap (λ b. unless_left name (r ∷ past) (cond b (inserted_by (stamp_returned r.reply) r.call) (last_insert labels past))) e
         ∙ found (last_insert labels past) refl
     by false = refl
 
 -- where it is one, the alert is there as it was inserted, if the group is one of its
-pub presence-insert : (config : Config) (name : GroupName) (labels : List Label) (pass now : ℕ) (a : AlertData) (told : Inserted) (past : List Record) → same_label_set labels a.labels ≡ true
-    → presence config name labels (entry pass (Insert now a) (reply_is.Inserted told) ∷ past) ≡ cond (goes_to config name labels) (Some (record { alert = a; stamp = told.stamp })) None
-presence-insert config name labels pass now a told past e =
-    let r = entry pass (Insert now a) (reply_is.Inserted told) in
-    let m : MemberState = record { alert = a; stamp = told.stamp } in
+pub presence-insert : (config : Config) (name : GroupName) (labels : List Label) (pass now : ℕ) (a : AlertData) (returned : Inserted) (past : List Record) → same_label_set labels a.labels ≡ true
+    → presence config name labels (entry pass (Insert now a) (reply_is.Inserted returned) ∷ past) ≡ cond (goes_to config name labels) (Some (record { alert = a; stamp = returned.stamp })) None
+presence-insert config name labels pass now a returned past e =
+    let r = entry pass (Insert now a) (reply_is.Inserted returned) in
+    let m : MemberState = record { alert = a; stamp = returned.stamp } in
     ap (λ b. cond (goes_to config name labels) (unless_left name (r ∷ past) (cond b (Some m) (last_insert labels past))) None) e
     ∙ ap (λ b. cond (goes_to config name labels) (cond (cond b false (removes name a r past || has_left name a past)) None (Some m)) None) (same_label_set_equiv.refl a.labels)
 

@@ -11,9 +11,9 @@ use Rattle.am_model.specs.declared.group.GroupName.{GroupName}
 use Rattle.am_model.specs.declared.views.RowView.{RowView}
 use Rattle.am_model.specs.Finish.{same_key}
 use Rattle.am_model.specs.Insert.{same_alert, same_member, same_group}
-use Rattle.am_model.specs.Laws.{same_asked, same_flushed, same_number}
-use Rattle.am_model.specs.State.{AskedState, FlushState, GroupState, MemberState, same_name}
-use Rattle.am_model.specs.Upkeep.{same_silence}
+use Rattle.am_model.specs.Laws.{same_notified, same_flushed, same_number}
+use Rattle.am_model.specs.State.{NotifiedState, FlushState, GroupState, MemberState, same_name}
+use Rattle.am_model.specs.Maintenance.{same_silence}
 
 pub same_name_equiv : IsEquivalence same_name
 same_name_equiv = and_equiv (on_equiv (λ (n : GroupName). n.route) nat_eq_equiv) (on_equiv (λ (n : GroupName). n.labels) same_label_set_equiv)
@@ -39,8 +39,8 @@ same_flushed_equiv = on_equiv (λ (f : FlushState). f.group) same_name_equiv
 pub same_number_equiv : IsEquivalence same_number
 same_number_equiv = on_equiv (λ (f : FlushState). f.number) nat_eq_equiv
 
-pub same_asked_equiv : IsEquivalence same_asked
-same_asked_equiv = on_equiv (λ (a : AskedState). a.integration) nat_eq_equiv
+pub same_notified_equiv : IsEquivalence same_notified
+same_notified_equiv = on_equiv (λ (a : NotifiedState). a.integration) nat_eq_equiv
 
 -- names that the test takes for one are one
 pub same_name-is : (a b : GroupName) → same_name a b ≡ true → a ≡ b

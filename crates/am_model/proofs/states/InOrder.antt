@@ -26,7 +26,7 @@ use Rattle.am_model.specs.declared.config.Config.{Config}
 use Rattle.am_model.specs.declared.group.GroupName.{GroupName}
 use Rattle.am_model.specs.declared.views.GroupView.{GroupView}
 use Rattle.am_model.specs.declared.views.RowView.{RowView}
-use Rattle.am_model.proofs.lists.Distinct.{IsDistinct-nil, IsDistinct-filter, IsDistinct-told}
+use Rattle.am_model.proofs.lists.Distinct.{IsDistinct-nil, IsDistinct-filter, IsDistinct-mapped}
 use Rattle.am_model.proofs.lists.InOrder.{in_order-permutation, sorted_is_in_order, sort_by_is_in_order, in_order-ascends, is_ascending-map, apart_by_ties, in_order-map}
 
 pub alert_cmp_total : IsTotalOrder alert_cmp
@@ -96,13 +96,13 @@ labels-copied t a = by (is_resolved a t)
 
 -- no two alerts of a group have one label set
 pub IsDistinct-alerts : (members : List MemberState) → IsDistinct same_member members → IsDistinct same_alert (map (λ m. m.alert) members)
-IsDistinct-alerts = IsDistinct-told same_member same_alert (λ m. m.alert) (λ m n. refl)
+IsDistinct-alerts = IsDistinct-mapped same_member same_alert (λ m. m.alert) (λ m n. refl)
 
 -- and none of its copy
 pub IsDistinct-copy : (rules : List RuleData) (s : State) (t : ℕ) (g : GroupState) → IsDistinct same_member g.members → IsDistinct same_alert (copy_under rules s t g)
 IsDistinct-copy rules s t g h =
     IsDistinct-filter same_alert (λ a. not (is_muted a.labels t s.silences rules s.known)) (map (λ m. copied t m.alert) g.members)
-    (IsDistinct-told same_member same_alert (λ m. copied t m.alert) (λ m n i. same_label_set (labels-copied t m.alert i) (labels-copied t n.alert i)) g.members h)
+    (IsDistinct-mapped same_member same_alert (λ m. copied t m.alert) (λ m n i. same_label_set (labels-copied t m.alert i) (labels-copied t n.alert i)) g.members h)
 
 -- and none of what a flush copies, also where the route is muted
 IsDistinct-unless : (muted : Option ℕ) (xs : List AlertData) → IsDistinct same_alert xs → IsDistinct same_alert (unless muted xs)
@@ -135,7 +135,7 @@ view_cmp_total = on_total (λ (v : GroupView). v.group) name_cmp_total
 
 -- no two views of groups that have different names tie
 pub apart_views : (groups : List GroupState) → IsDistinct same_group groups → IsDistinct (eq_by_cmp view_cmp) (map group_view groups)
-apart_views groups apart = IsDistinct-told (eq_by_cmp group_cmp) (eq_by_cmp view_cmp) group_view (λ g h. refl) groups (apart_by_ties same_group group_cmp same_group-ties groups apart)
+apart_views groups apart = IsDistinct-mapped (eq_by_cmp group_cmp) (eq_by_cmp view_cmp) group_view (λ g h. refl) groups (apart_by_ties same_group group_cmp same_group-ties groups apart)
 
 -- what a sort by the groups' names gives of their views
 pub sorted_by_group : {F : Type 0} {g : Mut F (Bor GroupView × (Bor GroupView × Unit {0})) Ordering} {f : F} (groups : List GroupState) (xs ys : List GroupView) → xs ≡ map group_view groups → IsPermutation xs ys

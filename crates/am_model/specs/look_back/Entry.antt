@@ -22,10 +22,10 @@ use Rattle.am_model.specs.Configured.{rules_of, route_muted, expiry_at}
 use Rattle.am_model.specs.Insert.{same_alert}
 use Rattle.am_model.specs.Lists.{without, unless, in_order}
 use Rattle.am_model.specs.Load.{is_put}
-use Rattle.am_model.specs.look_back.Past.{Past, moment_at, is_flush_of, notices_in, begin_of, was_noted, succeeded}
+use Rattle.am_model.specs.look_back.Past.{Past, time_at, is_flush_of, notices_in, begin_of, was_noted, succeeded}
 use Rattle.am_model.specs.look_back.Presence.{presence}
 use Rattle.am_model.specs.State.{MemberState}
-use Rattle.am_model.specs.Upkeep.{same_silence, has_expired}
+use Rattle.am_model.specs.Maintenance.{same_silence, has_expired}
 
 -- the latest first, and of the others those that aren't like it
 abbrev pub latest_first : {X : Type 0} → (X → X → Bool) → Option X → List X → List X
@@ -97,7 +97,7 @@ firing_in config name t past = label_sets (firing_alerts_in config name t past)
 abbrev pub resolved_in : Config → GroupName → ℕ → Past → List (List Label)
 resolved_in config name t past = label_sets (resolved_alerts_in config name t past)
 
--- the row that a success logs at t for an integration that a flush with this reply and this past asked at its moment
+-- the row that a success logs at t for an integration that a flush with this reply and this past asked at its time
 abbrev pub row_of_flush : Config → ℕ → ℕ → ℕ → Past → Reply → Option RowView
 row_of_flush config t integration begun past (Inserted inserted) = None
 row_of_flush config t integration begun past (Silenced silenced) = None
@@ -107,7 +107,7 @@ row_of_flush config t integration begun past (Flush group opened) =
     Some (record {
       group = group;
       integration = integration;
-      moment = t;
+      time = t;
       expiry = expiry_at config group t;
       firing = firing_in config group begun past;
       resolved = resolved_in config group begun past;
@@ -118,20 +118,20 @@ row_of_flush config t integration begun past (Forgotten forgotten) = None
 row_of_flush config t integration begun past (Loaded loaded) = None
 row_of_flush config t integration begun past Noted = None
 
--- the row that a success logs at t for an integration that the flush at the head asked
+-- the row that a success logs at t for an integration that the flush at the head notified
 abbrev pub row_of_begin : Config → ℕ → ℕ → Past → Option RowView
 row_of_begin config t integration [] = None
-row_of_begin config t integration (r ∷ past) = row_of_flush config t integration (moment_at (r ∷ past)) past r.reply
+row_of_begin config t integration (r ∷ past) = row_of_flush config t integration (time_at (r ∷ past)) past r.reply
 
 -- whether the flush at the head is of this group
 abbrev pub begins_group : GroupName → Past → Bool
 begins_group name [] = false
 begins_group name (r ∷ past) = is_flush_of name r.reply
 
--- whether the flush at the head asked an integration that succeeded, where its finish has these outcomes and this past
-abbrev pub asked_and_succeeded : ℕ → List (ℕ × Outcome) → Past → ℕ → Past → Bool
-asked_and_succeeded number outcomes finish_past integration [] = false
-asked_and_succeeded number outcomes finish_past integration (r ∷ past) =
+-- whether the flush at the head notified an integration that succeeded, where its finish has these outcomes and this past
+abbrev pub notified_and_succeeded : ℕ → List (ℕ × Outcome) → Past → ℕ → Past → Bool
+notified_and_succeeded number outcomes finish_past integration [] = false
+notified_and_succeeded number outcomes finish_past integration (r ∷ past) =
     list_any (λ n. (n.integration == integration) && succeeded number outcomes finish_past n) (notices_in r.reply)
 
 -- whether a finish or a note with this past logs an integration's success for a group: a finish of a flush of the group in which it was
@@ -142,7 +142,7 @@ logs name integration past (Silence now id matchers start end) = false
 logs name integration past (Begin now) = false
 logs name integration past (Finish now number outcomes) =
     begins_group name (begin_of number past)
-    && (asked_and_succeeded number outcomes past integration (begin_of number past) && not (was_noted number integration past))
+    && (notified_and_succeeded number outcomes past integration (begin_of number past) && not (was_noted number integration past))
 logs name integration past (Maintain now) = false
 logs name integration past (Forget now) = false
 logs name integration past (Load now row) = false
@@ -163,7 +163,7 @@ begin_named past (Note now number integration outcome) = begin_of number past
 abbrev pub row_logged : Config → GroupName → ℕ → Record → Past → Option RowView
 row_logged config name integration r past =
     if logs name integration past r.call
-    then row_of_begin config (moment_at (r ∷ past)) integration (begin_named past r.call)
+    then row_of_begin config (time_at (r ∷ past)) integration (begin_named past r.call)
     else None
 
 -- the row that a call hands in
@@ -178,22 +178,22 @@ row_in (Load now row) = Some row
 row_in (Note now number integration outcome) = None
 
 -- whether a reply is that the row that was handed in was put into the log
-abbrev pub tells_put : Reply → Bool
-tells_put (Inserted inserted) = false
-tells_put (Silenced silenced) = false
-tells_put NothingDue = false
-tells_put (Quiet group removed) = false
-tells_put (Flush group opened) = false
-tells_put (Finished finished) = false
-tells_put (Maintained maintained) = false
-tells_put (Forgotten forgotten) = false
-tells_put (Loaded loaded) = is_put loaded
-tells_put Noted = false
+abbrev pub reports_put : Reply → Bool
+reports_put (Inserted inserted) = false
+reports_put (Silenced silenced) = false
+reports_put NothingDue = false
+reports_put (Quiet group removed) = false
+reports_put (Flush group opened) = false
+reports_put (Finished finished) = false
+reports_put (Maintained maintained) = false
+reports_put (Forgotten forgotten) = false
+reports_put (Loaded loaded) = is_put loaded
+reports_put Noted = false
 
 -- a row that was handed in, if it is of this group and integration and was put into the log
 abbrev pub row_put : GroupName → ℕ → Reply → Option RowView → Option RowView
 row_put name integration reply None = None
-row_put name integration reply (Some row) = if tells_put reply && is_entry_of name integration row then Some row else None
+row_put name integration reply (Some row) = if reports_put reply && is_entry_of name integration row then Some row else None
 
 -- the row of a group and an integration that the latest record loaded, as it was handed in, if it did
 abbrev pub row_loaded : GroupName → ℕ → Record → Option RowView
@@ -222,4 +222,4 @@ entry_in config name integration [] = None
 entry_in config name integration (r ∷ past) =
     option_or (row_logged config name integration r past)
     (option_or (row_loaded name integration r)
-    (unless_collected (moment_at (r ∷ past)) r.call (entry_in config name integration past)))
+    (unless_collected (time_at (r ∷ past)) r.call (entry_in config name integration past)))

@@ -30,9 +30,9 @@ use Rattle.am_model.specs.look_back.Interval.{found_empty, BeginsKeepTheInterval
 use Rattle.am_model.specs.Laws.{IsConsistent}
 use Rattle.am_model.specs.Lists.{in_order}
 use Rattle.am_model.specs.Load.{may_load, loaded_over}
-use Rattle.am_model.specs.look_back.Past.{Past, AtEach, past_of, replay_past, moment_at, is_flush, is_flush_of, is_finish, is_note, takes}
+use Rattle.am_model.specs.look_back.Past.{Past, AtEach, past_of, replay_past, time_at, is_flush, is_flush_of, is_finish, is_note, takes}
 use Rattle.am_model.specs.look_back.Past.{notices_in, begin_of, has_begun, has_finished, was_noted}
-use Rattle.am_model.specs.look_back.Presence.{goes_to, inserts, inserted_by, stamp_told, presence}
+use Rattle.am_model.specs.look_back.Presence.{goes_to, inserts, inserted_by, stamp_returned, presence}
 use Rattle.am_model.specs.look_back.Reasons.{BeginsHaveReasons}
 use Rattle.am_model.specs.Replay.{replay, IsLegal}
 use Rattle.am_model.specs.State.{MemberState, members_in}
@@ -107,13 +107,13 @@ LogsDelivered r past =
     (name : GroupName) (integration : ℕ) → logs name integration past r.call ≡ true
     → reports_delivery name integration past r.call ≡ true
 
--- whether the last record that logged a row's integration for its group did so at the row's moment, and reported that its notice was
+-- whether the last record that logged a row's integration for its group did so at the row's time, and reported that its notice was
 -- delivered, or had nothing to send
 abbrev pub was_delivered : RowView → Past → Bool
 was_delivered row [] = false
 was_delivered row (r ∷ past) =
     if logs row.group row.integration past r.call
-    then (moment_at (r ∷ past) == row.moment) && reports_delivery row.group row.integration past r.call
+    then (time_at (r ∷ past) == row.time) && reports_delivery row.group row.integration past r.call
     else was_delivered row past
 
 -- the row of a group and an integration that was loaded last, as it was handed in, unless a success was logged there since
@@ -132,21 +132,21 @@ UnlessHandedIn (Some handed) row Claim = row ≡ handed
 abbrev pub OnlyDeliveredIsLogged : Config → List Record → Type 0
 OnlyDeliveredIsLogged config history = AtEach LogsDelivered (past_of history)
 
--- a row that comes into the log by a record was delivered, unless the record loaded it: any that stands there after it stood there
--- before, or is of its moment, and it reports so of that flush's notice
+-- a row that comes into the log by a record was delivered, unless the record loaded it: any that is there after it stood there
+-- before, or is of its time, and it reports so of that flush's notice
 abbrev pub NewRowsAreDelivered : Config → Record → Past → Type 0
 NewRowsAreDelivered config r past =
     (name : GroupName) (integration : ℕ) (row : RowView)
     → find (is_entry_of name integration) (replay_past config (r ∷ past)).rows ≡ Some row
     → (find (is_entry_of name integration) (replay_past config past).rows ≡ Some row)
     ⊎ UnlessHandedIn (row_loaded name integration r) row
-    ((row.moment ≡ moment_at (r ∷ past)) × (reports_delivery name integration past r.call ≡ true))
+    ((row.time ≡ time_at (r ∷ past)) × (reports_delivery name integration past r.call ≡ true))
 
 -- at each record, the rows that come into the log were delivered, or had nothing to send, or were loaded
 abbrev pub RowsComeByDelivery : Config → List Record → Type 0
 RowsComeByDelivery config history = AtEach (NewRowsAreDelivered config) (past_of history)
 
--- each row of the log stands for a notice that was reported delivered, or had nothing to send, at its moment, unless it was handed in
+-- each row of the log represents a notice that was reported delivered, or had nothing to send, at its time, unless it was handed in
 abbrev pub RowsWereDelivered : Config → List Record → Type 0
 RowsWereDelivered config history =
     All (λ row. UnlessHandedIn (handed_in row.group row.integration (past_of history)) row (IsTrue (was_delivered row (past_of history))))
@@ -154,13 +154,13 @@ RowsWereDelivered config history =
 
 -- ---- loaded only over what is earlier
 
--- a load is allowed, and is told what becomes of its row by the entry that looking back finds
+-- a load is allowed, and returns what becomes of its row by the entry that looking back finds
 pub record IsLoadedRightly (config : Config) (r : Record) (past : Past) (row : RowView) : Type 0 where
-  pub allowed : may_load config (moment_at (r ∷ past)) row ≡ true
-  pub told : r.reply ≡ Loaded (loaded_over (moment_at (r ∷ past)) row (entry_in config row.group row.integration past))
+  pub allowed : may_load config (time_at (r ∷ past)) row ≡ true
+  pub returned : r.reply ≡ Loaded (loaded_over (time_at (r ∷ past)) row (entry_in config row.group row.integration past))
 
--- each load is told so: its row is put into the log unless its expiry is before the record's moment, or the log has an entry there that
--- is of the same moment or a later one
+-- each load returns so: its row is put into the log unless its expiry is before the record's time, or the log has an entry there that
+-- is of the same time or a later one
 abbrev pub LoadsPutLaterRows : Config → List Record → Type 0
 LoadsPutLaterRows config history =
     AtEach (λ r past. (row : RowView) → row_in r.call ≡ Some row → IsLoadedRightly config r past row) (past_of history)
@@ -172,7 +172,7 @@ abbrev pub insert_during : ℕ → List Label → Past → Option MemberState
 insert_during number labels [] = None
 insert_during number labels (r ∷ past) =
     if is_flush number r.reply then None
-    else if inserts labels r.call then inserted_by (stamp_told r.reply) r.call
+    else if inserts labels r.call then inserted_by (stamp_returned r.reply) r.call
     else insert_during number labels past
 
 -- after a record that finishes a flush, each alert that was inserted into the group since the begin is in the group, as it was inserted
@@ -208,11 +208,11 @@ number_in Noted = 0
 abbrev pub has_open : GroupName → Past → Bool
 has_open name past = list_any (λ r. is_flush_of name r.reply && not (has_finished (number_in r.reply) past)) past
 
--- the moment of the last begin of a group, unless a maintenance since then found it without alerts
+-- the time of the last begin of a group, unless a maintenance since then found it without alerts
 abbrev pub begun_at : Config → GroupName → Past → Option ℕ
 begun_at config name [] = None
 begun_at config name (r ∷ past) =
-    if takes name r.reply then Some (moment_at (r ∷ past))
+    if takes name r.reply then Some (time_at (r ∷ past))
     else if found_empty config name r past then None
     else begun_at config name past
 
@@ -232,7 +232,7 @@ pub record IsOneFlushAtATime (r : Record) (past : Past) : Type 0 where
 abbrev pub FlushesEndOnce : Config → List Record → Type 0
 FlushesEndOnce config history = AtEach IsOneFlushAtATime (past_of history)
 
--- ---- a begin asks exactly whom it should
+-- ---- a begin notifies exactly whom it should
 
 -- whether an integration needs an update about these label sets of a group at t, by the entry that looking back finds
 abbrev pub needs_after : Config → GroupName → ℕ → Past → List (List Label) → List (List Label) → ℕ × Integration → Bool
@@ -241,27 +241,27 @@ needs_after config name t past firing resolved i =
     (route_of config name).repeat_interval t
 
 -- the integrations that need an update about these label sets; none where nothing fires and nothing is resolved
-abbrev pub asked_about_after : Config → GroupName → ℕ → Past → List (List Label) → List (List Label) → List ℕ
-asked_about_after config name t past firing resolved =
+abbrev pub notified_about_after : Config → GroupName → ℕ → Past → List (List Label) → List (List Label) → List ℕ
+notified_about_after config name t past firing resolved =
     if is_empty firing && is_empty resolved then []
     else map (λ i. i.0) (filter (needs_after config name t past firing resolved) (integrations_of config name))
 
 -- the integrations that a begin of a group at t is to ask
-abbrev pub asked_after : Config → GroupName → ℕ → Past → List ℕ
-asked_after config name t past =
-    asked_about_after config name t past (firing_in config name t past) (resolved_in config name t past)
+abbrev pub notified_after : Config → GroupName → ℕ → Past → List ℕ
+notified_after config name t past =
+    notified_about_after config name t past (firing_in config name t past) (resolved_in config name t past)
 
--- a begin that takes a group asks those that it is to ask, and no other
-abbrev pub IsAskedRightly : Config → Record → Past → Type 0
-IsAskedRightly config r past =
+-- a begin that takes a group notifies those that it is to notify, and no other
+abbrev pub IsNotifiedRightly : Config → Record → Past → Type 0
+IsNotifiedRightly config r past =
     (name : GroupName) → takes name r.reply ≡ true
-    → map (λ n. n.integration) (notices_in r.reply) ≡ asked_after config name (moment_at (r ∷ past)) past
+    → map (λ n. n.integration) (notices_in r.reply) ≡ notified_after config name (time_at (r ∷ past)) past
 
--- each begin that takes a group asks those that it is to ask
+-- each begin that takes a group notifies those that it is to ask
 abbrev pub BeginsNotifyExactlyWhomNeeded : Config → List Record → Type 0
-BeginsNotifyExactlyWhomNeeded config history = AtEach (IsAskedRightly config) (past_of history)
+BeginsNotifyExactlyWhomNeeded config history = AtEach (IsNotifiedRightly config) (past_of history)
 
--- ---- what a begin tells
+-- ---- what a begin says
 
 -- whether the integration at a position of a group's receiver is sent resolved alerts
 abbrev pub wants_resolved : Config → GroupName → ℕ → Bool
@@ -276,37 +276,37 @@ pub record IsNoticeFound (config : Config) (number : ℕ) (name : GroupName) (un
   pub firing : n.firing ≡ firing_alerts_in config name t past
   pub resolved : n.resolved ≡ (if wants_resolved config name n.integration then resolved_alerts_in config name t past else [])
 
--- a group's flush at t asks somebody, has its deadline a group interval later, but ten seconds at least, and its notices list what
+-- a group's flush at t notifies somebody, has its deadline a group interval later, but ten seconds at least, and its notices list what
 -- looking back finds
 pub record IsFlushFound (config : Config) (number : ℕ) (name : GroupName) (until t : ℕ) (past : Past)
     (notices : List NoticeData) : Type 0 where
-  pub asks : is_empty notices ≡ false
+  pub notifies : is_empty notices ≡ false
   pub deadline : until ≡ t + max (route_of config name).group_interval MIN_FLUSH_TIMEOUT
   pub listed : All (IsNoticeFound config number name until t past) notices
 
--- the reply to a begin at t tells what looking back finds: a quiet one, how many alerts of the group are resolved, muted ones too
-abbrev pub IsToldRightly : Config → ℕ → Past → Reply → Type 0
-IsToldRightly config t past (Inserted inserted) = Unit {0}
-IsToldRightly config t past (Silenced silenced) = Unit {0}
-IsToldRightly config t past NothingDue = Unit {0}
-IsToldRightly config t past (Quiet group removed) = removed ≡ count_by (λ m. is_resolved m.alert t) (present_in config group past)
-IsToldRightly config t past (Flush group opened) = IsFlushFound config opened.number group opened.deadline t past opened.notices
-IsToldRightly config t past (Finished finished) = Unit {0}
-IsToldRightly config t past (Maintained maintained) = Unit {0}
-IsToldRightly config t past (Forgotten forgotten) = Unit {0}
-IsToldRightly config t past (Loaded loaded) = Unit {0}
-IsToldRightly config t past Noted = Unit {0}
+-- the reply to a begin at t says what looking back finds: a quiet one, how many alerts of the group are resolved, muted ones too
+abbrev pub IsReplyFound : Config → ℕ → Past → Reply → Type 0
+IsReplyFound config t past (Inserted inserted) = Unit {0}
+IsReplyFound config t past (Silenced silenced) = Unit {0}
+IsReplyFound config t past NothingDue = Unit {0}
+IsReplyFound config t past (Quiet group removed) = removed ≡ count_by (λ m. is_resolved m.alert t) (present_in config group past)
+IsReplyFound config t past (Flush group opened) = IsFlushFound config opened.number group opened.deadline t past opened.notices
+IsReplyFound config t past (Finished finished) = Unit {0}
+IsReplyFound config t past (Maintained maintained) = Unit {0}
+IsReplyFound config t past (Forgotten forgotten) = Unit {0}
+IsReplyFound config t past (Loaded loaded) = Unit {0}
+IsReplyFound config t past Noted = Unit {0}
 
--- each begin tells what is there
+-- each begin says what is there
 abbrev pub NoticesListPresentAlerts : Config → List Record → Type 0
-NoticesListPresentAlerts config history = AtEach (λ r past. IsToldRightly config (moment_at (r ∷ past)) past r.reply) (past_of history)
+NoticesListPresentAlerts config history = AtEach (λ r past. IsReplyFound config (time_at (r ∷ past)) past r.reply) (past_of history)
 
 -- ---- all of it, of one history
 
 -- what looking back says of a history: its alerts and its rows are found, and no two are alike; only what was delivered is logged, but for
 -- what was handed in, which is put in only where it is later; and at each record a refiring alert stays, flushes end once, and a begin is
--- at least an interval after any other of its group, unless a maintenance between them found it without alerts, asks those that it has a
--- reason to ask, and tells what is there
+-- at least an interval after any other of its group, unless a maintenance between them found it without alerts, notifies those that it has a
+-- reason to notify, and says what is there
 pub record LooksBack (config : Config) (history : List Record) : Type 0 where
   pub consistent : IsConsistent (replay config history)
   pub alerts : AlertsAreFound config history
@@ -319,7 +319,7 @@ pub record LooksBack (config : Config) (history : List Record) : Type 0 where
   pub loads : LoadsPutLaterRows config history
   pub refiring : RefiringAlertsStay config history
   pub once : FlushesEndOnce config history
-  pub asked : BeginsNotifyExactlyWhomNeeded config history
-  pub tells : NoticesListPresentAlerts config history
+  pub notified : BeginsNotifyExactlyWhomNeeded config history
+  pub notices : NoticesListPresentAlerts config history
   pub interval : BeginsKeepTheInterval config history
   pub reasons : BeginsHaveReasons config history

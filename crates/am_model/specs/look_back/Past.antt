@@ -2,7 +2,7 @@
 use Rattle.std.specs.Prelude.{ℕ, Bool, true, false, ◌&&◌, ◌||◌, ◌==◌, min, max, List, [], ◌∷◌, reverse}
 use Rattle.std.specs.Prelude.{if◌then◌else◌}
 use Rattle.std.specs.List.{list_any}
-use Rattle.am_alerts.specs.declared.limits.TheConstants.{MAX_MOMENT}
+use Rattle.am_alerts.specs.declared.limits.TheConstants.{MAX_TIME}
 use Rattle.am_retry.specs.declared.outcome.Outcome.{Outcome}
 use Rattle.am_model.specs.declared.config.Config.{Config}
 use Rattle.am_model.specs.declared.group.GroupName.{GroupName}
@@ -36,10 +36,10 @@ abbrev pub AtEach : (Record → Past → Type 0) → Past → Type 0
 AtEach P [] = Unit {0}
 AtEach P (r ∷ past) = P r past × AtEach P past
 
--- the moment of the latest record: the greatest that was handed in so far, but none after the greatest there is
-abbrev pub moment_at : Past → ℕ
-moment_at [] = 0
-moment_at (r ∷ past) = max (moment_at past) (min (now_of r.call) MAX_MOMENT)
+-- the time of the latest record: the greatest that was handed in so far, but none after the greatest there is
+abbrev pub time_at : Past → ℕ
+time_at [] = 0
+time_at (r ∷ past) = max (time_at past) (min (now_of r.call) MAX_TIME)
 
 -- whether a reply is the flush of this number
 abbrev pub is_flush : ℕ → Reply → Bool
@@ -54,7 +54,7 @@ is_flush number (Forgotten forgotten) = false
 is_flush number (Loaded loaded) = false
 is_flush number Noted = false
 
--- whether a reply is that this group was begun and nobody is asked
+-- whether a reply is that this group was begun and nobody is notified
 abbrev pub is_quiet : GroupName → Reply → Bool
 is_quiet name (Inserted inserted) = false
 is_quiet name (Silenced silenced) = false

@@ -14,7 +14,7 @@ use Rattle.am_model.specs.declared.record.Reply.{Reply}
 use Rattle.am_model.specs.declared.record.Reply.TheVariants.{Inserted, Silenced, NothingDue, Quiet, Flush}
 use Rattle.am_model.specs.declared.record.Reply.TheVariants.{Finished, Maintained, Forgotten, Loaded, Noted}
 use Rattle.am_model.specs.Insert.{names_for}
-use Rattle.am_model.specs.look_back.Past.{Past, moment_at, is_flush, is_flush_of, is_quiet, notices_in, begin_of, succeeded}
+use Rattle.am_model.specs.look_back.Past.{Past, time_at, is_flush, is_flush_of, is_quiet, notices_in, begin_of, succeeded}
 use Rattle.am_model.specs.State.{MemberState, same_name}
 
 -- whether one of the routes of a label set leads to this group
@@ -32,18 +32,18 @@ inserts labels (Forget now) = false
 inserts labels (Load now row) = false
 inserts labels (Note now number integration outcome) = false
 
--- the stamp that an insert was told
-abbrev pub stamp_told : Reply → ℕ
-stamp_told (Inserted inserted) = inserted.stamp
-stamp_told (Silenced silenced) = 0
-stamp_told NothingDue = 0
-stamp_told (Quiet group removed) = 0
-stamp_told (Flush group opened) = 0
-stamp_told (Finished finished) = 0
-stamp_told (Maintained maintained) = 0
-stamp_told (Forgotten forgotten) = 0
-stamp_told (Loaded loaded) = 0
-stamp_told Noted = 0
+-- the stamp that an insert returned
+abbrev pub stamp_returned : Reply → ℕ
+stamp_returned (Inserted inserted) = inserted.stamp
+stamp_returned (Silenced silenced) = 0
+stamp_returned NothingDue = 0
+stamp_returned (Quiet group removed) = 0
+stamp_returned (Flush group opened) = 0
+stamp_returned (Finished finished) = 0
+stamp_returned (Maintained maintained) = 0
+stamp_returned (Forgotten forgotten) = 0
+stamp_returned (Loaded loaded) = 0
+stamp_returned Noted = 0
 
 -- the alert that a call inserts, with this stamp
 abbrev pub inserted_by : ℕ → Call → Option MemberState
@@ -59,9 +59,9 @@ inserted_by stamp (Note now number integration outcome) = None
 -- the last insert of a label set: its alert, with its stamp
 abbrev pub last_insert : List Label → Past → Option MemberState
 last_insert labels [] = None
-last_insert labels (r ∷ past) = if inserts labels r.call then inserted_by (stamp_told r.reply) r.call else last_insert labels past
+last_insert labels (r ∷ past) = if inserts labels r.call then inserted_by (stamp_returned r.reply) r.call else last_insert labels past
 
--- the past that begins with the begin of the flush of this number, if that stands after the last insert of a label set; else empty
+-- the past that begins with the begin of the flush of this number, if that is after the last insert of a label set; else empty
 abbrev pub begin_since : List Label → ℕ → Past → Past
 begin_since labels number [] = []
 begin_since labels number (r ∷ past) =
@@ -69,18 +69,18 @@ begin_since labels number (r ∷ past) =
     else if is_flush number r.reply then r ∷ past
     else begin_since labels number past
 
--- whether the begin at the head is of this group, and an alert was resolved at its moment
+-- whether the begin at the head is of this group, and an alert was resolved at its time
 abbrev pub resolved_at_begin : GroupName → AlertData → Past → Bool
 resolved_at_begin name a [] = false
-resolved_at_begin name a (r ∷ past) = is_flush_of name r.reply && is_resolved a (moment_at (r ∷ past))
+resolved_at_begin name a (r ∷ past) = is_flush_of name r.reply && is_resolved a (time_at (r ∷ past))
 
--- whether all that the flush at the head asked succeeded, where its finish has these outcomes and this past
+-- whether all that the flush at the head notified succeeded, where its finish has these outcomes and this past
 abbrev pub all_succeeded_at : ℕ → List (ℕ × Outcome) → Past → Past → Bool
 all_succeeded_at number outcomes finish_past [] = false
 all_succeeded_at number outcomes finish_past (r ∷ past) = list_all (succeeded number outcomes finish_past) (notices_in r.reply)
 
 -- whether a finish with this past takes an alert out of a group: its flush is of the group, began after the alert's last insert and had
--- it resolved, and all that it asked succeeded
+-- it resolved, and all that it notified succeeded
 abbrev pub finish_removes : GroupName → AlertData → Past → Call → Bool
 finish_removes name a past (Insert now alert) = false
 finish_removes name a past (Silence now id matchers start end) = false
@@ -92,10 +92,10 @@ finish_removes name a past (Forget now) = false
 finish_removes name a past (Load now row) = false
 finish_removes name a past (Note now number integration outcome) = false
 
--- whether the latest record takes an alert out of a group: a quiet begin of the group at whose moment it is resolved, or a finish
+-- whether the latest record takes an alert out of a group: a quiet begin of the group at whose time it is resolved, or a finish
 abbrev pub removes : GroupName → AlertData → Record → Past → Bool
 removes name a r past =
-    (is_quiet name r.reply && is_resolved a (moment_at (r ∷ past))) || finish_removes name a past r.call
+    (is_quiet name r.reply && is_resolved a (time_at (r ∷ past))) || finish_removes name a past r.call
 
 -- whether an alert was taken out of a group since its last insert
 abbrev pub has_left : GroupName → AlertData → Past → Bool

@@ -21,19 +21,19 @@ use Rattle.am_model.specs.declared.record.Reply.{Reply}
 use Rattle.am_model.specs.declared.views.RowView.{RowView}
 use Rattle.am_model.specs.Configured.{route_of, route_muted, integrations_of}
 use Rattle.am_model.specs.look_back.Entry.{firing_in, resolved_in, entry_in}
-use Rattle.am_model.specs.look_back.Past.{Past, AtEach, past_of, moment_at, takes, notices_in}
+use Rattle.am_model.specs.look_back.Past.{Past, AtEach, past_of, time_at, takes, notices_in}
 
 -- whether an integration is asked for a reason
-abbrev pub asks : Reason → Bool
-asks FirstNotice = true
-asks NewAlert = true
-asks AllResolved = true
-asks NewlyResolved = true
-asks Repeat = true
-asks NothingLeft = false
-asks NothingFiring = false
-asks (NotYet from) = false
-asks (RouteMuted until) = false
+abbrev pub notifies : Reason → Bool
+notifies FirstNotice = true
+notifies NewAlert = true
+notifies AllResolved = true
+notifies NewlyResolved = true
+notifies Repeat = true
+notifies NothingLeft = false
+notifies NothingFiring = false
+notifies (NotYet from) = false
+notifies (RouteMuted until) = false
 
 -- the reason of an update, or of none, where this is the repeat interval
 abbrev pub reason_of_update : ℕ → UpdateReason → Reason
@@ -50,12 +50,12 @@ abbrev pub reason_by : Option RowView → List (List Label) → List (List Label
 reason_by entry firing resolved send_resolved repeat t =
     reason_of_update repeat (update_reason same_label_set (option_map log_row entry) firing resolved send_resolved repeat t)
 
--- the same, but where nothing fires and nothing is resolved nothing is left to tell
-abbrev pub reason_told : Option RowView → List (List Label) → List (List Label) → Bool → ℕ → ℕ → Reason
-reason_told entry firing resolved send_resolved repeat t =
+-- the same, but where nothing fires and nothing is resolved nothing is left to say
+abbrev pub reason_by_entry : Option RowView → List (List Label) → List (List Label) → Bool → ℕ → ℕ → Reason
+reason_by_entry entry firing resolved send_resolved repeat t =
     if is_empty firing && is_empty resolved then NothingLeft else reason_by entry firing resolved send_resolved repeat t
 
--- the reason, unless the group's route is muted until a moment
+-- the reason, unless the group's route is muted until a time
 abbrev pub reason_where : Option ℕ → Reason → Reason
 reason_where None reason = reason
 reason_where (Some until) reason = RouteMuted until
@@ -64,7 +64,7 @@ reason_where (Some until) reason = RouteMuted until
 abbrev pub reason_about : Config → GroupName → ℕ → Past → List (List Label) → List (List Label) → ℕ × Integration
     → Reason
 reason_about config name t past firing resolved i =
-    reason_told (entry_in config name i.0 past) firing resolved i.1.send_resolved (route_of config name).repeat_interval t
+    reason_by_entry (entry_in config name i.0 past) firing resolved i.1.send_resolved (route_of config name).repeat_interval t
 
 -- why a begin of a group at t is to ask an integration of its receiver, or why not
 abbrev pub reason_in : Config → GroupName → ℕ → Past → ℕ × Integration → Reason
@@ -84,7 +84,7 @@ HasAllFiring row firing = is_subset same_label_set firing row.firing ≡ true
 abbrev pub HasAllResolved : RowView → List (List Label) → Bool → Type 0
 HasAllResolved row resolved send_resolved = send_resolved ≡ true → is_subset same_label_set resolved row.resolved ≡ true
 
--- what a reason says of the entry, of the label sets that fire and those that are resolved, and of the moment, where no route is muted:
+-- what a reason says of the entry, of the label sets that fire and those that are resolved, and of the time, where no route is muted:
 -- one alone is so
 abbrev pub Says : Reason → Option RowView → List (List Label) → List (List Label) → Bool → ℕ → ℕ → Type 0
 Says FirstNotice entry firing resolved send_resolved repeat t = (entry ≡ None) × (firing ≢ [])
@@ -96,50 +96,50 @@ Says NewlyResolved entry firing resolved send_resolved repeat t =
     × HasMore resolved row.resolved
 Says Repeat entry firing resolved send_resolved repeat t =
     (row : RowView) × (entry ≡ Some row) × (firing ≢ []) × HasAllFiring row firing × HasAllResolved row resolved send_resolved
-    × (row.moment + repeat < t)
+    × (row.time + repeat < t)
 Says NothingLeft entry firing resolved send_resolved repeat t = (firing ≡ []) × (resolved ≡ [])
 Says NothingFiring entry firing resolved send_resolved repeat t =
     (firing ≡ []) × (resolved ≢ []) × ((row : RowView) → entry ≡ Some row → row.firing ≡ [])
 Says (NotYet from) entry firing resolved send_resolved repeat t =
     (row : RowView) × (entry ≡ Some row) × (firing ≢ []) × HasAllFiring row firing × HasAllResolved row resolved send_resolved
-    × (from ≡ row.moment + repeat + 1) × (t < from)
+    × (from ≡ row.time + repeat + 1) × (t < from)
 Says (RouteMuted until) entry firing resolved send_resolved repeat t = ⊥
 
--- the same where the group's route may be muted until a moment: then that alone is so
+-- the same where the group's route may be muted until a time: then that alone is so
 abbrev pub SaysWhere : Option ℕ → Reason → Option RowView → List (List Label) → List (List Label) → Bool → ℕ → ℕ
     → Type 0
 SaysWhere None reason entry firing resolved send_resolved repeat t = Says reason entry firing resolved send_resolved repeat t
 SaysWhere (Some until) reason entry firing resolved send_resolved repeat t = reason ≡ RouteMuted until
 
 -- what a reason says is so of an integration of a group at t, by what looking back finds
-abbrev pub IsSo : Reason → Config → GroupName → ℕ → Past → ℕ × Integration → Type 0
-IsSo reason config name t past i =
+abbrev pub ReasonApplies : Reason → Config → GroupName → ℕ → Past → ℕ × Integration → Type 0
+ReasonApplies reason config name t past i =
     SaysWhere (route_muted config name t) reason (entry_in config name i.0 past) (firing_in config name t past)
     (resolved_in config name t past) i.1.send_resolved (route_of config name).repeat_interval t
 
 -- whether a reply has a notice for an integration
-abbrev pub is_asked_in : ℕ → Reply → Bool
-is_asked_in integration reply = list_any (λ n. n.integration == integration) (notices_in reply)
+abbrev pub is_notified_in : ℕ → Reply → Bool
+is_notified_in integration reply = list_any (λ n. n.integration == integration) (notices_in reply)
 
--- a record that takes a group asks each integration of its receiver exactly if there is a reason to ask it, in their order, and no other
-pub record AsksForReasons (config : Config) (r : Record) (past : Past) : Type 0 where
+-- a record that takes a group notifies each integration of its receiver exactly if there is a reason to notify it, in their order, and no other
+pub record NotifiesForReasons (config : Config) (r : Record) (past : Past) : Type 0 where
   pub each : (name : GroupName) → takes name r.reply ≡ true
-      → All (λ i. is_asked_in i.0 r.reply ≡ asks (reason_in config name (moment_at (r ∷ past)) past i)) (integrations_of config name)
+      → All (λ i. is_notified_in i.0 r.reply ≡ notifies (reason_in config name (time_at (r ∷ past)) past i)) (integrations_of config name)
   pub only : (name : GroupName) → takes name r.reply ≡ true
       → map (λ n. n.integration) (notices_in r.reply)
-      ≡ map (λ i. i.0) (filter (λ i. asks (reason_in config name (moment_at (r ∷ past)) past i)) (integrations_of config name))
+      ≡ map (λ i. i.0) (filter (λ i. notifies (reason_in config name (time_at (r ∷ past)) past i)) (integrations_of config name))
 
--- each begin of a history asks those that it has a reason to ask, and no other
+-- each begin of a history asks those that it has a reason to notify, and no other
 abbrev pub BeginsHaveReasons : Config → List Record → Type 0
-BeginsHaveReasons config history = AtEach (AsksForReasons config) (past_of history)
+BeginsHaveReasons config history = AtEach (NotifiesForReasons config) (past_of history)
 
 -- a reason is the one of an integration exactly where what it says is so
 abbrev pub ReasonsAreSo : Type 0
 ReasonsAreSo =
     (config : Config) (name : GroupName) (t : ℕ) (past : Past) (i : ℕ × Integration) (reason : Reason)
-    → IsSo reason config name t past i ↔ (reason_in config name t past i ≡ reason)
+    → ReasonApplies reason config name t past i ↔ (reason_in config name t past i ≡ reason)
 
--- where a notice isn't repeated yet, it is from the moment that the reason names on, if nothing else changes, and not before
+-- where a notice isn't repeated yet, it is from the time that the reason names on, if nothing else changes, and not before
 abbrev pub NotYetEnds : Type 0
 NotYetEnds =
     (entry : Option RowView) (firing resolved : List (List Label)) (send_resolved : Bool) (repeat t from later : ℕ)

@@ -10,30 +10,30 @@ use am_alerts::labels::Labels;
 use am_alerts::matcher::Matcher;
 use am_alerts::sequence::Sequence;
 use am_cli::fault::{FaultKind, InputFault};
-use am_cli::place::JsonPointer;
+use am_cli::pointer::JsonPointer;
 use am_cli::reader::Object;
 use am_terms::expectation::Content;
 use am_terms::rehearsal::{Action, TimedAction};
 use std::alloc::Global;
 
-/// Refuses an expectation, `item` at this place, that no notice can meet by the last time: it lists no alert, or one that
+/// Refuses an expectation, `item` at this pointer, that no notice can meet by the last time: it lists no alert, or one that
 /// these actions never let fire or resolve.
 pub(crate) fn check_alerts(
     item: &Object<'_, '_>,
     last: u64,
     plans: &[TimedAction],
     wanted: &Content,
-    place: &JsonPointer<'_>,
+    pointer: &JsonPointer<'_>,
 ) -> Result<(), InputFault>
     ensures alerts { OnOk result (has_alerts last plans.now wanted.now ≡ true) }
     ensures refused { IfErr result (Denies (has_alerts last plans.now wanted.now)) }
 {
     let alloc = item.alloc();
-    let firing = &place.member(firing_name(item));
+    let firing = &pointer.member(firing_name(item));
     check_some(alloc, wanted, firing)?;
-    let has = &place.member("has");
+    let has = &pointer.member("has");
     check_matched(alloc, last, plans, false, wanted.has.as_ref(), has)?;
-    let has_resolved = &place.member("has_resolved");
+    let has_resolved = &pointer.member("has_resolved");
     check_matched(
         alloc,
         last,
@@ -43,17 +43,17 @@ pub(crate) fn check_alerts(
         has_resolved,
     )?;
     check_sets(alloc, last, plans, false, wanted.firing.as_ref(), firing)?;
-    let resolved = &place.member("resolved");
+    let resolved = &pointer.member("resolved");
     check_sets(alloc, last, plans, true, wanted.resolved.as_ref(), resolved)
 }
 
 /// Refuses a notice that has no alerts.
-fn check_some(alloc: Global, wanted: &Content, place: &JsonPointer<'_>) -> Result<(), InputFault>
+fn check_some(alloc: Global, wanted: &Content, pointer: &JsonPointer<'_>) -> Result<(), InputFault>
     ensures some { OnOk result (wants_none wanted.now ≡ false) }
     ensures refused { IfErr result (λ _. wants_none wanted.now ≡ true) }
 {
     if says_none(wanted.firing.as_ref()) && says_none(wanted.resolved.as_ref()) {
-        return Err(place.refuse(alloc, FaultKind::BadValue));
+        return Err(pointer.refuse(alloc, FaultKind::BadValue));
     }
     Ok(())
 }
@@ -83,7 +83,7 @@ fn check_matched(
     plans: &[TimedAction],
     resolves: bool,
     matchers: Option<&Sequence<Matcher>>,
-    place: &JsonPointer<'_>,
+    pointer: &JsonPointer<'_>,
 ) -> Result<(), InputFault>
     ensures matched { OnOk result (is_matched last plans.now resolves (option_copied matchers.entry) ≡ true) }
     ensures refused { IfErr result (Denies (is_matched last plans.now resolves (option_copied matchers.entry))) }
@@ -91,7 +91,7 @@ fn check_matched(
     match matchers {
         None => Ok(()),
         Some(matchers) => match first_insert(alloc, last, resolves, matchers.as_slice(), plans)? {
-            None => Err(place.refuse(alloc, FaultKind::BadValue)),
+            None => Err(pointer.refuse(alloc, FaultKind::BadValue)),
             Some(_) => Ok(()),
         },
     }
@@ -104,7 +104,7 @@ fn check_sets(
     plans: &[TimedAction],
     resolves: bool,
     sets: Option<&Sequence<Labels>>,
-    place: &JsonPointer<'_>,
+    pointer: &JsonPointer<'_>,
 ) -> Result<(), InputFault>
     ensures inserted { OnOk result (are_inserted last plans.now resolves (option_copied sets.entry) ≡ true) }
     ensures refused { IfErr result (λ _. are_inserted last plans.now resolves (option_copied sets.entry) ≡ false) }
@@ -117,7 +117,7 @@ fn check_sets(
                 return Ok(());
             }
             let index = first_unknown(last, plans, resolves, sets);
-            Err(place.item(index).refuse(alloc, FaultKind::BadValue))
+            Err(pointer.item(index).refuse(alloc, FaultKind::BadValue))
         }
     }
 }

@@ -12,7 +12,7 @@ use am_terms::expectation::Amount;
 /// The amount that `none`, `never`, `count` or `at_most` says, of which one is said at most; at least one notice
 /// where none of them is.
 pub(crate) fn read_amount(item: &Object<'_, '_>) -> Result<Amount, InputFault>
-    ensures told { IfOk result (IsAmountIn (members_view item.now.members)) }
+    ensures decoded { IfOk result (IsAmountIn (members_view item.now.members)) }
     ensures refused { IfErr result (Excludes (IsAmountIn (members_view item.now.members))) }
 {
     let is_none = item.flag_or("none", false)?;

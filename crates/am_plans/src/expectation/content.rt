@@ -23,9 +23,9 @@ use am_terms::expectation::{Content, SentReason, reason_named};
 /// What a notice has to say. `has` or `has_resolved`, as `when` says, is `of` where it isn't said; `exactly` says
 /// both sets, of which that of the resolved alerts is empty.
 pub(crate) fn read_content(item: &Object<'_, '_>) -> Result<Content, InputFault>
-    ensures told { IfOk result (HasContentIn item.now.dialect (members_view item.now.members)) }
-    ensures refused { IfErr result (Excludes (λ content. HasContentIn item.now.dialect (members_view item.now.members) content
-        × HasNoRegex item.now.dialect (members_view item.now.members))) }
+    ensures decoded { IfOk result (HasContentIn item.now.mode (members_view item.now.members)) }
+    ensures refused { IfErr result (Excludes (λ content. HasContentIn item.now.mode (members_view item.now.members) content
+        × HasNoRegex item.now.mode (members_view item.now.members))) }
 {
     let resolves = read_when(item)?;
     let has = read_has(item, "has", !resolves)?;
@@ -55,15 +55,15 @@ fn check_exactly(item: &Object<'_, '_>) -> Result<(), InputFault>
     refuse_beside(item, &exactly, "resolved")
 }
 
-/// The matchers of a member, or else those of `of` if they stand for it.
+/// The matchers of a member, or else those of `of` if they represent it.
 fn read_has(
     item: &Object<'_, '_>,
     name: &str,
     or_of: bool,
 ) -> Result<Option<Sequence<Matcher>>, InputFault>
-    ensures told { IfOk result (AreMatchersIn item.now.dialect (said_or_of or_of name.now (members_view item.now.members))) }
+    ensures decoded { IfOk result (AreMatchersIn item.now.mode (said_or_of or_of name.now (members_view item.now.members))) }
     ensures refused { IfErr result (Excludes (λ (matchers : Option (List MatcherParts)).
-        AreMatchersIn item.now.dialect (said_or_of or_of name.now (members_view item.now.members)) matchers
+        AreMatchersIn item.now.mode (said_or_of or_of name.now (members_view item.now.members)) matchers
         × IsTrue (option_map_or compare_texts matchers true))) }
 {
     if let Some(member) = item.optional(name) {
@@ -80,9 +80,9 @@ fn read_has(
 
 /// Matchers, 1 to 32.
 pub(crate) fn read_matchers(member: &Reader<'_, '_>) -> Result<Sequence<Matcher>, InputFault>
-    ensures told { IfOk result (AreMatchersOf member.now.dialect (view member.now.value)) }
+    ensures decoded { IfOk result (AreMatchersOf member.now.mode (view member.now.value)) }
     ensures refused { IfErr result (Excludes (λ (matchers : List MatcherParts).
-        AreMatchersOf member.now.dialect (view member.now.value) matchers × IsTrue (compare_texts matchers))) }
+        AreMatchersOf member.now.mode (view member.now.value) matchers × IsTrue (compare_texts matchers))) }
 {
     let matchers = member.list_up_to::<Matcher>(MAX_MATCHERS)?;
     if matchers.is_empty() {
@@ -93,8 +93,8 @@ pub(crate) fn read_matchers(member: &Reader<'_, '_>) -> Result<Sequence<Matcher>
 
 /// The label sets that fire.
 fn read_firing(item: &Object<'_, '_>) -> Result<Option<Sequence<Labels>>, InputFault>
-    ensures told { IfOk result (AreFiringIn item.now.dialect (members_view item.now.members)) }
-    ensures refused { IfErr result (Excludes (AreFiringIn item.now.dialect (members_view item.now.members))) }
+    ensures decoded { IfOk result (AreFiringIn item.now.mode (members_view item.now.members)) }
+    ensures refused { IfErr result (Excludes (AreFiringIn item.now.mode (members_view item.now.members))) }
 {
     match item.optional("exactly") {
         None => read_sets(item, "firing"),
@@ -104,8 +104,8 @@ fn read_firing(item: &Object<'_, '_>) -> Result<Option<Sequence<Labels>>, InputF
 
 /// The label sets that are resolved.
 fn read_resolved(item: &Object<'_, '_>) -> Result<Option<Sequence<Labels>>, InputFault>
-    ensures told { IfOk result (AreResolvedIn item.now.dialect (members_view item.now.members)) }
-    ensures refused { IfErr result (Excludes (AreResolvedIn item.now.dialect (members_view item.now.members))) }
+    ensures decoded { IfOk result (AreResolvedIn item.now.mode (members_view item.now.members)) }
+    ensures refused { IfErr result (Excludes (AreResolvedIn item.now.mode (members_view item.now.members))) }
 {
     match item.optional("exactly") {
         None => read_sets(item, "resolved"),
@@ -114,8 +114,8 @@ fn read_resolved(item: &Object<'_, '_>) -> Result<Option<Sequence<Labels>>, Inpu
 }
 
 fn read_sets(item: &Object<'_, '_>, name: &str) -> Result<Option<Sequence<Labels>>, InputFault>
-    ensures told { IfOk result (AreSetsIn item.now.dialect (get_member name.now (members_view item.now.members))) }
-    ensures refused { IfErr result (Excludes (AreSetsIn item.now.dialect (get_member name.now (members_view item.now.members)))) }
+    ensures decoded { IfOk result (AreSetsIn item.now.mode (get_member name.now (members_view item.now.members))) }
+    ensures refused { IfErr result (Excludes (AreSetsIn item.now.mode (get_member name.now (members_view item.now.members)))) }
 {
     match item.optional(name) {
         None => Ok(None),

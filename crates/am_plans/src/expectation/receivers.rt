@@ -7,10 +7,10 @@ ghost use Rattle.am_plans.specs.Configs.{configs_in};
 
 use crate::configs::Configs;
 use am_cli::fault::{FaultKind, InputFault};
-use am_cli::place::JsonPointer;
+use am_cli::pointer::JsonPointer;
 use am_model::config::{Config, Integration, Receiver};
+use am_terms::dispatcher_change::DispatcherChange;
 use am_terms::expectation::Expectation;
-use am_terms::handover::Handover;
 use std::alloc::Global;
 
 /// Refuses a receiver that no configuration has, and an integration that the receiver hasn't in any; where no receiver is
@@ -19,7 +19,7 @@ pub(crate) fn check_target(
     alloc: Global,
     configs: &Configs<'_>,
     expectation: &Expectation,
-    place: &JsonPointer<'_>,
+    pointer: &JsonPointer<'_>,
 ) -> Result<(), InputFault>
     ensures target { OnOk result (some_has_target (configs_in configs.now) expectation.now ≡ true) }
     ensures refused { IfErr result (λ _. some_has_target (configs_in configs.now) expectation.now ≡ false) }
@@ -28,7 +28,7 @@ pub(crate) fn check_target(
         return Ok(());
     }
     let wrong = wrong_member(configs, expectation);
-    Err(place.member(wrong).refuse(alloc, FaultKind::BadValue))
+    Err(pointer.member(wrong).refuse(alloc, FaultKind::BadValue))
 }
 
 /// The member for which there is no target: the receiver, if there is none of its name, or else the integration.
@@ -46,12 +46,10 @@ fn some_has_target(configs: &Configs<'_>, expectation: &Expectation) -> bool
     has_target(configs.own, expectation) || later_has_target(configs.later, expectation)
 }
 
-fn later_has_target(later: &[Handover], expectation: &Expectation) -> bool
+fn later_has_target(later: &[DispatcherChange], expectation: &Expectation) -> bool
     ensures { result ≡ list_any (λ h. has_target h.config expectation.now) later.now }
 {
-    later
-        .iter()
-        .any(|handover| has_target(&handover.config, expectation))
+    later.iter().any(|dispatcher_change| has_target(&dispatcher_change.config, expectation))
 }
 
 /// Whether a receiver of the configuration has what an expectation names.

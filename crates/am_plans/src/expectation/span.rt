@@ -20,7 +20,7 @@ use am_cli::reader::{Object, Reader};
 use am_terms::rehearsal::{Action, TimedAction};
 use std::alloc::{AllocError, Global};
 
-/// The moment `at`, or from `from` to `to`, both counted in, or what `within` says. A span whose end isn't said ends at
+/// The time `at`, or from `from` to `to`, both counted in, or what `within` says. A span whose end isn't said ends at
 /// `until`, and begins by `last`.
 pub(crate) fn read_span(
     item: &Object<'_, '_>,
@@ -28,11 +28,11 @@ pub(crate) fn read_span(
     last: u64,
     plans: &[TimedAction],
 ) -> Result<(u64, u64), InputFault>
-    ensures told { IfOk result (λ span.
-        IsSpanIn item.now.dialect until last plans.now (members_view item.now.members) span.0 span.1) }
+    ensures decoded { IfOk result (λ span.
+        IsSpanIn item.now.mode until last plans.now (members_view item.now.members) span.0 span.1) }
     ensures refused { IfErr result (Excludes (λ (span : ℕ × ℕ).
-        IsSpanIn item.now.dialect until last plans.now (members_view item.now.members) span.0 span.1
-        × HasNoRegexAt item.now.dialect (codes "of") (members_view item.now.members))) }
+        IsSpanIn item.now.mode until last plans.now (members_view item.now.members) span.0 span.1
+        × HasNoRegexAt item.now.mode (codes "of") (members_view item.now.members))) }
 {
     let Some(within) = item.optional("within") else {
         return read_own_span(item, until, last);
@@ -60,7 +60,7 @@ pub(crate) fn refuse_beside(
 
 /// The span that an expectation without `within` says.
 fn read_own_span(item: &Object<'_, '_>, until: u64, last: u64) -> Result<(u64, u64), InputFault>
-    ensures told { IfOk result (λ span. IsOwnSpan until last (members_view item.now.members) span.0 span.1) }
+    ensures decoded { IfOk result (λ span. IsOwnSpan until last (members_view item.now.members) span.0 span.1) }
     ensures refused { IfErr result (Excludes (λ (span : ℕ × ℕ).
         IsOwnSpan until last (members_view item.now.members) span.0 span.1)) }
 {
@@ -69,9 +69,9 @@ fn read_own_span(item: &Object<'_, '_>, until: u64, last: u64) -> Result<(u64, u
     read_times(item, until, last)
 }
 
-/// The moment `at`, or from `from` to `to`.
+/// The time `at`, or from `from` to `to`.
 fn read_times(item: &Object<'_, '_>, until: u64, last: u64) -> Result<(u64, u64), InputFault>
-    ensures told { IfOk result (λ span. IsSpanFrom until last (members_view item.now.members) span.0 span.1) }
+    ensures decoded { IfOk result (λ span. IsSpanFrom until last (members_view item.now.members) span.0 span.1) }
     ensures refused { IfErr result (Excludes (λ (span : ℕ × ℕ).
         IsSpanFrom until last (members_view item.now.members) span.0 span.1)) }
 {
@@ -82,7 +82,7 @@ fn read_times(item: &Object<'_, '_>, until: u64, last: u64) -> Result<(u64, u64)
 }
 
 fn read_at(item: &Object<'_, '_>, at: &Reader<'_, '_>) -> Result<(u64, u64), InputFault>
-    ensures told { IfOk result (λ span. IsAt (members_view item.now.members) (view at.now.value) span.0 span.1) }
+    ensures decoded { IfOk result (λ span. IsAt (members_view item.now.members) (view at.now.value) span.0 span.1) }
     ensures refused { IfErr result (Excludes (λ (span : ℕ × ℕ).
         IsAt (members_view item.now.members) (view at.now.value) span.0 span.1)) }
 {
@@ -93,7 +93,7 @@ fn read_at(item: &Object<'_, '_>, at: &Reader<'_, '_>) -> Result<(u64, u64), Inp
 }
 
 fn read_from_to(item: &Object<'_, '_>, until: u64, last: u64) -> Result<(u64, u64), InputFault>
-    ensures told { IfOk result (λ span. IsFromTo until last (members_view item.now.members) span.0 span.1) }
+    ensures decoded { IfOk result (λ span. IsFromTo until last (members_view item.now.members) span.0 span.1) }
     ensures refused { IfErr result (Excludes (λ (span : ℕ × ℕ).
         IsFromTo until last (members_view item.now.members) span.0 span.1)) }
 {
@@ -151,11 +151,11 @@ fn read_within(
     last: u64,
     plans: &[TimedAction],
 ) -> Result<(u64, u64), InputFault>
-    ensures told { IfOk result (λ span.
-        IsSpanWithin item.now.dialect last plans.now (members_view item.now.members) (view within.now.value) span.0 span.1) }
+    ensures decoded { IfOk result (λ span.
+        IsSpanWithin item.now.mode last plans.now (members_view item.now.members) (view within.now.value) span.0 span.1) }
     ensures refused { IfErr result (Excludes (λ (span : ℕ × ℕ).
-        IsSpanWithin item.now.dialect last plans.now (members_view item.now.members) (view within.now.value) span.0 span.1
-        × HasNoRegexAt item.now.dialect (codes "of") (members_view item.now.members))) }
+        IsSpanWithin item.now.mode last plans.now (members_view item.now.members) (view within.now.value) span.0 span.1
+        × HasNoRegexAt item.now.mode (codes "of") (members_view item.now.members))) }
 {
     let resolves = read_when(item)?;
     let of = item.required("of")?;

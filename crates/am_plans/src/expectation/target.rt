@@ -12,7 +12,7 @@ use am_cli::reader::{Object, Reader};
 
 /// The kind and the position of the integration, where they are said.
 pub(crate) fn read_target(item: &Object<'_, '_>) -> Result<(Option<Text>, Option<u32>), InputFault>
-    ensures told { IfOk result (λ target.
+    ensures decoded { IfOk result (λ target.
         IsTargetIn (get_member (codes "integration") (members_view item.now.members)) target.0 target.1) }
     ensures refused { IfErr result (Excludes (λ (target : Option (List ℕ) × Option ℕ).
         IsTargetIn (get_member (codes "integration") (members_view item.now.members)) target.0 target.1)) }
@@ -24,7 +24,7 @@ pub(crate) fn read_target(item: &Object<'_, '_>) -> Result<(Option<Text>, Option
 }
 
 fn read_integration(member: &Reader<'_, '_>) -> Result<(Option<Text>, Option<u32>), InputFault>
-    ensures told { IfOk result (λ target. IsTargetOf (view member.now.value) target.0 target.1) }
+    ensures decoded { IfOk result (λ target. IsTargetOf (view member.now.value) target.0 target.1) }
     ensures refused { IfErr result (Excludes (λ (target : Option (List ℕ) × Option ℕ).
         IsTargetOf (view member.now.value) target.0 target.1)) }
 {

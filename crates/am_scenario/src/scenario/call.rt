@@ -25,7 +25,7 @@ pub enum LaneCall {
 impl<'v> FromJson<'v> for LaneCall {
     ghost use Rattle.am_scenario.specs.Decoding.{DecodesToCall, call_compares_texts};
 
-    ghost decodes_to = { λ dialect value call. DecodesToCall dialect value call };
+    ghost decodes_to = { λ mode value call. DecodesToCall mode value call };
 
     ghost never_refused = { λ call. call_compares_texts call };
 
@@ -46,8 +46,8 @@ impl<'v> FromJson<'v> for LaneCall {
 
 /// The alert of an insert, if the call has one.
 fn read_insert(call: &Object<'_, '_>) -> Result<Option<Alert>, InputFault>
-    ensures told { IfOk result (HasIf (DecodesToAlert call.now.dialect) (codes "insert") (members_view call.now.members)) }
-    ensures refused { IfErr result (Excludes (HasIf (DecodesToAlert call.now.dialect) (codes "insert")
+    ensures decoded { IfOk result (HasIf (DecodesToAlert call.now.mode) (codes "insert") (members_view call.now.members)) }
+    ensures refused { IfErr result (Excludes (HasIf (DecodesToAlert call.now.mode) (codes "insert")
         (members_view call.now.members))) }
 {
     match call.optional("insert") {
@@ -57,8 +57,8 @@ fn read_insert(call: &Object<'_, '_>) -> Result<Option<Alert>, InputFault>
 }
 
 fn read_alert(reader: &Reader<'_, '_>) -> Result<Alert, InputFault>
-    ensures told { IfOk result (DecodesToAlert reader.now.dialect (view reader.now.value)) }
-    ensures refused { IfErr result (Excludes (DecodesToAlert reader.now.dialect (view reader.now.value))) }
+    ensures decoded { IfOk result (DecodesToAlert reader.now.mode (view reader.now.value)) }
+    ensures refused { IfErr result (Excludes (DecodesToAlert reader.now.mode (view reader.now.value))) }
 {
     let insert = reader.object()?;
     let labels = read_labels(&insert.required("labels")?)?;
@@ -70,9 +70,9 @@ fn read_alert(reader: &Reader<'_, '_>) -> Result<Alert, InputFault>
     }
 }
 
-/// When an alert ends, if it tells that.
+/// When an alert ends, if it says that.
 fn read_ends(insert: &Object<'_, '_>) -> Result<Option<u64>, InputFault>
-    ensures told { IfOk result (HasOr IsEnd None (codes "ends") (members_view insert.now.members)) }
+    ensures decoded { IfOk result (HasOr IsEnd None (codes "ends") (members_view insert.now.members)) }
     ensures refused { IfErr result (Excludes (HasOr IsEnd None (codes "ends") (members_view insert.now.members))) }
 {
     match insert.optional("ends") {
@@ -81,9 +81,9 @@ fn read_ends(insert: &Object<'_, '_>) -> Result<Option<u64>, InputFault>
     }
 }
 
-/// A moment, or `null` for none.
+/// A time, or `null` for none.
 fn read_end(member: &Reader<'_, '_>) -> Result<Option<u64>, InputFault>
-    ensures told { IfOk result (IsEnd (view member.now.value)) }
+    ensures decoded { IfOk result (IsEnd (view member.now.value)) }
     ensures refused { IfErr result (Excludes (IsEnd (view member.now.value))) }
 {
     if member.is_null() {
@@ -94,9 +94,9 @@ fn read_end(member: &Reader<'_, '_>) -> Result<Option<u64>, InputFault>
 
 /// The silence that is set, if the call has one.
 fn read_silence(call: &Object<'_, '_>) -> Result<Option<Silence>, InputFault>
-    ensures told { IfOk result (HasIf (DecodesToSilence call.now.dialect) (codes "silence") (members_view call.now.members)) }
+    ensures decoded { IfOk result (HasIf (DecodesToSilence call.now.mode) (codes "silence") (members_view call.now.members)) }
     ensures refused { IfErr result (Excludes (λ (silence : Option SilenceData).
-        HasIf (DecodesToSilence call.now.dialect) (codes "silence") (members_view call.now.members) silence
+        HasIf (DecodesToSilence call.now.mode) (codes "silence") (members_view call.now.members) silence
         × IfSome silence (λ s. IsTrue (compare_texts s.matchers)))) }
 {
     match call.optional("silence") {
@@ -106,9 +106,9 @@ fn read_silence(call: &Object<'_, '_>) -> Result<Option<Silence>, InputFault>
 }
 
 fn read_set(reader: &Reader<'_, '_>) -> Result<Silence, InputFault>
-    ensures told { IfOk result (DecodesToSilence reader.now.dialect (view reader.now.value)) }
+    ensures decoded { IfOk result (DecodesToSilence reader.now.mode (view reader.now.value)) }
     ensures refused { IfErr result (Excludes (λ silence.
-        DecodesToSilence reader.now.dialect (view reader.now.value) silence × IsTrue (compare_texts silence.matchers))) }
+        DecodesToSilence reader.now.mode (view reader.now.value) silence × IsTrue (compare_texts silence.matchers))) }
 {
     let silence = reader.object()?;
     let id = silence.required("id")?.number()?;

@@ -2,7 +2,7 @@
 //! is made of the next. `read` calls it.
 //!
 //! Such a value is taken out of the one that holds it, and is read as a value of its own. A fault in
-//! it is then told at its place in the other (`under`).
+//! it is then given at its pointer in the other (`under`).
 ghost use Rattle.std.specs.Prelude.{◌≡◌, IfErr, IfOk, IsErrAnd, IsTrue, List, option_map, vec_len};
 ghost use Rattle.std.specs.List.{list_all};
 ghost use Rattle.std.specs.Result.{result_ok};
@@ -12,30 +12,30 @@ ghost use Rattle.am_cli.specs.Decoding.{DecodeEach, IsList};
 ghost use Rattle.am_cli.specs.Read.{Excludes, IsRefusedBy, is_refusal};
 
 use am_cli::fault::{FaultKind, InputFault};
-use am_cli::place::JsonPointer;
+use am_cli::pointer::JsonPointer;
 use serde_json::Value;
 use std::alloc::{AllocError, Global};
 
-/// What is read from a value of its own, in the lenient dialect.
+/// What is read from a value of its own, in the lenient mode.
 pub trait FromOwned: Drop + Sized {
     ghost use Rattle.std.specs.Prelude.{Bool};
     ghost use Rattle.serde_json.specs.Data.{Data};
 
-    // What a JSON value tells.
+    // What a JSON value says.
     ghost decodes_to: { Data → Self → Type 0 };
 
-    // Whether what tells this is never refused.
+    // Whether what says this is never refused.
     ghost never_refused: { Self → Bool };
 
-    /// Reads it, and lets the value go. The first fault is answered, at its place in the value.
+    /// Reads it, and lets the value go. The first fault is answered, at its pointer in the value.
     fn read_owned(alloc: Global, value: Value) -> Result<Self, InputFault>
-        ensures told { IfOk result (decodes_to (view value)) }
+        ensures decoded { IfOk result (decodes_to (view value)) }
         ensures refused { IfErr result (Excludes (λ x. decodes_to (view value) x × IsTrue (never_refused x))) };
 }
 
 /// The items of an array, or `Kind`.
 pub fn read_list<T: FromOwned>(alloc: Global, value: Value) -> Result<Vec<T>, InputFault>
-    ensures told { IfOk result (λ items. IsList T.decodes_to (view value) items.items) }
+    ensures decoded { IfOk result (λ items. IsList T.decodes_to (view value) items.items) }
     ensures refused { IfErr result (Excludes (λ (items : List T).
         IsList T.decodes_to (view value) items × IsTrue (list_all T.never_refused items))) }
 {
@@ -57,7 +57,7 @@ pub fn into_array(alloc: Global, value: Value) -> Result<Vec<Value>, InputFault>
 /// The items of a list, each read wholly before the next.
 pub fn read_items<T: FromOwned>(alloc: Global, values: Vec<Value>) -> Result<Vec<T>, InputFault>
     ensures count { IfOk result (λ items. vec_len items ≡ vec_len values) }
-    ensures told { IfOk result (λ items. DecodeEach T.decodes_to (items_view values.items) items.items) }
+    ensures decoded { IfOk result (λ items. DecodeEach T.decodes_to (items_view values.items) items.items) }
     ensures refused { IfErr result (Excludes (λ (items : List T).
         DecodeEach T.decodes_to (items_view values.items) items × IsTrue (list_all T.never_refused items))) }
 {
@@ -71,7 +71,7 @@ pub fn read_items<T: FromOwned>(alloc: Global, values: Vec<Value>) -> Result<Vec
 
 /// The item at an index of a list.
 fn read_item<T: FromOwned>(alloc: Global, index: usize, value: Value) -> Result<T, InputFault>
-    ensures told { IfOk result (T.decodes_to (view value)) }
+    ensures decoded { IfOk result (T.decodes_to (view value)) }
     ensures refused { IfErr result (Excludes (λ x. T.decodes_to (view value) x × IsTrue (T.never_refused x))) }
 {
     let root = JsonPointer::Root;
@@ -89,32 +89,36 @@ pub fn into_member(value: Value, name: &str) -> Option<Value>
     }
 }
 
-/// What was read of a value that stood at this place, with its fault told there.
+/// What was read of a value that stood at this pointer, with its fault given there.
 pub fn under<X: Drop>(
     alloc: Global,
     above: &JsonPointer<'_>,
     read: Result<X, InputFault>,
 ) -> Result<X, InputFault>
-    ensures told { result_ok result ≡ result_ok read }
+    ensures decoded { result_ok result ≡ result_ok read }
     ensures refused { IfErr result (λ fault. IsErrAnd read (λ below. IsTrue (is_refusal fault) → IsTrue (is_refusal below))) }
 {
     match read {
         Ok(item) => Ok(item),
         Err(InputFault::NoMemory) => Err(InputFault::NoMemory),
-        Err(InputFault::Refused { place, fault_kind }) => match joined(
-            alloc,
-            above,
-            place.as_str(),
-        ) {
-            Ok(place) => Err(InputFault::Refused { place, fault_kind }),
+        Err(
+            InputFault::Refused {
+                pointer,
+                fault_kind,
+            },
+        ) => match joined(alloc, above, pointer.as_str()) {
+            Ok(pointer) => Err(InputFault::Refused {
+                pointer,
+                fault_kind,
+            }),
             Err(_) => Err(InputFault::NoMemory),
         },
     }
 }
 
-/// A place, and one below it.
+/// A pointer, and one below it.
 fn joined(alloc: Global, above: &JsonPointer<'_>, below: &str) -> Result<String, AllocError> {
-    let mut place = above.text(alloc)?;
-    place.push_str(below)?;
-    Ok(place)
+    let mut pointer = above.text(alloc)?;
+    pointer.push_str(below)?;
+    Ok(pointer)
 }

@@ -8,7 +8,7 @@ ghost use Rattle.std.specs.Prelude.{◌≡◌, ◌≤◌, ℕ, List, [], IfErr, 
 ghost use Rattle.std.specs.List.{list_all};
 ghost use Rattle.am_cli.specs.Decoding.{IsList, IsNumber, HasOr};
 ghost use Rattle.am_cli.specs.Read.{Excludes};
-ghost use Rattle.am_cli.specs.declared.reader.Dialect.TheVariants.{Lenient};
+ghost use Rattle.am_cli.specs.declared.reader.Mode.TheVariants.{Lenient};
 ghost use Rattle.am_pool.specs.declared.limits.TheConstants.{MAX_WORKERS};
 ghost use Rattle.am_scenario.specs.Decoding.{DecodesToLane, DecodesToPhase, DecodesToScenario};
 ghost use Rattle.am_scenario.specs.Decoding.{lane_compares_texts, phase_compares_texts, scenario_compares_texts};
@@ -18,10 +18,10 @@ ghost use Rattle.serde_json.specs.View.{members_view, view};
 
 use super::items::{FromOwned, into_array, into_member, read_items, read_list, under};
 use super::{Lane, LaneCall, MAX_LANES, Phase, Scenario, Script};
-use am_alerts::limits::MAX_MOMENT;
+use am_alerts::limits::MAX_TIME;
 use am_cli::config::read_config;
 use am_cli::fault::{FaultKind, InputFault};
-use am_cli::place::JsonPointer;
+use am_cli::pointer::JsonPointer;
 use am_cli::reader::{FromJson, Object, Reader};
 use am_pool::MAX_WORKERS;
 use serde_json::Value;
@@ -31,12 +31,12 @@ use std::alloc::Global;
 const USUAL_WORKERS: usize = 2;
 
 /// Reads a whole scenario. The first fault in the order of reading is answered. A pattern
-/// that needs a regex may be too large; else what the value tells is refused only for want of memory.
+/// that needs a regex may be too large; else what the value says is refused only for want of memory.
 ///
 /// Each call of a lane is let go as soon as it was read: of a large scenario the value and what is made
 /// of it are never there whole at once.
 pub fn read_scenario(alloc: Global, value: Value) -> Result<Scenario, InputFault>
-    ensures told { IfOk result (DecodesToScenario (view value)) }
+    ensures decoded { IfOk result (DecodesToScenario (view value)) }
     ensures refused { IfErr result (Excludes (λ scenario.
         DecodesToScenario (view value) scenario × IsTrue (scenario_compares_texts scenario))) }
 {
@@ -57,7 +57,7 @@ pub fn read_scenario(alloc: Global, value: Value) -> Result<Scenario, InputFault
 /// How many workers there are to be.
 fn read_workers(top: &Object<'_, '_>) -> Result<usize, InputFault>
     ensures bounds { IfOk result (λ workers. (1 ≤ workers) × (workers ≤ MAX_WORKERS)) }
-    ensures told { IfOk result (HasOr IsNumber 2 (codes "workers") (members_view top.now.members)) }
+    ensures decoded { IfOk result (HasOr IsNumber 2 (codes "workers") (members_view top.now.members)) }
     ensures refused { IfErr result (Excludes (λ (workers : ℕ). HasOr IsNumber 2 (codes "workers") (members_view top.now.members) workers
         × (1 ≤ workers) × (workers ≤ MAX_WORKERS))) }
 {
@@ -75,21 +75,21 @@ fn read_workers(top: &Object<'_, '_>) -> Result<usize, InputFault>
 
 /// The phases of a scenario, whose other members are let go.
 fn read_phases(alloc: Global, scenario: Value) -> Result<Vec<Phase>, InputFault>
-    ensures told { IfOk result (λ phases. MatchOption (get (codes "phases") (view scenario)) ⊥
+    ensures decoded { IfOk result (λ phases. MatchOption (get (codes "phases") (view scenario)) ⊥
         (λ value. IsList (DecodesToPhase Lenient) value phases.items)) }
     ensures refused { IfErr result (Excludes (λ (phases : List Phase). MatchOption (get (codes "phases") (view scenario)) ⊥
         (λ value. IsList (DecodesToPhase Lenient) value phases) × IsTrue (list_all phase_compares_texts phases))) }
 {
     let root = JsonPointer::Root;
-    let place = root.member("phases");
+    let pointer = root.member("phases");
     match into_member(scenario, "phases") {
-        None => Err(place.refuse(alloc, FaultKind::Missing)),
-        Some(phases) => under(alloc, &place, read_list::<Phase>(alloc, phases)),
+        None => Err(pointer.refuse(alloc, FaultKind::Missing)),
+        Some(phases) => under(alloc, &pointer, read_list::<Phase>(alloc, phases)),
     }
 }
 
 impl FromOwned for Phase {
-    ghost use Rattle.am_cli.specs.declared.reader.Dialect.TheVariants.{Lenient};
+    ghost use Rattle.am_cli.specs.declared.reader.Mode.TheVariants.{Lenient};
     ghost use Rattle.am_scenario.specs.Decoding.{DecodesToPhase, phase_compares_texts};
 
     ghost decodes_to = { λ value phase. DecodesToPhase Lenient value phase };
@@ -99,7 +99,7 @@ impl FromOwned for Phase {
     fn read_owned(alloc: Global, value: Value) -> Result<Phase, InputFault> {
         let reader = Reader::top(alloc, &value);
         let phase = reader.object()?;
-        let at = phase.required("at")?.number_up_to(MAX_MOMENT)?;
+        let at = phase.required("at")?.number_up_to(MAX_TIME)?;
         let flush = phase.flag_or("flush", false)?;
         let lanes = read_lanes(alloc, value)?;
         Ok(Phase { at, flush, lanes })
@@ -109,24 +109,24 @@ impl FromOwned for Phase {
 /// The lanes of a phase, if it has any; its other members are let go.
 fn read_lanes(alloc: Global, phase: Value) -> Result<Vec<Lane>, InputFault>
     ensures bound { IfOk result (λ lanes. vec_len lanes ≤ MAX_LANES) }
-    ensures told { IfOk result (λ lanes. MatchOption (get (codes "lanes") (view phase)) (lanes.items ≡ [])
+    ensures decoded { IfOk result (λ lanes. MatchOption (get (codes "lanes") (view phase)) (lanes.items ≡ [])
         (λ value. IsList (DecodesToLane Lenient) value lanes.items)) }
     ensures refused { IfErr result (Excludes (λ (lanes : List Lane). MatchOption (get (codes "lanes") (view phase)) (lanes ≡ [])
         (λ value. IsList (DecodesToLane Lenient) value lanes)
         × IsTrue (list_all lane_compares_texts lanes) × (length lanes ≤ MAX_LANES))) }
 {
     let root = JsonPointer::Root;
-    let place = root.member("lanes");
+    let pointer = root.member("lanes");
     match into_member(phase, "lanes") {
         None => Ok(Vec::new(alloc)),
-        Some(lanes) => under(alloc, &place, read_few_lanes(alloc, lanes)),
+        Some(lanes) => under(alloc, &pointer, read_few_lanes(alloc, lanes)),
     }
 }
 
 /// The lanes in an array of a few. They are counted before the first is read.
 fn read_few_lanes(alloc: Global, lanes: Value) -> Result<Vec<Lane>, InputFault>
     ensures bound { IfOk result (λ few. vec_len few ≤ MAX_LANES) }
-    ensures told { IfOk result (λ few. IsList (DecodesToLane Lenient) (view lanes) few.items) }
+    ensures decoded { IfOk result (λ few. IsList (DecodesToLane Lenient) (view lanes) few.items) }
     ensures refused { IfErr result (Excludes (λ (few : List Lane). IsList (DecodesToLane Lenient) (view lanes) few
         × IsTrue (list_all lane_compares_texts few) × (length few ≤ MAX_LANES))) }
 {
@@ -138,7 +138,7 @@ fn read_few_lanes(alloc: Global, lanes: Value) -> Result<Vec<Lane>, InputFault>
 }
 
 impl FromOwned for Lane {
-    ghost use Rattle.am_cli.specs.declared.reader.Dialect.TheVariants.{Lenient};
+    ghost use Rattle.am_cli.specs.declared.reader.Mode.TheVariants.{Lenient};
     ghost use Rattle.am_scenario.specs.Decoding.{DecodesToLane, lane_compares_texts};
 
     ghost decodes_to = { λ value lane. DecodesToLane Lenient value lane };
@@ -152,7 +152,7 @@ impl FromOwned for Lane {
 }
 
 impl FromOwned for LaneCall {
-    ghost use Rattle.am_cli.specs.declared.reader.Dialect.TheVariants.{Lenient};
+    ghost use Rattle.am_cli.specs.declared.reader.Mode.TheVariants.{Lenient};
     ghost use Rattle.am_scenario.specs.Decoding.{DecodesToCall, call_compares_texts};
 
     ghost decodes_to = { λ value call. DecodesToCall Lenient value call };

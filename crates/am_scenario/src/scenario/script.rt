@@ -67,7 +67,7 @@ impl<'v> FromJson<'v> for Script {
     ghost use Rattle.std.specs.Prelude.{true};
     ghost use Rattle.am_scenario.specs.Decoding.{DecodesToScript};
 
-    ghost decodes_to = { λ dialect value script. DecodesToScript value script };
+    ghost decodes_to = { λ mode value script. DecodesToScript value script };
 
     ghost never_refused = { λ _. true };
 
@@ -85,7 +85,7 @@ impl<'v> FromJson<'v> for ScriptedAnswer {
     ghost use Rattle.std.specs.Prelude.{true};
     ghost use Rattle.am_scenario.specs.Decoding.{DecodesToPlanned};
 
-    ghost decodes_to = { λ dialect value planned. DecodesToPlanned value planned };
+    ghost decodes_to = { λ mode value planned. DecodesToPlanned value planned };
 
     ghost never_refused = { λ _. true };
 

@@ -253,7 +253,7 @@ fn time_text<C: TimeFormat>(alloc: Global, clock: &C, at: u64) -> Result<String,
     ensures { IfOk result (λ text. string_bytes text ≡ (C.times clock.now).text at) }
 {
     let mut text = String::new(alloc);
-    clock.push_moment(at, &mut text)?;
+    clock.push_time(at, &mut text)?;
     Ok(text)
 }
 

@@ -10,7 +10,7 @@ ghost use Rattle.am_timeline.specs.Expiry.{count_integrations, expired, expired_
 ghost use Rattle.am_timeline.specs.LastEntry.{expiry_in};
 ghost use Rattle.am_timeline.specs.Log.{Follows, same_log_key};
 
-use crate::logbook::log::{LastEntry, Log, LogKey, add_record, empty_log, next_moment};
+use crate::logbook::log::{LastEntry, Log, LogKey, add_record, empty_log, next_time};
 use am_model::config::Config;
 use am_model::group::GroupName;
 use am_model::record::{Record, Reply};
@@ -18,10 +18,10 @@ use am_seed::Seed;
 use std::alloc::{AllocError, Global};
 use std::collections::HashMap;
 
-/// The place of a flush's begin in the history, and the position of an integration.
+/// The index of a flush's begin in the history, and the position of an integration.
 #[derive(Clone, Copy, PartialEq, Eq, Hash)]
 pub struct FlushKey {
-    pub place: usize,
+    pub index: usize,
     pub integration: usize,
 }
 
@@ -33,14 +33,14 @@ pub fn expired_entries(
     config: &Config,
     history: &[Record],
 ) -> Result<HashMap<FlushKey, u64, Seed>, AllocError>
-    ensures { IfOk result (λ table. (place integration : ℕ)
-        → get same_flush_key table (record { place = place; integration = integration })
-        ≡ expired config.now history.now place integration) }
+    ensures { IfOk result (λ table. (index integration : ℕ)
+        → get same_flush_key table (record { index = index; integration = integration })
+        ≡ expired config.now history.now index integration) }
 {
     let mut log = empty_log(alloc, seed);
     let mut table = HashMap::with_hasher(alloc, seed);
-    for (place, added) in history.iter().enumerate() {
-        add_expired(alloc, config, &log, place, added, &mut table)?;
+    for (index, added) in history.iter().enumerate() {
+        add_expired(alloc, config, &log, index, added, &mut table)?;
         add_record(alloc, added, &mut log)?;
     }
     Ok(table)
@@ -51,20 +51,20 @@ fn add_expired(
     alloc: Global,
     config: &Config,
     log: &Log<'_>,
-    place: usize,
+    index: usize,
     added: &Record,
     table: &mut HashMap<FlushKey, u64, Seed>,
 ) -> Result<(), AllocError>
     ensures { OnOk result ((past : Past) → Follows log.now past → (p i : ℕ)
-        → get same_flush_key table.new (record { place = p; integration = i })
-        ≡ option_or (if place == p then expired_before config.now i past added.now else None)
-        (get same_flush_key table.old (record { place = p; integration = i }))) }
+        → get same_flush_key table.new (record { index = p; integration = i })
+        ≡ option_or (if index == p then expired_before config.now i past added.now else None)
+        (get same_flush_key table.old (record { index = p; integration = i }))) }
 {
     match flush_group(&added.reply) {
         None => Ok(()),
         Some(group) => {
-            let t = next_moment(log.clock, &added.call);
-            add_each(alloc, config, group, t, &log.logged, place, table)
+            let t = next_time(log.clock, &added.call);
+            add_each(alloc, config, group, t, &log.logged, index, table)
         }
     }
 }
@@ -86,35 +86,35 @@ fn add_each(
     group: &GroupName,
     t: u64,
     logged: &HashMap<LogKey, LastEntry, Seed>,
-    place: usize,
+    index: usize,
     table: &mut HashMap<FlushKey, u64, Seed>,
 ) -> Result<(), AllocError>
-    ensures { OnOk result ((p i : ℕ) → get same_flush_key table.new (record { place = p; integration = i })
-        ≡ option_or (if (place == p) && nat_lt i (count_integrations config.now group.now)
+    ensures { OnOk result ((p i : ℕ) → get same_flush_key table.new (record { index = p; integration = i })
+        ≡ option_or (if (index == p) && nat_lt i (count_integrations config.now group.now)
         then expiry_of config.now group.now t (get same_log_key logged.now (record { group = group.now; integration = i })) else None)
-        (get same_flush_key table.old (record { place = p; integration = i }))) }
+        (get same_flush_key table.old (record { index = p; integration = i }))) }
 {
     let count = config.integrations_of(group).len();
     for integration in 0..count {
         let expiry = expiry_of(alloc, config, group, integration, t, logged)?;
-        add_entry(place, integration, expiry, table)?;
+        add_entry(index, integration, expiry, table)?;
     }
     Ok(())
 }
 
 /// Adds an entry that had expired, if it had.
 fn add_entry(
-    place: usize,
+    index: usize,
     integration: usize,
     expiry: Option<u64>,
     table: &mut HashMap<FlushKey, u64, Seed>,
 ) -> Result<(), AllocError>
-    ensures { OnOk result ((p i : ℕ) → get same_flush_key table.new (record { place = p; integration = i })
-        ≡ option_or (if (place == p) && (integration == i) then expiry else None)
-        (get same_flush_key table.old (record { place = p; integration = i }))) }
+    ensures { OnOk result ((p i : ℕ) → get same_flush_key table.new (record { index = p; integration = i })
+        ≡ option_or (if (index == p) && (integration == i) then expiry else None)
+        (get same_flush_key table.old (record { index = p; integration = i }))) }
 {
     if let Some(expiry) = expiry {
-        table.insert(FlushKey { place, integration }, expiry)?;
+        table.insert(FlushKey { index, integration }, expiry)?;
     }
     Ok(())
 }

@@ -4,7 +4,7 @@ ghost use Rattle.std.specs.Prelude.{max, min, nat_eq};
 ghost use Rattle.std.specs.HashMap.{get};
 ghost use Rattle.std.specs.HashSet.{contains};
 ghost use Rattle.std.specs.Option.{option_map, option_or};
-ghost use Rattle.am_alerts.specs.declared.limits.TheConstants.{MAX_MOMENT};
+ghost use Rattle.am_alerts.specs.declared.limits.TheConstants.{MAX_TIME};
 ghost use Rattle.am_model.specs.Finish.{is_delivered};
 ghost use Rattle.am_model.specs.State.{same_name};
 ghost use Rattle.am_model.specs.Records.{now_of};
@@ -16,7 +16,7 @@ ghost use Rattle.am_timeline.specs.LastEntry.{entry_loaded, entry_of_row};
 ghost use Rattle.am_timeline.specs.Log.{Follows, finish_logs, has_success, is_logged, logs_by, same_log_key, same_note_key};
 
 use crate::playback::is_put;
-use am_alerts::limits::MAX_MOMENT;
+use am_alerts::limits::MAX_TIME;
 use am_model::group::GroupName;
 use am_model::notice::Notice;
 use am_model::outcome::outcome_of;
@@ -93,26 +93,19 @@ pub fn empty_log<'h>(alloc: Global, seed: Seed) -> Log<'h>
 pub fn add_record<'h>(alloc: Global, added: &'h Record, log: &mut Log<'h>) -> Result<(), AllocError>
     ensures { OnOk result ((past : Past) → Follows log.old past → Follows log.new (added.now ∷ past)) }
 {
-    let moment = next_moment(log.clock, &added.call);
-    add_logged(
-        alloc,
-        &log.begun,
-        &log.noted,
-        added,
-        moment,
-        &mut log.logged,
-    )?;
+    let time = next_time(log.clock, &added.call);
+    add_logged(alloc, &log.begun, &log.noted, added, time, &mut log.logged)?;
     add_noted(&added.call, &mut log.noted)?;
     add_begun(added, &mut log.begun)?;
-    log.clock = moment;
+    log.clock = time;
     Ok(())
 }
 
 /// The time of a call, after this one: the time that it handed in, or this if that is later.
-pub fn next_moment(clock: u64, call: &Call) -> u64
-    ensures { result ≡ max clock (min (now_of call.now) MAX_MOMENT) }
+pub fn next_time(clock: u64, call: &Call) -> u64
+    ensures { result ≡ max clock (min (now_of call.now) MAX_TIME) }
 {
-    clock.max(now_of(call).min(MAX_MOMENT))
+    clock.max(now_of(call).min(MAX_TIME))
 }
 
 /// The time that a call handed in.
@@ -172,13 +165,13 @@ fn add_logged(
     begun: &HashMap<u64, Begun<'_>, Seed>,
     noted: &HashSet<NoteKey, Seed>,
     added: &Record,
-    moment: u64,
+    time: u64,
     logged: &mut HashMap<LogKey, LastEntry, Seed>,
 ) -> Result<(), AllocError>
     ensures { OnOk result ((name : named.GroupName) (integration : ℕ)
         → get same_log_key logged.new (record { group = name; integration = integration })
         ≡ (if logs_by (λ k. get nat_eq begun.now k) (λ k i. contains same_note_key noted.now (record { number = k; integration = i }))
-        name integration added.now.call then Some (entries.Logged moment)
+        name integration added.now.call then Some (entries.Logged time)
         else option_or (entry_loaded name integration added.now)
         (get same_log_key logged.old (record { group = name; integration = integration })))) }
 {
@@ -195,7 +188,7 @@ fn add_logged(
                 *number,
                 outcomes.as_slice(),
                 noted,
-                moment,
+                time,
                 logged,
             ),
         },
@@ -205,7 +198,7 @@ fn add_logged(
             ..
         } => match begun.get(number) {
             None => Ok(()),
-            Some(flush) => log_note(alloc, flush.begin, *integration as usize, moment, logged),
+            Some(flush) => log_note(alloc, flush.begin, *integration as usize, time, logged),
         },
         Call::Load { row, .. } => log_load(alloc, row.get(), &added.reply, logged),
         _ => Ok(()),
@@ -236,17 +229,17 @@ fn log_note(
     alloc: Global,
     flush: &Record,
     integration: usize,
-    moment: u64,
+    time: u64,
     logged: &mut HashMap<LogKey, LastEntry, Seed>,
 ) -> Result<(), AllocError>
     ensures { OnOk result ((name : named.GroupName) (i : ℕ)
         → get same_log_key logged.new (record { group = name; integration = i })
         ≡ (if is_flush_of name flush.now.reply && (integration == i)
-        then Some (entries.Logged moment) else get same_log_key logged.old (record { group = name; integration = i }))) }
+        then Some (entries.Logged time) else get same_log_key logged.old (record { group = name; integration = i }))) }
 {
     match &flush.reply {
         Reply::Flush { group, .. } => {
-            add_entry(alloc, group, integration, LastEntry::Logged(moment), logged)
+            add_entry(alloc, group, integration, LastEntry::Logged(time), logged)
         }
         _ => Ok(()),
     }
@@ -280,13 +273,13 @@ fn log_finish(
     number: u64,
     outcomes: &[(u32, Outcome)],
     noted: &HashSet<NoteKey, Seed>,
-    moment: u64,
+    time: u64,
     logged: &mut HashMap<LogKey, LastEntry, Seed>,
 ) -> Result<(), AllocError>
     ensures { OnOk result ((name : named.GroupName) (i : ℕ)
         → get same_log_key logged.new (record { group = name; integration = i })
         ≡ (if finish_logs (λ k. contains same_note_key noted.now (record { number = number; integration = k })) outcomes.now name i
-        flush.now then Some (entries.Logged moment) else get same_log_key logged.old (record { group = name; integration = i }))) }
+        flush.now then Some (entries.Logged time) else get same_log_key logged.old (record { group = name; integration = i }))) }
 {
     match &flush.reply {
         Reply::Flush { group, opened } => log_notices(
@@ -296,7 +289,7 @@ fn log_finish(
             number,
             outcomes,
             noted,
-            moment,
+            time,
             logged,
         ),
         _ => Ok(()),
@@ -311,18 +304,18 @@ fn log_notices(
     number: u64,
     outcomes: &[(u32, Outcome)],
     noted: &HashSet<NoteKey, Seed>,
-    moment: u64,
+    time: u64,
     logged: &mut HashMap<LogKey, LastEntry, Seed>,
 ) -> Result<(), AllocError>
     ensures { OnOk result ((name : named.GroupName) (i : ℕ)
         → get same_log_key logged.new (record { group = name; integration = i })
         ≡ (if same_name name group.now
         && is_logged (λ k. contains same_note_key noted.now (record { number = number; integration = k })) outcomes.now i notices.now
-        then Some (entries.Logged moment) else get same_log_key logged.old (record { group = name; integration = i }))) }
+        then Some (entries.Logged time) else get same_log_key logged.old (record { group = name; integration = i }))) }
 {
     for notice in notices {
         if is_new_success(noted, number, outcomes, notice) {
-            let entry = LastEntry::Logged(moment);
+            let entry = LastEntry::Logged(time);
             add_entry(alloc, group, notice.integration as usize, entry, logged)?;
         }
     }

@@ -1,14 +1,14 @@
 use Rattle.std.proofs.Common.{◌≡◌, ◌<◌, [], ◌∷◌, ◌++◌, length, take, sym, ap, ◌∙◌, arith}
 use Rattle.std.proofs.lemmas.List.{map_push, take_all}
 use Rattle.am_alerts.specs.declared.labels.Label.{Label}
-use Rattle.am_alerts.specs.Labels.{label_in, labels_in, only_named, stands_in}
+use Rattle.am_alerts.specs.Labels.{label_in, labels_in, only_named, occurs_in}
 use Rattle.am_alerts.proofs.Finding.{filter_more_kept, filter_more_left}
 use Rattle.am_alerts.proofs.labels.only_named.Goals as goal
 use Rattle.am_alerts.proofs.labels.only_named.Goals.{then-has_text+in_ok-push, else-has_text}
 
 pub loop-i-preserved : goal.loop-i-preserved
 loop-i-preserved c =
-    let kept = λ (l : Label). stands_in l.name c.args.names.now in
+    let kept = λ (l : Label). occurs_in l.name c.args.names.now in
     let label : Label = label_in c.pair-pair.result in
     let within : c.loop-i.i < length c.args.labels.now = omega (arith, c.loop-i-test.true, c.len-i-end.ensures.length) in
     let before : labels_in c.loop-i.kept.items ≡ only_named c.args.names.now (take c.loop-i.i c.args.labels.now) = c.loop-i.invariant in

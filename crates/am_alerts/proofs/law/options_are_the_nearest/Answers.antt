@@ -15,6 +15,6 @@ pub returns-clause-others : goal.returns-clause-others
 returns-clause-others c = λ root rules. (
   is_own (λ c. c.route.name) (λ r. r.name) (λ above r. refl) root rules,
   is_own (λ c. c.matchers) (λ r. r.matchers) (λ above r. refl) root rules,
-  is_own (λ c. c.goes_on) (λ r. r.goes_on) (λ above r. refl) root rules,
-  own-below (λ r. r.shut) (λ r. r.shut) (λ above r. refl) root rules,
+  is_own (λ c. c.continues) (λ r. r.continues) (λ above r. refl) root rules,
+  own-below (λ r. r.muted) (λ r. r.muted) (λ above r. refl) root rules,
 )

@@ -1,7 +1,7 @@
 use Rattle.std.proofs.Common.{rules, ◌≡◌, ◌<◌, [], arith, length, refl, subst, sym, ap, ◌∙◌}
 use Rattle.std.proofs.lemmas.List.{nil_from_length}
 use Rattle.am_alerts.specs.Layout.{planted}
-use Rattle.am_alerts.specs.Planted.{IsLaid, paired}
+use Rattle.am_alerts.specs.RouteLayouts.{IsLaid, paired}
 use Rattle.am_alerts.specs.RoutingTree.{matching}
 use Rattle.am_alerts.proofs.Layouts.{part_paired}
 use Rattle.am_alerts.proofs.Searches.{or_self-none, or_self-some}
@@ -10,13 +10,13 @@ use Rattle.am_alerts.proofs.routes.routes_found.Goals.{then-is_empty+in_ok-push,
 
 pub push_matching-requires-clause-laid : goal.push_matching-requires-clause-laid
 push_matching-requires-clause-laid c =
-    subst (λ ts. IsLaid ts) (sym (part_paired c.args.children.now c.args.places.now)) c.requires.laid
+    subst (λ ts. IsLaid ts) (sym (part_paired c.args.children.now c.args.layouts.now)) c.requires.laid
 
 pub returns : goal.returns
 returns c =
-    let found : c.push_matching.new.found.items ≡ matching 1 (planted (paired c.args.children.now c.args.places.now)) c.args.labels.now =
+    let found : c.push_matching.new.found.items ≡ matching 1 (planted (paired c.args.children.now c.args.layouts.now)) c.args.labels.now =
     rw c.new-found.ensures.items at c.in_ok-push_matching.ensures
-    ∙ ap (λ ts. matching 1 (planted ts) c.args.labels.now) (part_paired c.args.children.now c.args.places.now) in
+    ∙ ap (λ ts. matching 1 (planted ts) c.args.labels.now) (part_paired c.args.children.now c.args.layouts.now) in
     rw (← found)
     (elim c.if-is_empty.branch [
       | then-is_empty+in_ok-push w ↦

@@ -1,12 +1,12 @@
 use Rattle.std.proofs.Common.{◌≡◌, ◌<◌, ◌∙◌, length, refl, rules, sym, true}
 use Rattle.am_alerts.specs.Matcher.{matches_parts, pattern_of}
-use Rattle.am_alerts.proofs.MetPatterns.{match_more, met_place, met_step, past, past-none, past-some}
+use Rattle.am_alerts.proofs.MetPatterns.{match_more, met_index, met_step, past, past-none, past-some}
 use Rattle.am_alerts.proofs.searchers.all_match_by.Goals as goal
 use Rattle.am_alerts.proofs.searchers.all_match_by.Goals.{then-is_some, else-is_some}
 
-pub matches_by-requires-clause-place : goal.matches_by-requires-clause-place
-matches_by-requires-clause-place c =
-    met_place c.args.matchers.now c.loop-matcher.matcher-index c.matcher-item.result c.loop-matcher.patterns
+pub matches_by-requires-clause-index : goal.matches_by-requires-clause-index
+matches_by-requires-clause-index c =
+    met_index c.args.matchers.now c.loop-matcher.matcher-index c.matcher-item.result c.loop-matcher.patterns
     c.loop-matcher.searchers.items (search rules) c.matcher-item.is c.loop-matcher.invariant.1
 
 pub returns-then-not-branch-clause-kept : goal.returns-then-not-branch-clause-kept

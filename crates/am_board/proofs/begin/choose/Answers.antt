@@ -9,19 +9,19 @@ use Rattle.am_board.proofs.begin.choose.Goals as goal
 
 pub due_again-due-requires-clause-route : goal.due_again-due-requires-clause-route
 due_again-due-requires-clause-route c =
-    routed_at c.args.config.now.routes c.args.state.now.groups.items c.in-Some.place c.at.result.now c.requires.routed c.in-Some.ensures.within c.at.ensures
+    routed_at c.args.config.now.routes c.args.state.now.groups.items c.in-Some.index c.at.result.now c.requires.routed c.in-Some.ensures.within c.at.ensures
 
 pub returns-in_default : goal.returns-in_default
 returns-in_default c =
     let s = c.args.state.now in
-    subst (λ n. taken (state_of s) n ≡ None) c.moment-t.ensures
-    (taken-none s c.moment-t.result s.groups.items s.flushes.items refl refl (c.in_default.ensures.first (map flush_state s.flushes.items) c.requires.marked))
+    subst (λ n. taken (state_of s) n ≡ None) c.time-t.ensures
+    (taken-none s c.time-t.result s.groups.items s.flushes.items refl refl (c.in_default.ensures.first (map flush_state s.flushes.items) c.requires.marked))
 
 pub returns : goal.returns
 returns c =
     let s = c.args.state.now in
-    let chosen : ChosenGroup = record { pass = c.args.pass; now = c.args.now; t = c.moment-t.result; place = c.in-Some.place; due = c.due_again-due.result } in
+    let chosen : ChosenGroup = record { pass = c.args.pass; now = c.args.now; t = c.time-t.result; index = c.in-Some.index; due = c.due_again-due.result } in
     let takes : IsChosen c.args.config.now s chosen c.at.result.now =
     taking_found c.args.config.now s chosen c.at.result.now s.groups.items s.flushes.items refl refl
-    c.moment-t.ensures c.in-Some.ensures.within (c.in-Some.ensures.first (map flush_state s.flushes.items) c.requires.marked c.at.result.now) c.at.ensures c.due_again-due.ensures in
+    c.time-t.ensures c.in-Some.ensures.within (c.in-Some.ensures.first (map flush_state s.flushes.items) c.requires.marked c.at.result.now) c.at.ensures c.due_again-due.ensures in
     record { pass = refl; now = refl; group = c.at.result.now; chosen = takes }

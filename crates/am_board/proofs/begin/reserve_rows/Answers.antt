@@ -5,11 +5,11 @@ use Rattle.am_model.specs.declared.group.GroupName.{GroupName}
 use Rattle.am_board.proofs.lemmas.begin.ReservedRows.{ReservingRows, reserving_rows_step}
 use Rattle.am_board.proofs.begin.reserve_rows.Goals as goal
 
-pub loop-asked-preserved : goal.loop-asked-preserved
-loop-asked-preserved c =
-    subst (λ (log : Slots GroupName (List Label)). ReservingRows c.args.log.now log c.as_slice-asked-items.result.now c.args.flush.now.group (c.loop-asked.asked-index + 1))
+pub loop-notified-preserved : goal.loop-notified-preserved
+loop-notified-preserved c =
+    subst (λ (log : Slots GroupName (List Label)). ReservingRows c.args.log.now log c.as_slice-notified-items.result.now c.args.flush.now.group (c.loop-notified.notified-index + 1))
     (sym c.in_ok-reserve.ensures.ok)
-    (reserving_rows_step c.args.log.now c.loop-asked.log c.as_slice-asked-items.result.now c.args.flush.now.group c.loop-asked.asked-index
-    (record { group = c.in_ok-copy.field-0; integration = c.asked-item.result.key.integration }) c.asked-item.result (omega arith) c.asked-item.is
-    (ap (λ (group : GroupName). record { group = group; integration = c.asked-item.result.key.integration }) c.in_ok-copy.ensures)
-    c.loop-asked.invariant)
+    (reserving_rows_step c.args.log.now c.loop-notified.log c.as_slice-notified-items.result.now c.args.flush.now.group c.loop-notified.notified-index
+    (record { group = c.in_ok-copy.field-0; integration = c.notified-item.result.key.integration }) c.notified-item.result (omega arith) c.notified-item.is
+    (ap (λ (group : GroupName). record { group = group; integration = c.notified-item.result.key.integration }) c.in_ok-copy.ensures)
+    c.loop-notified.invariant)

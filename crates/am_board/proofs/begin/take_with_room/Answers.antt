@@ -1,11 +1,11 @@
 use Rattle.std.proofs.Common.{◌≡◌, ℕ, ◌<◌, ◌≤◌, length, Result, Ok, Err, Option, None, vec_len, slice_index_or, sym, ap, subst, arith}
 use Rattle.std.specs.Prelude.{All}
 use Rattle.std.proofs.lemmas.Result.{err_from_is_err_and}
-use Rattle.am_alerts.specs.declared.limits.TheConstants.{MAX_MOMENT}
+use Rattle.am_alerts.specs.declared.limits.TheConstants.{MAX_TIME}
 use Rattle.am_mute.specs.Sources.{AreLearnt}
 use Rattle.am_model.specs.Begin.{taken}
 use Rattle.am_model.specs.Causes.{begin_cause, opens_by}
-use Rattle.am_model.specs.State.{moment}
+use Rattle.am_model.specs.State.{time}
 use Rattle.am_model.specs.declared.config.Config.{Config}
 use Rattle.am_model.specs.declared.fault.Fault.{Fault}
 use Rattle.am_board.specs.Beginning.{IsChosen, IsEnd, IsPlan}
@@ -16,7 +16,7 @@ use Rattle.am_board.specs.declared.begin.ChosenGroup.{ChosenGroup}
 use Rattle.am_board.specs.declared.group.Group.{Group}
 use Rattle.am_board.specs.declared.plan.PlannedFlush.{PlannedFlush}
 use Rattle.am_board.specs.declared.state.State.{State}
-use Rattle.am_board.proofs.lemmas.begin.Causes.{IsTold, told, cause-closed, ended, planned_err, planned_few, planned_none, planned_room}
+use Rattle.am_board.proofs.lemmas.begin.Causes.{IsReturned, returned, cause-closed, ended, planned_err, planned_few, planned_none, planned_room}
 use Rattle.am_board.proofs.lemmas.invariant.Staying.{stays_itself}
 use Rattle.am_board.proofs.begin.take_with_room.Goals as goal
 use Rattle.am_board.proofs.begin.take_with_room.Goals.{In_ok-planned}
@@ -25,13 +25,13 @@ pub returns-in_default : goal.returns-in_default
 returns-in_default c =
     let config = c.args.config.now in
     let s = c.args.state.now in
-    let none : taken (state_of s) c.moment-t.result ≡ None = subst (λ n. taken (state_of s) n ≡ None) (sym c.moment-t.ensures) c.in_default.ensures in
-    let cause = cause-closed config s c.args.now c.moment-t.result c.moment-t.ensures c.requires.room (ap (λ o. opens_by config (state_of s) c.moment-t.result o) none) in
-    told config c.args.id c.args.pass c.args.now s c.begin_nothing.new.state (begin_cause config (vec_len s.history) (state_of s) (moment (state_of s) c.args.now)) c.begin_nothing.result cause
-    (c.begin_nothing.ensures config c.args.id c.requires.good c.moment-t.ensures none)
+    let none : taken (state_of s) c.time-t.result ≡ None = subst (λ n. taken (state_of s) n ≡ None) (sym c.time-t.ensures) c.in_default.ensures in
+    let cause = cause-closed config s c.args.now c.time-t.result c.time-t.ensures c.requires.room (ap (λ o. opens_by config (state_of s) c.time-t.result o) none) in
+    returned config c.args.id c.args.pass c.args.now s c.begin_nothing.new.state (begin_cause config (vec_len s.history) (state_of s) (time (state_of s) c.args.now)) c.begin_nothing.result cause
+    (c.begin_nothing.ensures config c.args.id c.requires.good c.time-t.ensures none)
 
-pub prepare-requires-clause-place : goal.prepare-requires-clause-place
-prepare-requires-clause-place c = c.in-Some.ensures.chosen.place
+pub prepare-requires-clause-index : goal.prepare-requires-clause-index
+prepare-requires-clause-index c = c.in-Some.ensures.chosen.index
 
 pub prepare-requires-clause-apart : goal.prepare-requires-clause-apart
 prepare-requires-clause-apart c = c.requires.good.consistent.members
@@ -43,20 +43,20 @@ pub plan-requires-clause-sources : goal.plan-requires-clause-sources
 plan-requires-clause-sources c =
     subst (λ (x : State). AreLearnt c.args.config.now.rules x.known.items c.args.sources.now) (sym c.prepare.ensures) c.requires.sources
 
-pub plan-requires-clause-moments : goal.plan-requires-clause-moments
-plan-requires-clause-moments c =
-    subst (λ (x : State). All (λ row. row.moment ≤ MAX_MOMENT) (log_rows x.log)) (sym c.prepare.ensures) c.requires.moments
+pub plan-requires-clause-times : goal.plan-requires-clause-times
+plan-requires-clause-times c =
+    subst (λ (x : State). All (λ row. row.time ≤ MAX_TIME) (log_rows x.log)) (sym c.prepare.ensures) c.requires.times
 
-pub plan-requires-clause-place : goal.plan-requires-clause-place
-plan-requires-clause-place c = subst (λ (x : State). c.in-Some.chosen.place < length x.groups.items) (sym c.prepare.ensures) c.in-Some.ensures.chosen.place
+pub plan-requires-clause-index : goal.plan-requires-clause-index
+plan-requires-clause-index c = subst (λ (x : State). c.in-Some.chosen.index < length x.groups.items) (sym c.prepare.ensures) c.in-Some.ensures.chosen.index
 
-pub plan-requires-clause-moment : goal.plan-requires-clause-moment
-plan-requires-clause-moment c = omega (arith, c.requires.good.consistent.clock, c.in-Some.ensures.chosen.moment)
+pub plan-requires-clause-time : goal.plan-requires-clause-time
+plan-requires-clause-time c = omega (arith, c.requires.good.consistent.clock, c.in-Some.ensures.chosen.time)
 
 -- what the begin works out, of the state before it was put in order
 abbrev Plans : Config → ℕ → ChosenGroup → Result (Option PlannedFlush) Fault → State → Type 0
 Plans config id chosen result s =
-    (d : Group) → IsPlan config id (vec_len s.flushes) (state_of s) chosen.t (group_state (slice_index_or s.groups.items chosen.place d)) result
+    (d : Group) → IsPlan config id (vec_len s.flushes) (state_of s) chosen.t (group_state (slice_index_or s.groups.items chosen.index d)) result
 
 pub returns-in_err-planned : goal.returns-in_err-planned
 returns-in_err-planned c =
@@ -67,7 +67,7 @@ returns-in_err-planned c =
     let config = c.args.config.now in
     let s = c.args.state.now in
     rw (p.1, p.2) (
-      subst (λ n. IsAnswer (begin_cause config (vec_len s.history) (state_of s) (moment (state_of s) n)) c.in_err-planned.field-0.0) takes.now
+      subst (λ n. IsAnswer (begin_cause config (vec_len s.history) (state_of s) (time (state_of s) n)) c.in_err-planned.field-0.0) takes.now
           (planned_err config c.args.id s c.in-Some.chosen takes.group takes.chosen c.requires.room c.in_err-planned.field-0.0 plan),
       subst (LeavesUnchanged config s) (sym same) (stays_itself config s c.requires.good),
     )
@@ -76,20 +76,20 @@ returns-in_err-planned c =
 plans : (c : In_ok-planned) → Plans c.args.config.now c.args.id c.in-Some.chosen (Ok c.in_ok-planned.planned) c.args.state.now
 plans c = subst (Plans c.args.config.now c.args.id c.in-Some.chosen (Ok c.in_ok-planned.planned)) c.prepare.ensures c.in_ok-planned.ensures
 
-pub begin_planned-requires-clause-place : goal.begin_planned-requires-clause-place
-begin_planned-requires-clause-place c = subst (λ (x : State). c.in-Some.chosen.place < length x.groups.items) (sym c.prepare.ensures) c.in-Some.ensures.chosen.place
+pub begin_planned-requires-clause-index : goal.begin_planned-requires-clause-index
+begin_planned-requires-clause-index c = subst (λ (x : State). c.in-Some.chosen.index < length x.groups.items) (sym c.prepare.ensures) c.in-Some.ensures.chosen.index
 
 pub begin_planned-requires-clause-none : goal.begin_planned-requires-clause-none
 begin_planned-requires-clause-none c =
-    planned_none c.args.config.now c.args.id c.args.state.now c.in-Some.chosen c.in-Some.ensures.chosen.place c.in_ok-planned.planned (plans (goal.at.begin_planned-requires-clause-none c).In_ok-planned)
+    planned_none c.args.config.now c.args.id c.args.state.now c.in-Some.chosen c.in-Some.ensures.chosen.index c.in_ok-planned.planned (plans (goal.at.begin_planned-requires-clause-none c).In_ok-planned)
 
 pub begin_planned-requires-clause-room : goal.begin_planned-requires-clause-room
 begin_planned-requires-clause-room c =
-    planned_room c.args.config.now c.args.id c.args.state.now c.in-Some.chosen c.in-Some.ensures.chosen.place c.in_ok-planned.planned (plans (goal.at.begin_planned-requires-clause-room c).In_ok-planned)
+    planned_room c.args.config.now c.args.id c.args.state.now c.in-Some.chosen c.in-Some.ensures.chosen.index c.in_ok-planned.planned (plans (goal.at.begin_planned-requires-clause-room c).In_ok-planned)
 
 pub begin_planned-requires-clause-few : goal.begin_planned-requires-clause-few
 begin_planned-requires-clause-few c =
-    planned_few c.args.config.now c.args.id c.args.state.now c.in-Some.chosen c.in-Some.ensures.chosen.place c.in_ok-planned.planned (plans (goal.at.begin_planned-requires-clause-few c).In_ok-planned) c.requires.good.few
+    planned_few c.args.config.now c.args.id c.args.state.now c.in-Some.chosen c.in-Some.ensures.chosen.index c.in_ok-planned.planned (plans (goal.at.begin_planned-requires-clause-few c).In_ok-planned) c.requires.good.few
 
 pub returns : goal.returns
 returns c =
@@ -106,5 +106,5 @@ returns c =
     c.prepare.ensures (c.begin_planned.ensures config g) in
     let all = ended config id s chosen g takes.chosen c.requires.room planned (plans (goal.at.returns c).In_ok-planned) c.begin_planned.new.state c.begin_planned.result
     (λ plan. ends c.requires.good takes.chosen plan) in
-    subst (λ n. IsTold config id n c.args.now s c.begin_planned.new.state (begin_cause config (vec_len s.history) (state_of s) (moment (state_of s) c.args.now)) c.begin_planned.result) takes.pass
-    (subst (λ n. IsTold config id chosen.pass n s c.begin_planned.new.state (begin_cause config (vec_len s.history) (state_of s) (moment (state_of s) n)) c.begin_planned.result) takes.now all)
+    subst (λ n. IsReturned config id n c.args.now s c.begin_planned.new.state (begin_cause config (vec_len s.history) (state_of s) (time (state_of s) c.args.now)) c.begin_planned.result) takes.pass
+    (subst (λ n. IsReturned config id chosen.pass n s c.begin_planned.new.state (begin_cause config (vec_len s.history) (state_of s) (time (state_of s) n)) c.begin_planned.result) takes.now all)

@@ -25,7 +25,7 @@ decide_each-requires-clause-few c = few-found c.args.config.now c.as_str.result.
 
 pub decide_each-requires-clause-fits : goal.decide_each-requires-clause-fits
 decide_each-requires-clause-fits c = λ k d within.
-    repeat-fits c.route-route.result.now (get_or (log_rows c.args.state.now.log) k d).moment c.route-route.ensures.intervals (c.requires.moments k d within)
+    repeat-fits c.route-route.result.now (get_or (log_rows c.args.state.now.log) k d).time c.route-route.ensures.intervals (c.requires.times k d within)
 
 pub returns-in-Some-muted_until : goal.returns-in-Some-muted_until
 returns-in-Some-muted_until c =

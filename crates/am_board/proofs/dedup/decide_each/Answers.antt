@@ -2,20 +2,20 @@ use Rattle.std.proofs.Common.{◌≡◌, ◌+◌, ◌<◌, ◌^◌, List, ◌++�
 use Rattle.std.specs.Prelude.{IfSome}
 use Rattle.std.specs.List.{enumerate_from}
 use Rattle.am_model.specs.declared.reason.Reason.{Reason}
-use Rattle.am_model.specs.look_back.Reasons.{asks}
+use Rattle.am_model.specs.look_back.Reasons.{notifies}
 use Rattle.am_board.specs.declared.dedup.Update.{Update}
 use Rattle.am_board.specs.Beginning.{alert_sets_of, copies_of}
 use Rattle.am_board.specs.LogRows.{log_rows}
-use Rattle.am_board.specs.Dedup.{reason_among, reason_told_by}
+use Rattle.am_board.specs.Dedup.{reason_among, reason_by_row}
 use Rattle.am_board.proofs.lemmas.begin.Previews.{reasons-more, kept-entry, kept-holds}
-use Rattle.am_board.proofs.lemmas.begin.Updates.{asked-more, asked-same}
+use Rattle.am_board.proofs.lemmas.begin.Updates.{notified-more, notified-same}
 use Rattle.am_board.proofs.dedup.decide_each.Goals as goal
-use Rattle.am_board.proofs.dedup.decide_each.Goals.{then-asks+in_ok-push-2, else-asks}
+use Rattle.am_board.proofs.dedup.decide_each.Goals.{then-notifies+in_ok-push-2, else-notifies}
 
 pub reason-reason-requires-clause-fits : goal.reason-reason-requires-clause-fits
 reason-reason-requires-clause-fits c =
     let inv = c.loop-integration.invariant in
-    subst (λ o. IfSome o (λ row. row.moment + c.args.repeat_interval + 1 < 2 ^ 64)) (sym c.get-row.ensures.row)
+    subst (λ o. IfSome o (λ row. row.time + c.args.repeat_interval + 1 < 2 ^ 64)) (sym c.get-row.ensures.row)
     (kept-holds _ (λ a b. refl) c.args.log.now c.loop-integration.key c.args.group.now c.loop-integration.integration-index c.get-row.ensures.distinct inv.group inv.integration
     (λ n. n + c.args.repeat_interval + 1 < 2 ^ 64) c.requires.fits)
 
@@ -28,8 +28,8 @@ loop-integration-preserved c =
     let reason = reason_among (log_rows c.args.log.now) c.args.group.now (alert_sets_of (copies_of c.args.t c.args.unmuted.now)) c.args.repeat_interval c.args.t in
     let entry = kept-entry _ (λ a b. refl) c.args.log.now c.loop-integration.key c.args.group.now i c.get-row.ensures.distinct inv.group inv.integration in
     let is : c.reason-reason.result ≡ reason (i, one) =
-    c.reason-reason.ensures ∙ ap (λ o. reason_told_by o (alert_sets_of (copies_of c.args.t c.args.unmuted.now)) one.send_resolved c.args.repeat_interval c.args.t) (c.get-row.ensures.row ∙ sym entry) in
-    let same : asks (reason (i, one)) ≡ c.asks.result = ap asks (sym is) ∙ sym c.asks.ensures in
+    c.reason-reason.ensures ∙ ap (λ o. reason_by_row o (alert_sets_of (copies_of c.args.t c.args.unmuted.now)) one.send_resolved c.args.repeat_interval c.args.t) (c.get-row.ensures.row ∙ sym entry) in
+    let same : notifies (reason (i, one)) ≡ c.notifies.result = ap notifies (sym is) ∙ sym c.notifies.ensures in
     record {
       group = inv.group;
       integration = omega (arith, inv.integration);
@@ -38,9 +38,9 @@ loop-integration-preserved c =
           ∙ (ap (λ (l : List Reason). l ++ c.reason-reason.result ∷ []) inv.reasons
           ∙ (ap (λ (r : Reason). map reason (enumerate_from 0 (take i c.args.integrations.now)) ++ r ∷ []) is
           ∙ sym (reasons-more reason c.args.integrations.now i one within c.integration-item.is)));
-      asked =
-          elim c.if-asks.branch [
-            | then-asks+in_ok-push-2 w ↦ ap (λ (v : Vec Update Global). v.items) w.asked-is ∙ asked-more (λ j. asks (reason j)) c.args.integrations.now i one c.loop-integration.asked.items within c.integration-item.is inv.asked w.push-then-asks.new.self.items c.loop-integration.key.integration (same ∙ w.if-asks.true) inv.integration w.in_ok-push-2.ensures.items
-            | else-asks w ↦ ap (λ (v : Vec Update Global). v.items) w.asked-is ∙ asked-same (λ j. asks (reason j)) c.args.integrations.now i one c.loop-integration.asked.items within c.integration-item.is inv.asked (same ∙ w.if-asks.false)
+      notified =
+          elim c.if-notifies.branch [
+            | then-notifies+in_ok-push-2 w ↦ ap (λ (v : Vec Update Global). v.items) w.notified-is ∙ notified-more (λ j. notifies (reason j)) c.args.integrations.now i one c.loop-integration.notified.items within c.integration-item.is inv.notified w.push-then-notifies.new.self.items c.loop-integration.key.integration (same ∙ w.if-notifies.true) inv.integration w.in_ok-push-2.ensures.items
+            | else-notifies w ↦ ap (λ (v : Vec Update Global). v.items) w.notified-is ∙ notified-same (λ j. notifies (reason j)) c.args.integrations.now i one c.loop-integration.notified.items within c.integration-item.is inv.notified (same ∙ w.if-notifies.false)
           ];
     }

@@ -1,6 +1,6 @@
 use Rattle.std.proofs.Common.{◌≡◌, filter, map, take}
 use Rattle.std.specs.List.{enumerate_from}
-use Rattle.am_model.specs.look_back.Reasons.{asks}
+use Rattle.am_model.specs.look_back.Reasons.{notifies}
 use Rattle.am_board.specs.Beginning.{alert_sets_of, copies_of, update_of}
 use Rattle.am_board.specs.Dedup.{reason_among}
 use Rattle.am_board.specs.LogRows.{log_rows}
@@ -12,5 +12,5 @@ invariant-loop-integration l = record {
   group : l.key.group ≡ l.group;
   integration : l.key.integration ≡ l.integration-index;
   reasons : l.reasons.items ≡ map (reason_among (log_rows l.log) l.group (alert_sets_of (copies_of l.t l.unmuted)) l.repeat_interval l.t) (enumerate_from 0 (take l.integration-index l.integrations));
-  asked : l.asked.items ≡ map update_of (filter (λ i. asks (reason_among (log_rows l.log) l.group (alert_sets_of (copies_of l.t l.unmuted)) l.repeat_interval l.t i)) (enumerate_from 0 (take l.integration-index l.integrations)));
+  notified : l.notified.items ≡ map update_of (filter (λ i. notifies (reason_among (log_rows l.log) l.group (alert_sets_of (copies_of l.t l.unmuted)) l.repeat_interval l.t i)) (enumerate_from 0 (take l.integration-index l.integrations)));
 }

@@ -20,5 +20,5 @@ returns c =
     let whole : take c.loop.index c.args.integrations.now ≡ c.args.integrations.now = take_all _ _ (omega arith) in
     record {
       reasons = c.loop.invariant ∙ ap (λ (l : List Integration). map (λ i. RouteMuted c.args.until) (enumerate_from 0 l)) whole;
-      asked = c.new.ensures.items ∙ sym (ap (map update_of) (filter-none (enumerate_from 0 c.args.integrations.now)));
+      notified = c.new.ensures.items ∙ sym (ap (map update_of) (filter-none (enumerate_from 0 c.args.integrations.now)));
     }

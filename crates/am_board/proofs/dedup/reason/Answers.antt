@@ -31,11 +31,11 @@ returns c =
     let some : (is_empty sets.firing && is_empty sets.resolved) ≡ false =
     (λ i. empty-label_sets (copies_at t found.firing.items) i && empty-label_sets (copies_at t found.resolved.items) i)
     ∙ sym (c.is_empty.ensures t) ∙ c.if-is_empty.false in
-    let told : List (List Label) → List (List Label) → Reason = λ fire gone.
+    let fact : List (List Label) → List (List Label) → Reason = λ fire gone.
     reason_of_update c.args.repeat_interval (update_reason same_label_set (option_copied c.args.logged) fire gone c.args.send_resolved c.args.repeat_interval t) in
     let fire : map lent_labels c.as_slice-firing.result.now ≡ sets.firing = ap (map lent_labels) c.as_slice-firing.ensures.value ∙ labels-lent t found.firing.items in
     let gone : map lent_labels c.as_slice-resolved.result.now ≡ sets.resolved = ap (map lent_labels) c.as_slice-resolved.ensures.value ∙ labels-lent t found.resolved.items in
     c.reason_of_update.ensures
     ∙ ap (reason_of_update c.args.repeat_interval) c.update_reason-update.ensures
-    ∙ (λ i. told (fire i) (gone i))
-    ∙ sym (ap (λ b. if b then NothingLeft else told sets.firing sets.resolved) some)
+    ∙ (λ i. fact (fire i) (gone i))
+    ∙ sym (ap (λ b. if b then NothingLeft else fact sets.firing sets.resolved) some)

@@ -11,7 +11,7 @@ use Rattle.am_model.specs.Lists.{changed_where}
 use Rattle.am_model.specs.State.{GroupState, same_name, is_named, members_in}
 use Rattle.am_model.specs.declared.group.GroupName.{GroupName}
 use Rattle.am_board.specs.declared.group.Group.{Group}
-use Rattle.am_board.proofs.lemmas.insert.Found.{names_apart, same_places}
+use Rattle.am_board.proofs.lemmas.insert.Found.{names_apart, same_indexes}
 use Rattle.am_board.proofs.lemmas.insert.GroupRoom.{named_at}
 use Rattle.am_board.proofs.lemmas.invariant.GroupNames.{names_set, states_set}
 use Rattle.am_board.proofs.lemmas.invariant.Marks.{marked_close, marked_missing}
@@ -22,7 +22,7 @@ use Rattle.am_board.proofs.finish.take_out.Goals.{After-close}
 -- ---- the group was found, and marked as closed
 
 at : (c : After-close) → position (λ g. same_name c.args.name.now g.name) c.args.groups.now.items ≡ Some c.in-Some.i
-at c = sym c.in-Some.ensures.place
+at c = sym c.in-Some.ensures.index
 
 names : (c : After-close) → names_of c.close.new.self.items ≡ names_of c.args.groups.now.items
 names c =
@@ -47,16 +47,16 @@ marks c distinct n =
 -- ---- there is no such group
 
 pub returns-in_default-clause-marks : goal.returns-in_default-clause-marks
-returns-in_default-clause-marks c distinct n = marked_missing c.args.groups.now.items c.args.name.now (sym c.in_default.ensures.place) n
+returns-in_default-clause-marks c distinct n = marked_missing c.args.groups.now.items c.args.name.now (sym c.in_default.ensures.index) n
 
 pub returns-in_default-clause-groups : goal.returns-in_default-clause-groups
 returns-in_default-clause-groups c distinct =
-    let at : position (λ g. same_name c.args.name.now g.name) c.args.groups.now.items ≡ None = sym c.in_default.ensures.place in
+    let at : position (λ g. same_name c.args.name.now g.name) c.args.groups.now.items ≡ None = sym c.in_default.ensures.index in
     sym (changed-missing c.args.name.now c.args.groups.now.items (without_leaving c.args.all_succeeded c.args.leaving.now) at)
 
 pub returns-in_default-clause-count : goal.returns-in_default-clause-count
 returns-in_default-clause-count c =
-    let at : position (λ g. same_name c.args.name.now g.name) c.args.groups.now.items ≡ None = sym c.in_default.ensures.place in
+    let at : position (λ g. same_name c.args.name.now g.name) c.args.groups.now.items ≡ None = sym c.in_default.ensures.index in
     sym (ap (count_by (leaves_where c.args.all_succeeded c.args.leaving.now)) (members-missing c.args.name.now c.args.groups.now.items at))
 
 -- ---- one integration failed
@@ -100,7 +100,7 @@ returns-clause-groups c distinct =
     let spot = (goal.at.returns-clause-groups c).After-close in
     let gs = c.close.new.self.items in
     let group = c.take_leaving.ensures.group in
-    let here : position (λ g. same_name c.args.name.now g.name) gs ≡ Some c.in-Some.i = same_places c.args.name.now c.args.groups.now.items gs (names spot) ∙ at spot in
+    let here : position (λ g. same_name c.args.name.now g.name) gs ≡ Some c.in-Some.i = same_indexes c.args.name.now c.args.groups.now.items gs (names spot) ∙ at spot in
     ap (map group_state) group.items
     ∙ (changed-found c.args.name.now gs c.in-Some.i group.from (without_leaving c.args.all_succeeded c.args.leaving.now) group.to here (subst (IsDistinct same_group) (sym (states spot)) distinct)
     (group.changed
@@ -113,7 +113,7 @@ returns-clause-count c =
     let spot = (goal.at.returns-clause-count c).After-close in
     let gs = c.close.new.self.items in
     let group = c.take_leaving.ensures.group in
-    let here : position (λ g. same_name c.args.name.now g.name) gs ≡ Some c.in-Some.i = same_places c.args.name.now c.args.groups.now.items gs (names spot) ∙ at spot in
+    let here : position (λ g. same_name c.args.name.now g.name) gs ≡ Some c.in-Some.i = same_indexes c.args.name.now c.args.groups.now.items gs (names spot) ∙ at spot in
     c.take_leaving.ensures.count group.from
     ∙ (ap (count_by (leaves_where true c.args.leaving.now)) (sym (members-found c.args.name.now gs c.in-Some.i group.from here))
     ∙ (ap (λ all. count_by (leaves_where all c.args.leaving.now) (members_in (map group_state gs) c.args.name.now)) (sym c.if-not-all_succeeded.false)

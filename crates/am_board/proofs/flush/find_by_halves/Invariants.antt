@@ -1,7 +1,7 @@
 use Rattle.std.proofs.Common.{◌≤◌, ◌-◌, length}
 use Rattle.am_board.proofs.flush.find_by_halves.Given as goal
 
--- the places that are left are there
+-- the indexes that are left are there
 abbrev pub invariant-loop-low : goal.invariant-loop-low
 invariant-loop-low l = l.high ≤ length l.flushes
 

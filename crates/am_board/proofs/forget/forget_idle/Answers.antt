@@ -13,7 +13,7 @@ use Rattle.am_model.specs.declared.views.RowView.{RowView}
 use Rattle.am_model.specs.Forget.{is_idle}
 use Rattle.am_model.specs.Lists.{without}
 use Rattle.am_model.specs.Records.{entry}
-use Rattle.am_model.specs.State.{State, GroupState, moment, same_name}
+use Rattle.am_model.specs.State.{State, GroupState, time, same_name}
 use Rattle.am_board.specs.declared.flush.OpenFlush.{OpenFlush}
 use Rattle.am_board.specs.declared.group.Group.{Group}
 use Rattle.am_board.specs.Forgetting.{is_idle_but_for, AreGrouped}
@@ -40,9 +40,9 @@ returns-clause-forgot c =
     let old = c.args.state.now in
     let counted : vec_len old.flushes ≡ length old.flushes.items = omega arith in
     let full = not_full c.args.config.now old 1 counted (omega arith) in
-    let t = c.moment-t.result in
-    let u = moment (state_of old) c.args.now in
-    let e : t ≡ u = c.moment-t.ensures in
+    let t = c.time-t.result in
+    let u = time (state_of old) c.args.now in
+    let e : t ≡ u = c.time-t.ensures in
     let gs : List GroupState = map group_state old.groups.items in
     let sets = c.in_ok-grouped.grouped.keys in
     let grouped : AreGrouped sets gs = subst (λ (groups : List Group). AreGrouped sets (map group_state groups)) c.as_slice.ensures.value c.in_ok-grouped.ensures in
@@ -55,7 +55,7 @@ returns-clause-forgot c =
     let log = left ((goal.at.returns-clause-forgot c).After-forget) in (
       ap (λ b. if b then Some HistoryFull else None) full,
       λ id. record {
-        told = λ i. Some (Forgotten (record { alerts = sym alerts i; silences = sym silences i }));
+        returned = λ i. Some (Forgotten (record { alerts = sym alerts i; silences = sym silences i }));
         state = record {
           rows = subst (λ l. IsPermutation l (log_rows old.log)) (sym rows) (IsPermutation-refl (log_rows old.log));
           rest = with_fewer (state_of old) (log_rows c.forget.new.self) t u _ _ _ _ e known quiet;
@@ -80,4 +80,4 @@ returns-clause-kept c =
     let known = c.as_slice-3.ensures.value in
     let moved = c.drop_idle.ensures config (subst (λ (ks : List AlertData). AreKept config ks c.args.destinations.now) (sym known) c.requires.kept) in
     subst (λ (ks : List AlertData). AreKept config ks new) (sym c.drop_idle-2.ensures.items)
-    (subst (λ (ks : List AlertData). AreKept config (without (is_idle_but_for sets c.moment-t.result) ks) new) known moved)
+    (subst (λ (ks : List AlertData). AreKept config (without (is_idle_but_for sets c.time-t.result) ks) new) known moved)

@@ -9,5 +9,5 @@ use Rattle.am_board.proofs.insert.count_missing.Goals as goal
 pub returns : goal.returns
 returns c =
     count_from_yields_List c.filter.result c.count.result c.count.ensures.ran
-    (YieldsList-from_filter _ (λ (p : Placement). is_none p.place) (YieldsList-from_slice c.args.placements.now cc) c.filter.ensures.closure (λ x r q k. search (rules, tests)))
-    ∙ length-filter (λ (p : Placement). is_none p.place) c.args.placements.now
+    (YieldsList-from_filter _ (λ (p : Placement). is_none p.index) (YieldsList-from_slice c.args.placements.now cc) c.filter.ensures.closure (λ x r q k. search (rules, tests)))
+    ∙ length-filter (λ (p : Placement). is_none p.index) c.args.placements.now

@@ -3,7 +3,7 @@ use Rattle.std.specs.Prelude.{All}
 use Rattle.std.proofs.lemmas.List.{get_or_default}
 use Rattle.std.proofs.lemmas.List.Elements.{All-push}
 use Rattle.am_alerts.specs.RoutingTree.{last_of}
-use Rattle.am_board.specs.Inserting.{IsFound, IsToPut, place_in, stamped_alert}
+use Rattle.am_board.specs.Inserting.{IsFound, IsToPut, index_in, stamped_alert}
 use Rattle.am_board.specs.declared.insert.Placement.{Placement}
 use Rattle.am_board.specs.declared.insert.Target.{Target}
 use Rattle.am_model.specs.State.{MemberState}
@@ -27,8 +27,8 @@ loop-name-preserved c =
     let named : x.name ≡ c.name-item.result = ap (λ (t : Target). t.name) c.in_ok-prepare.ensures.target ∙ c.in_ok-name.ensures in
     let at : x.name ≡ get_or c.args.names.now c.loop-name.name-index x.name =
     named ∙ c.name-item.is ∙ get_or_default c.args.names.now c.loop-name.name-index c.name-item.result x.name (omega arith) in
-    let found : IsFound c.args.groups.now.items (record { name = x.name; place = x.place }) =
-    ap (λ (t : Target). t.place) c.in_ok-prepare.ensures.target ∙ c.find-place.ensures.place ∙ ap (λ (n : GroupName). place_in n c.args.groups.now.items) (sym named) in
+    let found : IsFound c.args.groups.now.items (record { name = x.name; index = x.index }) =
+    ap (λ (t : Target). t.index) c.in_ok-prepare.ensures.target ∙ c.find-index.ensures.index ∙ ap (λ (n : GroupName). index_in n c.args.groups.now.items) (sym named) in
     record {
       names = ap (map (λ (p : Placement). p.name)) pushed ∙ named_more before x c.args.names.now c.loop-name.name-index (omega arith) c.loop-name.invariant.names at;
       found = subst (All Is) (sym pushed) (All-push Is before x c.loop-name.invariant.found (found, c.in_ok-prepare.ensures.ready, c.in_ok-prepare.ensures.placed));

@@ -15,8 +15,8 @@ use Rattle.am_board.proofs.insert.put_alert.Goals as goal
 
 module _ (config : Config) (now : ℕ) (alert : AlertData) (old mid : kept.State) (o : Option Inserted) (h : PutsAgain config now alert (Ok o) old mid) where
   -- it was put in place
-  is_again : (told : Inserted) → o ≡ Some told → IsPutAgain config now alert told old mid
-  is_again told e = subst (λ p. PutsAgain config now alert (Ok p) old mid) e h
+  is_again : (returned : Inserted) → o ≡ Some returned → IsPutAgain config now alert returned old mid
+  is_again returned e = subst (λ p. PutsAgain config now alert (Ok p) old mid) e h
 
   -- it was not
   is_held : o ≡ None → IsReservedState old mid
@@ -25,7 +25,7 @@ module _ (config : Config) (now : ℕ) (alert : AlertData) (old mid : kept.State
 pub put_again-requires-clause-kept : goal.put_again-requires-clause-kept
 put_again-requires-clause-kept c =
     let config : Config = c.args.config.now in
-    let kept = c.of-kept.ensures config c.args.state.now.known.items c.args.alert.labels c.requires.kept c.in_ok-place.ensures.place in
+    let kept = c.of-kept.ensures config c.args.state.now.known.items c.args.alert.labels c.requires.kept c.in_ok-index.ensures.index in
     subst (λ (a : AlertData). IfSome c.of-kept.result (λ names. names.now ≡ names_for config a.labels)) (sym c.with_known_labels-alert.ensures) kept
 
 pub returns-in-Some-clause-kept : goal.returns-in-Some-clause-kept

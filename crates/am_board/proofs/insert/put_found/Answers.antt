@@ -6,7 +6,7 @@ use Rattle.am_board.specs.declared.insert.Found.{Found}
 use Rattle.am_board.specs.Inserting.{AreFound, AreRoutedPlacements, IsWhereToPut, stamped_alert}
 use Rattle.am_board.proofs.lemmas.insert.Again.{names_routed}
 use Rattle.am_board.proofs.lemmas.insert.Found.{still_found, are_apart, names_apart}
-use Rattle.am_model.proofs.lists.Distinct.{all-told}
+use Rattle.am_model.proofs.lists.Distinct.{all-mapped}
 use Rattle.am_model.specs.Insert.{names_for, inserted}
 use Rattle.am_model.specs.declared.group.GroupName.{GroupName}
 use Rattle.am_alerts.specs.RoutingTree.{last_of}
@@ -20,19 +20,19 @@ use Rattle.am_model.specs.declared.record.Call.TheVariants as call
 use Rattle.am_model.specs.declared.record.Reply.TheVariants as reply
 use Rattle.am_model.specs.Records.{entry}
 use Rattle.am_board.specs.declared.state.State as kept
-use Rattle.am_board.proofs.lemmas.insert.Inserting.{answer_groups, no_cause, makes_many, makes_few, made_told, are_found, are_empty, are_placed, count_is, told_is, insert_leaves, stays_reserved}
+use Rattle.am_board.proofs.lemmas.insert.Inserting.{answer_groups, no_cause, makes_many, makes_few, made_counted, are_found, are_empty, are_placed, count_is, inserted_is, insert_leaves, stays_reserved}
 use Rattle.am_board.proofs.insert.put_found.Goals as goal
 use Rattle.am_board.proofs.lemmas.invariant.Staying.{stays_itself, agrees_same}
 use Rattle.am_board.specs.Marks.{AreMarked}
 
--- the places of the groups were found
+-- the indexes of the groups were found
 found_of : (config : Config) (s : kept.State) (alert : AlertData) (found : Found) → IsWhereToPut config s alert found → AreFound s.groups.items found.placements.items
 found_of config s alert found is = are_found config.routes s.groups.items (stamped_alert alert (s.inserts + 1)) found.placements.items is.placements
 
--- what was found tells how many groups have to be made
-made_of : (config : Config) (s : kept.State) (alert : AlertData) (found : Found) (lent : List Placement) (n : ℕ) → IsWhereToPut config s alert found → lent ≡ found.placements.items → n ≡ count_by (λ p. is_none p.place) lent → n ≡ (inserted config (state_of s) alert).made
+-- what was found says how many groups have to be made
+made_of : (config : Config) (s : kept.State) (alert : AlertData) (found : Found) (lent : List Placement) (n : ℕ) → IsWhereToPut config s alert found → lent ≡ found.placements.items → n ≡ count_by (λ p. is_none p.index) lent → n ≡ (inserted config (state_of s) alert).made
 made_of config s alert found lent n is e counted =
-    made_told config alert.labels s.groups.items found.placements.items lent n e counted is.names (found_of config s alert found is)
+    made_counted config alert.labels s.groups.items found.placements.items lent n e counted is.names (found_of config s alert found is)
 
 pub returns-then-len-made : goal.returns-then-len-made
 returns-then-len-made c =
@@ -65,7 +65,7 @@ put_prepared-requires-clause-apart c = are_apart c.args.config.now c.args.alert.
 -- each placement is of a route that is there
 routed : (config : Config) (labels : List Label) (ps : List Placement) → map (λ p. p.name) ps ≡ names_for config labels → AreRoutedPlacements config.routes ps
 routed config labels ps names =
-    all-told (λ (p : Placement). p.name) (λ (n : GroupName). n.route ≤ last_of config.routes) ps
+    all-mapped (λ (p : Placement). p.name) (λ (n : GroupName). n.route ≤ last_of config.routes) ps
     (subst (All (λ (n : GroupName). n.route ≤ last_of config.routes)) (sym names) (names_routed config labels))
 
 pub returns : goal.returns
@@ -93,8 +93,8 @@ returns c =
     let added : Record = entry c.args.pass (call.Insert c.args.now alert) (reply.Inserted (record { stamp = s.inserts + 1; groups = c.len-2.result; made = c.count_missing-made.result })) in (
       no_cause config (vec_len s.history) (state_of s) alert is.room is.few (makes_few config s alert c.count_missing-made.result made (omega (arith, c.if-len-made.false, c.len.ensures.len))),
       λ id. record {
-        told = ap (λ (told : Inserted). Some (reply.Inserted told)) (told_is config (state_of s) alert c.len-2.result c.count_missing-made.result groups made);
-        state = agrees_same _ _ (insert_leaves config s reserved new c.moment-t.result c.args.now alert c.in_ok-copy.copy placements (c.put_prepared.ensures.state config) kept c.in_ok-copy.ensures c.moment-t.ensures c.requires.good.consistent.clock placed names);
+        returned = ap (λ (returned : Inserted). Some (reply.Inserted returned)) (inserted_is config (state_of s) alert c.len-2.result c.count_missing-made.result groups made);
+        state = agrees_same _ _ (insert_leaves config s reserved new c.time-t.result c.args.now alert c.in_ok-copy.copy placements (c.put_prepared.ensures.state config) kept c.in_ok-copy.ensures c.time-t.ensures c.requires.good.consistent.clock placed names);
         routed = c.put_prepared.ensures.routed config.routes still.routed routes;
         prepared = subst (λ (fs : Vec OpenFlush Global). All (IsPrepared config new.log) fs.items) (sym c.put_prepared.ensures.flushes) logged;
         marked = subst (λ (fs : Vec OpenFlush Global). AreMarked (map flush_state fs.items) new.groups.items) (sym c.put_prepared.ensures.flushes) (λ name. c.put_prepared.ensures.marks name ∙ still.marked name);

@@ -26,18 +26,18 @@ module _ (config : Config) (old new : kept.State) (alert : AlertData) (pass now 
   abbrev Was : Result Inserted Fault → (Inserted → Type 0) → (Fault → Type 0) → Type 0
   Was r P Q =
       MatchResult r
-      (λ told. P told × ((id : ℕ) → AppliesCall config id (entry pass (call.Insert now alert) (reply.Inserted told)) old new))
+      (λ returned. P returned × ((id : ℕ) → AppliesCall config id (entry pass (call.Insert now alert) (reply.Inserted returned)) old new))
       (λ fault. Q fault × LeavesUnchanged config old new)
 
   -- the names that are kept are of the known alerts after the call too
   still : (P : Inserted → Type 0) (Q : Fault → Type 0) (r : Result Inserted Fault) → Was r P Q → AreKept config old.known.items names → AreKept config new.known.items names
-  still P Q (Ok told) h are =
-      subst (λ known. AreKept config known names) (sym (known_then config 0 pass now alert (reply.Inserted told) old new (h.1 0))) (kept_put config alert old.known.items names are)
+  still P Q (Ok returned) h are =
+      subst (λ known. AreKept config known names) (sym (known_then config 0 pass now alert (reply.Inserted returned) old new (h.1 0))) (kept_put config alert old.known.items names are)
   still P Q (Err fault) h are = subst (λ known. AreKept config known names) (sym (known_still config old new h.1)) are
 
   -- an alert that was put is known
   put_there : (P : Inserted → Type 0) (Q : Fault → Type 0) (r : Result Inserted Fault) → is_ok r ≡ true → Was r P Q → new.known.items ≡ upsert same_alert alert old.known.items
-  put_there P Q (Ok told) e h = known_then config 0 pass now alert (reply.Inserted told) old new (h.1 0)
+  put_there P Q (Ok returned) e h = known_then config 0 pass now alert (reply.Inserted returned) old new (h.1 0)
   put_there P Q (Err fault) e h = absurd (cc)
 
 -- the names that were found are those of the alert's groups
@@ -47,7 +47,7 @@ new_are config alert a found (Some names) are is same = are ∙ is ∙ sym (ap (
 
 pub find_placements-requires : goal.find_placements-requires
 find_placements-requires c =
-    record { kept = c.of-kept.ensures c.args.config.now c.args.state.now.known.items c.args.alert.labels c.requires.kept c.requires.place }
+    record { kept = c.of-kept.ensures c.args.config.now c.args.state.now.known.items c.args.alert.labels c.requires.kept c.requires.index }
 
 pub put_found-inserted-requires : goal.put_found-inserted-requires
 put_found-inserted-requires c =
@@ -56,7 +56,7 @@ put_found-inserted-requires c =
       found = record {
         room = c.requires.room;
         few = c.requires.names;
-        place = c.requires.place;
+        index = c.requires.index;
         within = c.requires.within;
         names = c.in_ok-placements.ensures.names;
         placements = c.in_ok-placements.ensures.found;
@@ -70,21 +70,21 @@ returns-clause-kept c =
     let new : kept.State = c.put_found-inserted.new.state in
     let alert : AlertData = c.args.alert in
     let cause = insert_cause config (vec_len old.history) (state_of old) alert in
-    let P : Inserted → Type 0 = λ told. cause ≡ None in
+    let P : Inserted → Type 0 = λ returned. cause ≡ None in
     let Q : Fault → Type 0 = λ fault. IsAnswer cause fault in
     let put = c.put_found-inserted.ensures in
     let are = still config old new alert c.args.pass c.args.now c.args.destinations.now P Q c.put_found-inserted.result put c.requires.kept in
     elim c.if-is_ok.branch [
       | then-is_ok w ↦
-          let place : Option ℕ = c.args.place in
+          let index : Option ℕ = c.args.index in
           let n : ℕ = c.unwrap_or-number.result in
-          let found : place ≡ position (same_alert alert) old.known.items = c.requires.place in
-          let at : n ≡ unwrap_or place (length old.known.items) = c.unwrap_or-number.ensures ∙ ap (unwrap_or place) c.len.ensures in
+          let found : index ≡ position (same_alert alert) old.known.items = c.requires.index in
+          let at : n ≡ unwrap_or index (length old.known.items) = c.unwrap_or-number.ensures ∙ ap (unwrap_or index) c.len.ensures in
           let there = put_there config old new alert c.args.pass c.args.now c.args.destinations.now P Q c.put_found-inserted.result (sym c.is_ok.ensures.value ∙ w.if-is_ok.true) put in
-          let within : n < length new.known.items = subst (λ (xs : List AlertData). n < length xs) (sym there) (put_within alert old.known.items place n found at) in
+          let within : n < length new.known.items = subst (λ (xs : List AlertData). n < length xs) (sym there) (put_within alert old.known.items index n found at) in
           let names = ap (map (λ (p : Placement). p.name)) c.as_slice.ensures.value ∙ c.in_ok-placements.ensures.names in
           subst (AreKept config new.known.items) (sym w.destinations-is)
           (w.keep.ensures config new.known.items are within
-          (λ a is. new_are config alert a (map (λ (p : Placement). p.name) c.as_slice.result.now) c.new_names-names.result c.new_names-names.ensures names (put_at alert old.known.items place n a found at (subst (λ (xs : List AlertData). IsAt xs n a) there is))))
+          (λ a is. new_are config alert a (map (λ (p : Placement). p.name) c.as_slice.result.now) c.new_names-names.result c.new_names-names.ensures names (put_at alert old.known.items index n a found at (subst (λ (xs : List AlertData). IsAt xs n a) there is))))
       | else-is_ok w ↦ subst (AreKept config new.known.items) (sym w.destinations-is) are
     ]

@@ -5,7 +5,7 @@ use Rattle.am_board.specs.declared.group.Group.{Group}
 use Rattle.am_board.specs.declared.insert.Placement.{Placement}
 use Rattle.std.specs.List.{IsDistinct}
 use Rattle.am_board.specs.Group.{names_of, HasRoom}
-use Rattle.am_board.specs.Inserting.{place_in, AreFound}
+use Rattle.am_board.specs.Inserting.{index_in, AreFound}
 use Rattle.am_board.proofs.lemmas.insert.Found.{still_found, found_within}
 use Rattle.am_model.specs.State.{same_name}
 use Rattle.am_board.proofs.insert.reserve_all.Goals as goal
@@ -13,14 +13,14 @@ use Rattle.am_board.proofs.insert.reserve_all.Goals as goal
 pub reserve_found-requires-clause-distinct : goal.reserve_found-requires-clause-distinct
 reserve_found-requires-clause-distinct c = subst (IsDistinct same_name) (sym c.loop-placement.invariant.names) c.requires.distinct
 
--- the place of the placement at hand is that of its name, by the groups as they are now
-at_hand : (ps : List Placement) (gs now : List Group) (i : ℕ) (p : Placement) → names_of now ≡ names_of gs → AreFound gs ps → i < length ps → p ≡ get_or ps i p → p.place ≡ place_in p.name now
+-- the index of the placement at hand is that of its name, by the groups as they are now
+at_hand : (ps : List Placement) (gs now : List Group) (i : ℕ) (p : Placement) → names_of now ≡ names_of gs → AreFound gs ps → i < length ps → p ≡ get_or ps i p → p.index ≡ index_in p.name now
 at_hand ps gs now i p names found within is =
-    subst (λ (q : Placement). q.place ≡ place_in q.name now) (sym is) (still_found ps gs now names found i p within)
+    subst (λ (q : Placement). q.index ≡ index_in q.name now) (sym is) (still_found ps gs now names found i p within)
 
 pub reserve_found-requires-clause-within : goal.reserve_found-requires-clause-within
 reserve_found-requires-clause-within c =
-    found_within c.placement-item.result.place c.placement-item.result.name c.loop-placement.groups.items
+    found_within c.placement-item.result.index c.placement-item.result.name c.loop-placement.groups.items
     (at_hand c.args.placements.now c.args.groups.now.items c.loop-placement.groups.items c.loop-placement.placement-index c.placement-item.result c.loop-placement.invariant.names c.requires.found (omega arith) c.placement-item.is)
 
 pub loop-placement-preserved : goal.loop-placement-preserved

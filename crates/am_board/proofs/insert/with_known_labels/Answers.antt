@@ -6,7 +6,7 @@ use Rattle.am_board.proofs.insert.with_known_labels.Goals as goal
 
 pub returns : goal.returns
 returns c =
-    let found = known_labels c.args.alert c.args.known.now.items c.in-Some.i c.at.result.now (sym c.requires.place ∙ c.in-Some.is) in
+    let found = known_labels c.args.alert c.args.known.now.items c.in-Some.i c.at.result.now (sym c.requires.index ∙ c.in-Some.is) in
     let known = ap (λ (k : AlertData). k.labels) c.at.ensures ∙ found in
     let labels = c.in-Ok.ensures ∙ (c.labels.ensures.labels ∙ known) in
     c.unwrap_or.ensures

@@ -16,35 +16,35 @@ use Rattle.am_board.specs.declared.group.Group.{Group}
 use Rattle.am_board.specs.declared.plan.PlannedFlush.{PlannedFlush}
 use Rattle.am_model.specs.declared.record.Call.TheVariants.{Begin}
 use Rattle.am_board.specs.declared.state.State as kept
-use Rattle.am_model.specs.Begin.{asked_of, notice_for, taken}
+use Rattle.am_model.specs.Begin.{notified_of, notice_for, taken}
 use Rattle.am_model.specs.Configured.{HaveFewIntegrations}
 use Rattle.am_model.specs.Notice.{NoticeData}
 use Rattle.am_model.specs.declared.config.TheConstants.{MAX_INTEGRATIONS}
-use Rattle.am_model.proofs.configuration.FewAsked.{few_asked}
-use Rattle.am_model.specs.Causes.{is_full, asks_some, opens_by, begin_cause}
+use Rattle.am_model.proofs.configuration.FewNotified.{few_notified}
+use Rattle.am_model.specs.Causes.{is_full, notifies_some, opens_by, begin_cause}
 use Rattle.am_model.specs.Records.{entry}
 use Rattle.am_board.specs.History.{reply_of, IsFresh}
 use Rattle.am_board.specs.Refinement.{state_of, group_state, flush_state}
 use Rattle.am_board.specs.Beginning.{IsPlan, IsPlannedFlush, first_of, IsChosen, IsEnd}
-use Rattle.am_model.specs.State.{GroupState, moment}
+use Rattle.am_model.specs.State.{GroupState, time}
 use Rattle.am_board.specs.Step.{AppliesCall, LeavesUnchanged, IsAnswer}
 
 -- what a begin is to answer where this is the first cause other than memory
-abbrev pub IsTold : Config → ℕ → ℕ → ℕ → kept.State → kept.State → Option Fault → Result Begun Fault → Type 0
-IsTold config id pass now old new cause result =
+abbrev pub IsReturned : Config → ℕ → ℕ → ℕ → kept.State → kept.State → Option Fault → Result Begun Fault → Type 0
+IsReturned config id pass now old new cause result =
     MatchResult result
     (λ begun. (cause ≡ None) × AppliesCall config id (entry pass (Begin now) (reply_of begun)) old new × IsFresh id begun)
     (λ fault. IsAnswer cause fault × LeavesUnchanged config old new)
 
 -- only memory can be wanting
-pub told : (config : Config) (id pass now : ℕ) (old new : kept.State) (cause : Option Fault) (result : Result Begun Fault) → cause ≡ None
-    → IsEnd config id pass now old new result → IsTold config id pass now old new cause result
-told config id pass now old new cause (Ok begun) none end = (none, end.0, end.1)
-told config id pass now old new cause (Err fault) none end = (subst (λ o. IsAnswer o fault) (sym none) end.0, end.1)
+pub returned : (config : Config) (id pass now : ℕ) (old new : kept.State) (cause : Option Fault) (result : Result Begun Fault) → cause ≡ None
+    → IsEnd config id pass now old new result → IsReturned config id pass now old new cause result
+returned config id pass now old new cause (Ok begun) none end = (none, end.0, end.1)
+returned config id pass now old new cause (Err fault) none end = (subst (λ o. IsAnswer o fault) (sym none) end.0, end.1)
 
 -- ---- the causes, where the history has room
 
-module _ (config : Config) (s : kept.State) (now : ℕ) (t : ℕ) (at : t ≡ moment (state_of s) now) (room : vec_len s.history + vec_len s.flushes + 2 ≤ config.limits.history) where
+module _ (config : Config) (s : kept.State) (now : ℕ) (t : ℕ) (at : t ≡ time (state_of s) now) (room : vec_len s.history + vec_len s.flushes + 2 ≤ config.limits.history) where
   opened : length (map flush_state s.flushes.items) ≡ vec_len s.flushes
   opened = length-map s.flushes.items flush_state ∙ sym s.flushes.ok.0
 
@@ -54,27 +54,27 @@ module _ (config : Config) (s : kept.State) (now : ℕ) (t : ℕ) (at : t ≡ mo
       grind (arith, nat_tests, length_is)
 
   -- the cause is whether too many flushes are open
-  by_open : begin_cause config (vec_len s.history) (state_of s) (moment (state_of s) now) ≡ cond (nat_le config.limits.flushes (length (map flush_state s.flushes.items)) && opens_by config (state_of s) t (taken (state_of s) t)) (Some TooManyOpen) None
+  by_open : begin_cause config (vec_len s.history) (state_of s) (time (state_of s) now) ≡ cond (nat_le config.limits.flushes (length (map flush_state s.flushes.items)) && opens_by config (state_of s) t (taken (state_of s) t)) (Some TooManyOpen) None
   by_open =
       ap (λ n. begin_cause config (vec_len s.history) (state_of s) n) (sym at)
       ∙ ap (λ b. cond b (Some HistoryFull) (cond (nat_le config.limits.flushes (length (map flush_state s.flushes.items)) && opens_by config (state_of s) t (taken (state_of s) t)) (Some TooManyOpen) None)) not_full
 
   -- no flush is to be opened
-  pub cause-closed : opens_by config (state_of s) t (taken (state_of s) t) ≡ false → begin_cause config (vec_len s.history) (state_of s) (moment (state_of s) now) ≡ None
+  pub cause-closed : opens_by config (state_of s) t (taken (state_of s) t) ≡ false → begin_cause config (vec_len s.history) (state_of s) (time (state_of s) now) ≡ None
   cause-closed closed =
       by_open
       ∙ ap (λ b. cond (nat_le config.limits.flushes (length (map flush_state s.flushes.items)) && b) (Some TooManyOpen) None) closed
       ∙ ap (λ b. cond b (Some TooManyOpen) None) (and-false (nat_le config.limits.flushes (length (map flush_state s.flushes.items))))
 
   -- one more may be open
-  cause-few : vec_len s.flushes < config.limits.flushes → begin_cause config (vec_len s.history) (state_of s) (moment (state_of s) now) ≡ None
+  cause-few : vec_len s.flushes < config.limits.flushes → begin_cause config (vec_len s.history) (state_of s) (time (state_of s) now) ≡ None
   cause-few few =
       let length_is = opened in
       let below : nat_le config.limits.flushes (length (map flush_state s.flushes.items)) ≡ false = grind (arith, nat_tests, length_is) in
       by_open ∙ ap (λ b. cond (b && opens_by config (state_of s) t (taken (state_of s) t)) (Some TooManyOpen) None) below
 
   -- as many are open as may be, and one more is to be opened
-  pub cause-many : config.limits.flushes ≤ vec_len s.flushes → opens_by config (state_of s) t (taken (state_of s) t) ≡ true → begin_cause config (vec_len s.history) (state_of s) (moment (state_of s) now) ≡ Some TooManyOpen
+  pub cause-many : config.limits.flushes ≤ vec_len s.flushes → opens_by config (state_of s) t (taken (state_of s) t) ≡ true → begin_cause config (vec_len s.history) (state_of s) (time (state_of s) now) ≡ Some TooManyOpen
   cause-many many opens =
       let length_is = opened in
       let reached : nat_le config.limits.flushes (length (map flush_state s.flushes.items)) ≡ true = grind (arith, nat_tests, length_is) in
@@ -83,7 +83,7 @@ module _ (config : Config) (s : kept.State) (now : ℕ) (t : ℕ) (at : t ≡ mo
       ∙ ap (λ b. cond b (Some TooManyOpen) None) opens
 
   -- memory may be refused in any case
-  pub answer-memory : IsAnswer (begin_cause config (vec_len s.history) (state_of s) (moment (state_of s) now)) NoMemory
+  pub answer-memory : IsAnswer (begin_cause config (vec_len s.history) (state_of s) (time (state_of s) now)) NoMemory
   answer-memory =
       subst (λ o. IsAnswer o NoMemory) (sym by_open)
       (elim (nat_le config.limits.flushes (length (map flush_state s.flushes.items)) && opens_by config (state_of s) t (taken (state_of s) t)) as (λ b. IsAnswer (cond b (Some TooManyOpen) None) NoMemory) [
@@ -91,10 +91,10 @@ module _ (config : Config) (s : kept.State) (now : ℕ) (t : ℕ) (at : t ≡ mo
         | false ↦ refl
       ])
 
--- some are asked
-pub asks_some-true : (asked : List (ℕ × Integration)) → asked ≢ [] → asks_some asked ≡ true
-asks_some-true [] some = absurd (some refl)
-asks_some-true (i ∷ is) some = refl
+-- some are notified
+pub notifies_some-true : (notified : List (ℕ × Integration)) → notified ≢ [] → notifies_some notified ≡ true
+notifies_some-true [] some = absurd (some refl)
+notifies_some-true (i ∷ is) some = refl
 
 -- no group was found
 pub taken-none : (s : kept.State) (t : ℕ) (groups : List Group) (flushes : List OpenFlush) → groups ≡ s.groups.items → flushes ≡ s.flushes.items
@@ -104,41 +104,41 @@ taken-none s t groups flushes all open_now none = (λ i. first_of (map flush_sta
 -- the group that was found is the one that the begin takes
 pub taking_found : (config : Config) (s : kept.State) (chosen : ChosenGroup) (g : Group) (groups : List Group) (flushes : List OpenFlush)
     → groups ≡ s.groups.items → flushes ≡ s.flushes.items
-    → chosen.t ≡ moment (state_of s) chosen.now → chosen.place < length groups
-    → first_of (map flush_state flushes) chosen.t (map group_state groups) ≡ Some (group_state (get_or groups chosen.place g))
-    → g ≡ get_or s.groups.items chosen.place g
+    → chosen.t ≡ time (state_of s) chosen.now → chosen.index < length groups
+    → first_of (map flush_state flushes) chosen.t (map group_state groups) ≡ Some (group_state (get_or groups chosen.index g))
+    → g ≡ get_or s.groups.items chosen.index g
     → chosen.due ≡ chosen.t + (route_at config.routes g.name.route).group_interval
     → IsChosen config s chosen g
 taking_found config s chosen g groups flushes all open_now at within first is due =
-    let place : chosen.place < length s.groups.items = omega (arith, within, ap (λ (gs : List Group). length gs) all) in
+    let index : chosen.index < length s.groups.items = omega (arith, within, ap (λ (gs : List Group). length gs) all) in
     record {
-      moment = at;
-      place = place;
-      group = λ d. get_or_default s.groups.items chosen.place d g place ∙ sym is;
+      time = at;
+      index = index;
+      group = λ d. get_or_default s.groups.items chosen.index d g index ∙ sym is;
       first =
           (λ i. first_of (map flush_state (sym open_now i)) chosen.t (map group_state (sym all i)))
           ∙ first
-          ∙ ap (λ (gs : List Group). Some (group_state (get_or gs chosen.place g))) all
+          ∙ ap (λ (gs : List Group). Some (group_state (get_or gs chosen.index g))) all
           ∙ ap (λ (x : Group). Some (group_state x)) (sym is);
       due = due;
     }
 
--- an element of a list that has a place
+-- an element of a list that has an index
 pub one_of : {X : Type 0} (xs : List X) (i : ℕ) → i < length xs → X
 one_of [] i within = absurd (omega (arith, within))
 one_of (x ∷ xs) i within = x
 
 -- ---- what a plan has, if a flush is planned
 
-module _ (config : Config) (id : ℕ) (s : kept.State) (chosen : ChosenGroup) (within : chosen.place < length s.groups.items) (o : Option PlannedFlush)
-    (plan : (d : Group) → IsPlan config id (vec_len s.flushes) (state_of s) chosen.t (group_state (slice_index_or s.groups.items chosen.place d)) (Ok o)) where
-  abbrev at_place : GroupState
-  at_place = group_state (slice_index_or s.groups.items chosen.place (one_of s.groups.items chosen.place within))
+module _ (config : Config) (id : ℕ) (s : kept.State) (chosen : ChosenGroup) (within : chosen.index < length s.groups.items) (o : Option PlannedFlush)
+    (plan : (d : Group) → IsPlan config id (vec_len s.flushes) (state_of s) chosen.t (group_state (slice_index_or s.groups.items chosen.index d)) (Ok o)) where
+  abbrev at_index : GroupState
+  at_index = group_state (slice_index_or s.groups.items chosen.index (one_of s.groups.items chosen.index within))
 
-  has : (P : PlannedFlush → Type 0) → ((p : PlannedFlush) → IsPlannedFlush config id (state_of s) chosen.t at_place p → P p) → IfSome o P
-  has P from = by o (plan (one_of s.groups.items chosen.place within))
+  has : (P : PlannedFlush → Type 0) → ((p : PlannedFlush) → IsPlannedFlush config id (state_of s) chosen.t at_index p → P p) → IfSome o P
+  has P from = by o (plan (one_of s.groups.items chosen.index within))
     where
-      by : (p : Option PlannedFlush) → IsPlan config id (vec_len s.flushes) (state_of s) chosen.t at_place (Ok p) → IfSome p P
+      by : (p : Option PlannedFlush) → IsPlan config id (vec_len s.flushes) (state_of s) chosen.t at_index (Ok p) → IfSome p P
       by None is = tt
       by (Some flush) is = from flush is.2
 
@@ -151,54 +151,54 @@ module _ (config : Config) (id : ℕ) (s : kept.State) (chosen : ChosenGroup) (w
   pub planned_few : HaveFewIntegrations config → IfSome o (λ p. vec_len p.notices ≤ MAX_INTEGRATIONS)
   planned_few few = has (λ p. vec_len p.notices ≤ MAX_INTEGRATIONS) few_notices
     where
-      few_notices : (p : PlannedFlush) → IsPlannedFlush config id (state_of s) chosen.t at_place p → vec_len p.notices ≤ MAX_INTEGRATIONS
+      few_notices : (p : PlannedFlush) → IsPlannedFlush config id (state_of s) chosen.t at_index p → vec_len p.notices ≤ MAX_INTEGRATIONS
       few_notices p is =
-          let asked = asked_of config (state_of s) chosen.t at_place in
-          let count = ap (λ (ns : List NoticeData). length ns) is.notices ∙ length-map asked (notice_for config id (state_of s) chosen.t at_place) in
-          omega (arith, p.notices.ok.0, count, few_asked config (state_of s) chosen.t at_place few)
+          let notified = notified_of config (state_of s) chosen.t at_index in
+          let count = ap (λ (ns : List NoticeData). length ns) is.notices ∙ length-map notified (notice_for config id (state_of s) chosen.t at_index) in
+          omega (arith, p.notices.ok.0, count, few_notified config (state_of s) chosen.t at_index few)
 
 -- ---- what is worked out for the group that a begin takes
 
 module _ (config : Config) (id : ℕ) (s : kept.State) (chosen : ChosenGroup) (g : Group) (takes : IsChosen config s chosen g) where
   -- the plan is for this group
   planned : (r : Result (Option PlannedFlush) Fault)
-      → ((d : Group) → IsPlan config id (vec_len s.flushes) (state_of s) chosen.t (group_state (slice_index_or s.groups.items chosen.place d)) r)
+      → ((d : Group) → IsPlan config id (vec_len s.flushes) (state_of s) chosen.t (group_state (slice_index_or s.groups.items chosen.index d)) r)
       → IsPlan config id (vec_len s.flushes) (state_of s) chosen.t (group_state g) r
   planned r plan = subst (λ (x : Group). IsPlan config id (vec_len s.flushes) (state_of s) chosen.t (group_state x) r) (takes.group g) (plan g)
 
-  -- whether a flush is to be opened, by what is asked
-  opens_taken : opens_by config (state_of s) chosen.t (taken (state_of s) chosen.t) ≡ asks_some (asked_of config (state_of s) chosen.t (group_state g))
+  -- whether a flush is to be opened, by what is notified
+  opens_taken : opens_by config (state_of s) chosen.t (taken (state_of s) chosen.t) ≡ notifies_some (notified_of config (state_of s) chosen.t (group_state g))
   opens_taken = ap (λ o. opens_by config (state_of s) chosen.t o) takes.first
 
   module _ (room : vec_len s.history + vec_len s.flushes + 2 ≤ config.limits.history) where
-    -- nobody is asked: only memory can be wanting
-    cause-quiet : asked_of config (state_of s) chosen.t (group_state g) ≡ [] → begin_cause config (vec_len s.history) (state_of s) (moment (state_of s) chosen.now) ≡ None
-    cause-quiet none = cause-closed config s chosen.now chosen.t takes.moment room (opens_taken ∙ ap asks_some none)
+    -- nobody is notified: only memory can be wanting
+    cause-quiet : notified_of config (state_of s) chosen.t (group_state g) ≡ [] → begin_cause config (vec_len s.history) (state_of s) (time (state_of s) chosen.now) ≡ None
+    cause-quiet none = cause-closed config s chosen.now chosen.t takes.time room (opens_taken ∙ ap notifies_some none)
 
     -- why it is refused before anything is put
     pub planned_err : (fault : Fault)
-        → ((d : Group) → IsPlan config id (vec_len s.flushes) (state_of s) chosen.t (group_state (slice_index_or s.groups.items chosen.place d)) (Err fault))
-        → IsAnswer (begin_cause config (vec_len s.history) (state_of s) (moment (state_of s) chosen.now)) fault
+        → ((d : Group) → IsPlan config id (vec_len s.flushes) (state_of s) chosen.t (group_state (slice_index_or s.groups.items chosen.index d)) (Err fault))
+        → IsAnswer (begin_cause config (vec_len s.history) (state_of s) (time (state_of s) chosen.now)) fault
     planned_err fault plan =
         elim (planned (Err fault) plan) [
-          | inl memory ↦ subst (λ f. IsAnswer (begin_cause config (vec_len s.history) (state_of s) (moment (state_of s) chosen.now)) f) (sym memory) (answer-memory config s chosen.now chosen.t takes.moment room)
+          | inl memory ↦ subst (λ f. IsAnswer (begin_cause config (vec_len s.history) (state_of s) (time (state_of s) chosen.now)) f) (sym memory) (answer-memory config s chosen.now chosen.t takes.time room)
           | inr full ↦
-              let many = cause-many config s chosen.now chosen.t takes.moment room full.2 (opens_taken ∙ asks_some-true (asked_of config (state_of s) chosen.t (group_state g)) full.1) in
+              let many = cause-many config s chosen.now chosen.t takes.time room full.2 (opens_taken ∙ notifies_some-true (notified_of config (state_of s) chosen.t (group_state g)) full.1) in
               subst (λ o. IsAnswer o fault) (sym many) (inl full.0)
         ]
 
-    -- a flush is opened or nobody is asked: only memory can be wanting
+    -- a flush is opened or nobody is notified: only memory can be wanting
     cause_planned : (o : Option PlannedFlush)
-        → ((d : Group) → IsPlan config id (vec_len s.flushes) (state_of s) chosen.t (group_state (slice_index_or s.groups.items chosen.place d)) (Ok o))
-        → begin_cause config (vec_len s.history) (state_of s) (moment (state_of s) chosen.now) ≡ None
+        → ((d : Group) → IsPlan config id (vec_len s.flushes) (state_of s) chosen.t (group_state (slice_index_or s.groups.items chosen.index d)) (Ok o))
+        → begin_cause config (vec_len s.history) (state_of s) (time (state_of s) chosen.now) ≡ None
     cause_planned None plan = cause-quiet (planned (Ok None) plan)
-    cause_planned (Some flush) plan = cause-few config s chosen.now chosen.t takes.moment room (planned (Ok (Some flush)) plan).1
+    cause_planned (Some flush) plan = cause-few config s chosen.now chosen.t takes.time room (planned (Ok (Some flush)) plan).1
 
     -- the begin ends as its plan says
     pub ended : (o : Option PlannedFlush)
-        → ((d : Group) → IsPlan config id (vec_len s.flushes) (state_of s) chosen.t (group_state (slice_index_or s.groups.items chosen.place d)) (Ok o))
+        → ((d : Group) → IsPlan config id (vec_len s.flushes) (state_of s) chosen.t (group_state (slice_index_or s.groups.items chosen.index d)) (Ok o))
         → (new : kept.State) (result : Result Begun Fault)
         → (IsPlan config id (vec_len s.flushes) (state_of s) chosen.t (group_state g) (Ok o) → IsEnd config id chosen.pass chosen.now s new result)
-        → IsTold config id chosen.pass chosen.now s new (begin_cause config (vec_len s.history) (state_of s) (moment (state_of s) chosen.now)) result
+        → IsReturned config id chosen.pass chosen.now s new (begin_cause config (vec_len s.history) (state_of s) (time (state_of s) chosen.now)) result
     ended o plan new result end =
-        told config id chosen.pass chosen.now s new (begin_cause config (vec_len s.history) (state_of s) (moment (state_of s) chosen.now)) result (cause_planned o plan) (end (planned (Ok o) plan))
+        returned config id chosen.pass chosen.now s new (begin_cause config (vec_len s.history) (state_of s) (time (state_of s) chosen.now)) result (cause_planned o plan) (end (planned (Ok o) plan))

@@ -1,4 +1,4 @@
--- A walk over keys in order: what the first one that passes tells of all groups.
+-- A walk over keys in order: what the first one that passes says of all groups.
 use Rattle.std.proofs.Common.{◌≡◌, ℕ, zero, suc, ◌<◌, ◌≤◌, Bool, true, false, true≢false, cond, not, ◌&&◌, ◌||◌, nat_le, Option, Some, None, List, [], ◌∷◌, ◌++◌, length, map, filter, get_or, refl, sym, inl, inr, ap, ◌∙◌, subst, arith}
 use Rattle.std.specs.Prelude.{◌⊎◌, All, IsTrue}
 use Rattle.std.specs.List.{AllByRecursion, IsDistinct}
@@ -22,7 +22,7 @@ use Rattle.am_board.specs.Group.{names_of}
 use Rattle.am_board.specs.Refinement.{group_state}
 use Rattle.am_board.specs.declared.due.DueKey.{DueKey}
 use Rattle.am_board.specs.declared.group.Group.{Group}
-use Rattle.am_board.proofs.lemmas.invariant.DueKeys.{key-is, only_place}
+use Rattle.am_board.proofs.lemmas.invariant.DueKeys.{key-is, only_index}
 
 -- ---- the least of those that pass, where each of them is one element or behind it
 
@@ -202,7 +202,7 @@ module _ (fs : List FlushState) (t : ℕ) (gs : List Group) (keys : List DueKey)
       not_true (has_key keys (key_of (get_or gs j d))) (λ has. true≢false (sym (ahead j d within may has)))
 
   module _ (k : DueKey) (left : List DueKey) where
-    -- the moment of the next key hasn't come
+    -- the time of the next key hasn't come
     pub walk_late : ((q : DueKey) → has_key left q ≡ true → IsKeyBehind k q) → t < k.due → AreAhead fs t gs keys left → IsFirstOfKeys fs t gs keys None
     walk_late behind late ahead j d within may =
         let g : Group = get_or gs j d in
@@ -258,12 +258,12 @@ module _ (fs : List FlushState) (t : ℕ) (gs : List Group) where
       elim (ahead j e within may_too) [
         | inl same ↦
             let named : same_name g.name (get_or gs j e).name ≡ true = ap (λ (q : DueKey). same_name g.name q.name) same ∙ same_name_equiv.refl g.name in
-            inl (ap (λ n. group_state (get_or gs n e)) (only_place gs i j d e distinct here within named) ∙ ap group_state (get_or_default gs i e d here))
+            inl (ap (λ n. group_state (get_or gs n e)) (only_index gs i j d e distinct here within named) ∙ ap group_state (get_or_default gs i e d here))
         | inr less ↦
             inr (ap is_gt (key_cmp_total.antisymm (key_of g) (key_of (get_or gs j e)) ∙ ap ordering_reverse less), ap is_gt less)
       ] in
-      let stands : get_or (map group_state gs) i (group_state g) ≡ group_state g = get_or-map group_state gs i d (group_state g) here in
-      least_is due_cmp (may_take fs t) (group_state g) (map group_state gs) i (omega (arith, here, length-map gs group_state)) stands may
+      let holds : get_or (map group_state gs) i (group_state g) ≡ group_state g = get_or-map group_state gs i d (group_state g) here in
+      least_is due_cmp (may_take fs t) (group_state g) (map group_state gs) i (omega (arith, here, length-map gs group_state)) holds may
       (all_states (λ x. may_take fs t x ≡ true → IsBehind due_cmp (may_take fs t) (group_state g) x) gs (all_to (λ x. may_take fs t (group_state x) ≡ true → IsBehind due_cmp (may_take fs t) (group_state g) (group_state x)) gs all))
 
   -- ---- two lists that have all keys

@@ -1,4 +1,4 @@
--- How a begin ends: what is told and what is kept, from what it did to the kept state.
+-- How a begin ends: what is reported and what is kept, from what it did to the kept state.
 use Rattle.std.proofs.Common.{◌≡◌, ◌≢◌, ℕ, ◌+◌, ◌*◌, ◌<◌, ◌≤◌, ◌||◌, min, true, List, [], ◌∷◌, ◌++◌, length, map, get_or, Some, All, IsTrue, vec_len, vec_capacity, refl, sym, ap, subst, ◌∙◌, arith}
 use Rattle.std.specs.Cmp.{on_equiv}
 use Rattle.std.proofs.Math.ListN.{set}
@@ -10,7 +10,7 @@ use Rattle.am_nflog.specs.declared.key.LogKey.{LogKey}
 use Rattle.am_board.specs.declared.begin.ChosenGroup.{ChosenGroup}
 use Rattle.am_model.specs.declared.config.Config.{Config}
 use Rattle.am_model.specs.declared.config.Integration.{Integration}
-use Rattle.am_board.specs.declared.flush.Asked.{Asked}
+use Rattle.am_board.specs.declared.flush.Notified.{Notified}
 use Rattle.am_board.specs.declared.flush.OpenFlush.{OpenFlush}
 use Rattle.am_board.specs.declared.group.Group.{Group}
 use Rattle.am_model.specs.declared.group.GroupName.{GroupName}
@@ -19,7 +19,7 @@ use Rattle.am_model.specs.declared.record.Call.TheVariants.{Begin}
 use Rattle.am_model.specs.declared.record.Reply.{Reply}
 use Rattle.am_model.specs.declared.record.Reply.TheVariants.{Quiet, Flush}
 use Rattle.am_board.specs.declared.state.State as kept
-use Rattle.am_model.specs.Begin.{begun, after_begin, after_taking, reply_taking, after_asking, reply_asking, asked_of, begun_group, without_resolved, count_resolved, flush_asking, notice_for, deadline_of}
+use Rattle.am_model.specs.Begin.{begun, after_begin, after_taking, reply_taking, after_notifying, reply_notifying, notified_of, begun_group, without_resolved, count_resolved, flush_notifying, notice_for, deadline_of}
 use Rattle.am_model.specs.Configured.{route_of}
 use Rattle.am_board.specs.Group.{names_of, AreRouted}
 use Rattle.am_model.specs.Records.{entry, flush_reply}
@@ -39,14 +39,14 @@ use Rattle.am_board.specs.Marks.{is_marked, marks_of}
 use Rattle.am_board.proofs.lemmas.invariant.Marks.{marked_open}
 use Rattle.am_board.proofs.lemmas.invariant.OpenFlushes.{flushing_more}
 
--- the reply and the state where some integrations are asked
-told_opened : (config : Config) (id : ℕ) (s : State) (t : ℕ) (g : GroupState) (asked : List (ℕ × Integration)) → asked ≢ []
-    → reply_asking config id s t g asked ≡ flush_reply s.next_number g.name (deadline_of config t g) (map (notice_for config id s t g) asked)
-told_opened config id s t g [] some = absurd (some refl)
-told_opened config id s t g (i ∷ is) some = refl
+-- the reply and the state where some integrations are notified
+opened_returned : (config : Config) (id : ℕ) (s : State) (t : ℕ) (g : GroupState) (notified : List (ℕ × Integration)) → notified ≢ []
+    → reply_notifying config id s t g notified ≡ flush_reply s.next_number g.name (deadline_of config t g) (map (notice_for config id s t g) notified)
+opened_returned config id s t g [] some = absurd (some refl)
+opened_returned config id s t g (i ∷ is) some = refl
 
-after_opened : (config : Config) (s : State) (t : ℕ) (g : GroupState) (asked : List (ℕ × Integration)) → asked ≢ []
-    → after_asking config s t g asked ≡ record s { clock = t; groups = changed_where (is_named g.name) (begun_group config t) s.groups; flushes = s.flushes ++ flush_asking config s t g asked ∷ []; next_number = s.next_number + 1 }
+after_opened : (config : Config) (s : State) (t : ℕ) (g : GroupState) (notified : List (ℕ × Integration)) → notified ≢ []
+    → after_notifying config s t g notified ≡ record s { clock = t; groups = changed_where (is_named g.name) (begun_group config t) s.groups; flushes = s.flushes ++ flush_notifying config s t g notified ∷ []; next_number = s.next_number + 1 }
 after_opened config s t g [] some = absurd (some refl)
 after_opened config s t g (i ∷ is) some = refl
 
@@ -57,61 +57,61 @@ prepared_kept config log more keeps fs all i f h =
     let one = all i f h in
     record {
       kept_for = one.kept_for;
-      asked = λ k a less.
-          let two = one.asked k a less in
+      notified = λ k a less.
+          let two = one.notified k a less in
           record { group = two.group; known = keeps _ two.known; sets = two.sets };
     }
 
 module _ (config : Config) (id : ℕ) (old : kept.State) (chosen : ChosenGroup) (g : Group) (good : StateInvariant config old) (takes : IsChosen config old chosen g) where
-  -- what is told, and the state after, by what is asked
-  told_taking : reply config id (state_of old) (Begin chosen.now) ≡ Some (reply_asking config id (state_of old) chosen.t (group_state g) (asked_of config (state_of old) chosen.t (group_state g)))
-  told_taking =
-      ap (λ t. Some (begun config id (state_of old) t)) (sym takes.moment)
+  -- what is reported, and the state after, by what is notified
+  taking_returned : reply config id (state_of old) (Begin chosen.now) ≡ Some (reply_notifying config id (state_of old) chosen.t (group_state g) (notified_of config (state_of old) chosen.t (group_state g)))
+  taking_returned =
+      ap (λ t. Some (begun config id (state_of old) t)) (sym takes.time)
       ∙ ap (λ o. Some (reply_taking config id (state_of old) chosen.t o)) takes.first
 
-  after_this : (r : Reply) → after config (state_of old) (entry chosen.pass (Begin chosen.now) r) ≡ after_asking config (state_of old) chosen.t (group_state g) (asked_of config (state_of old) chosen.t (group_state g))
+  after_this : (r : Reply) → after config (state_of old) (entry chosen.pass (Begin chosen.now) r) ≡ after_notifying config (state_of old) chosen.t (group_state g) (notified_of config (state_of old) chosen.t (group_state g))
   after_this r =
-      ap (λ t. after_begin config (state_of old) t) (sym takes.moment)
+      ap (λ t. after_begin config (state_of old) t) (sym takes.time)
       ∙ ap (λ o. after_taking config (state_of old) chosen.t o) takes.first
 
   -- the group is in its place, alone with its name
-  within : chosen.place < length old.groups.items
-  within = takes.place
+  within : chosen.index < length old.groups.items
+  within = takes.index
 
-  changed_there : (change : GroupState → GroupState) → changed_where (is_named g.name) change (map group_state old.groups.items) ≡ set (map group_state old.groups.items) chosen.place (change (group_state g))
+  changed_there : (change : GroupState → GroupState) → changed_where (is_named g.name) change (map group_state old.groups.items) ≡ set (map group_state old.groups.items) chosen.index (change (group_state g))
   changed_there change =
-      let there : get_or (map group_state old.groups.items) chosen.place (group_state g) ≡ group_state g = get_or-map group_state old.groups.items chosen.place g (group_state g) within ∙ ap group_state (takes.group g) in
-      let place : chosen.place < length (map group_state old.groups.items) = omega (arith, within, length-map old.groups.items group_state) in
-      subst (λ (x : GroupState). changed_where (same_group x) change (map group_state old.groups.items) ≡ set (map group_state old.groups.items) chosen.place (change x)) there
-      (changed_where-like same_group (on_equiv (λ (x : GroupState). x.name) same_name_equiv) change (map group_state old.groups.items) chosen.place (group_state g) good.consistent.groups place)
+      let there : get_or (map group_state old.groups.items) chosen.index (group_state g) ≡ group_state g = get_or-map group_state old.groups.items chosen.index g (group_state g) within ∙ ap group_state (takes.group g) in
+      let index : chosen.index < length (map group_state old.groups.items) = omega (arith, within, length-map old.groups.items group_state) in
+      subst (λ (x : GroupState). changed_where (same_group x) change (map group_state old.groups.items) ≡ set (map group_state old.groups.items) chosen.index (change x)) there
+      (changed_where-like same_group (on_equiv (λ (x : GroupState). x.name) same_name_equiv) change (map group_state old.groups.items) chosen.index (group_state g) good.consistent.groups index)
 
   groups_after : (change : GroupState → GroupState) (h : Group) → group_state h ≡ change (group_state g)
-      → map group_state (set old.groups.items chosen.place h) ≡ changed_where (is_named g.name) change (map group_state old.groups.items)
+      → map group_state (set old.groups.items chosen.index h) ≡ changed_where (is_named g.name) change (map group_state old.groups.items)
   groups_after change h e =
-      map-set group_state old.groups.items chosen.place h
-      ∙ ap (λ x. set (map group_state old.groups.items) chosen.place x) e
+      map-set group_state old.groups.items chosen.index h
+      ∙ ap (λ x. set (map group_state old.groups.items) chosen.index x) e
       ∙ sym (changed_there change)
 
-  routed_after : (h : Group) → h.name ≡ g.name → AreRouted config.routes (names_of (set old.groups.items chosen.place h))
-  routed_after h e = subst (AreRouted config.routes) (sym (names_set old.groups.items chosen.place h g (e ∙ sym (ap (λ (x : Group). x.name) (takes.group g))))) good.routed
+  routed_after : (h : Group) → h.name ≡ g.name → AreRouted config.routes (names_of (set old.groups.items chosen.index h))
+  routed_after h e = subst (AreRouted config.routes) (sym (names_set old.groups.items chosen.index h g (e ∙ sym (ap (λ (x : Group). x.name) (takes.group g))))) good.routed
 
   -- the taken group, marked as begun
-  pub begun_state : (r : Group) → r ≡ get_or old.groups.items chosen.place r → record (group_state r) { due = chosen.due; flushed = true } ≡ begun_group config chosen.t (group_state g)
+  pub begun_state : (r : Group) → r ≡ get_or old.groups.items chosen.index r → record (group_state r) { due = chosen.due; flushed = true } ≡ begun_group config chosen.t (group_state g)
   begun_state r is =
       ap (λ (x : Group). record (group_state x) { due = chosen.due; flushed = true }) (is ∙ takes.group r)
       ∙ ap (λ d. record (group_state g) { due = d; flushed = true }) takes.due
 
-  pub begun_kept : (h r : Group) → r ≡ get_or old.groups.items chosen.place r → h ≡ record r { due = chosen.due; flushed = true; is_open = true } → group_state h ≡ begun_group config chosen.t (group_state g)
+  pub begun_kept : (h r : Group) → r ≡ get_or old.groups.items chosen.index r → h ≡ record r { due = chosen.due; flushed = true; is_open = true } → group_state h ≡ begun_group config chosen.t (group_state g)
   begun_kept h r is marked =
       ap group_state marked ∙ begun_state r is
 
-  -- nobody is asked: the resolved alerts leave the group
+  -- nobody is notified: the resolved alerts leave the group
   pub accepts_quiet : (h : Group) (name recorded : GroupName) (removed : ℕ) (new : kept.State)
-      → asked_of config (state_of old) chosen.t (group_state g) ≡ []
+      → notified_of config (state_of old) chosen.t (group_state g) ≡ []
       → group_state h ≡ without_resolved chosen.t (begun_group config chosen.t (group_state g))
       → name ≡ g.name → recorded ≡ g.name
       → removed ≡ count_resolved chosen.t (group_state g)
-      → new.groups.items ≡ set old.groups.items chosen.place h
+      → new.groups.items ≡ set old.groups.items chosen.index h
       → marks_of new.groups.items ≡ marks_of old.groups.items
       → new ≡ record old { clock = chosen.t; groups = new.groups; history = new.history }
       → new.history.items ≡ old.history.items ++ entry chosen.pass (Begin chosen.now) (Quiet recorded removed) ∷ []
@@ -124,15 +124,15 @@ module _ (config : Config) (id : ℕ) (old : kept.State) (chosen : ChosenGroup) 
       let log : new.log ≡ old.log = ap (λ (s : kept.State). s.log) is in
       let flushes : new.flushes ≡ old.flushes = ap (λ (s : kept.State). s.flushes) is in
       record {
-        told =
-            told_taking
-            ∙ ap (λ asked. Some (reply_asking config id (state_of old) chosen.t (group_state g) asked)) none
+        returned =
+            taking_returned
+            ∙ ap (λ notified. Some (reply_notifying config id (state_of old) chosen.t (group_state g) notified)) none
             ∙ (λ i. Some (Quiet (sym named i) (sym gone i)));
         state =
             agrees_same _ _
             (ap state_of is
             ∙ ap (λ gs. record (state_of old) { clock = chosen.t; groups = gs }) groups
-            ∙ sym (after_this (Quiet name removed) ∙ ap (λ asked. after_asking config (state_of old) chosen.t (group_state g) asked) none));
+            ∙ sym (after_this (Quiet name removed) ∙ ap (λ notified. after_notifying config (state_of old) chosen.t (group_state g) notified) none));
         routed = subst (λ gs. AreRouted config.routes (names_of gs)) (sym put) (routed_after h named_as_before);
         prepared = subst (λ (s : kept.State). All (IsPrepared config s.log) s.flushes.items) (sym is) good.prepared;
         marked = λ n. ap (λ ms. is_marked ms n) marks ∙ (good.marked n ∙ sym (ap (λ (s : kept.State). is_flushing (map flush_state s.flushes.items) n) is));
@@ -141,46 +141,46 @@ module _ (config : Config) (id : ℕ) (old : kept.State) (chosen : ChosenGroup) 
         room = subst (λ n. vec_len new.history + n ≤ vec_capacity new.history) (sym (ap (λ (s : kept.State). vec_len s.flushes) is)) room;
       }
 
-  -- a flush is opened: the keys of those that it asks are known
+  -- a flush is opened: the keys of those that it notifies are known
   pub accepts_flush : (h : Group) (o : PlannedFlush) (new : kept.State)
-      → asked_of config (state_of old) chosen.t (group_state g) ≢ []
+      → notified_of config (state_of old) chosen.t (group_state g) ≢ []
       → IsPlannedFlush config id (state_of old) chosen.t (group_state g) o
       → group_state h ≡ begun_group config chosen.t (group_state g)
       → h.is_open ≡ true
-      → new.groups.items ≡ set old.groups.items chosen.place h
+      → new.groups.items ≡ set old.groups.items chosen.index h
       → new ≡ record old { clock = chosen.t; groups = new.groups; log = new.log; flushes = new.flushes; next_number = old.next_number + 1; history = new.history }
       → log_rows new.log ≡ log_rows old.log
       → ((key : LogKey GroupName) → IsTrue (is_known same_name old.log key) → IsTrue (is_known same_name new.log key))
-      → All (λ (a : Asked). a.key.group ≡ o.flush.group → IsTrue (is_known same_name new.log a.key)) o.flush.asked.items
+      → All (λ (a : Notified). a.key.group ≡ o.flush.group → IsTrue (is_known same_name new.log a.key)) o.flush.notified.items
       → new.flushes.items ≡ old.flushes.items ++ o.flush ∷ []
       → new.history.items ≡ old.history.items ++ entry chosen.pass (Begin chosen.now) (Flush o.recorded_group o.recorded) ∷ []
       → vec_len new.history ≡ vec_len old.history + 1
       → vec_len new.history + vec_len new.flushes ≤ vec_capacity new.history
       → AppliesCall config id (entry chosen.pass (Begin chosen.now) (flush_reply o.number o.group o.deadline o.notices.items)) old new
-  accepts_flush h o new some planned marked open_now put is rows keeps asked flushes history records room =
-      let all_asked = asked_of config (state_of old) chosen.t (group_state g) in
+  accepts_flush h o new some planned marked open_now put is rows keeps notified flushes history records room =
+      let all_notified = notified_of config (state_of old) chosen.t (group_state g) in
       let named_as_before : h.name ≡ g.name = ap (λ (x : GroupState). x.name) marked in
       let groups = ap (map group_state) put ∙ groups_after (begun_group config chosen.t) h marked in
-      let opened : map flush_state new.flushes.items ≡ map flush_state old.flushes.items ++ flush_asking config (state_of old) chosen.t (group_state g) all_asked ∷ [] =
+      let opened : map flush_state new.flushes.items ≡ map flush_state old.flushes.items ++ flush_notifying config (state_of old) chosen.t (group_state g) all_notified ∷ [] =
       ap (map flush_state) flushes ∙ map-append flush_state old.flushes.items (o.flush ∷ []) ∙ ap (λ f. map flush_state old.flushes.items ++ f ∷ []) planned.flush in
       let of_group : o.flush.group ≡ g.name = ap (λ (f : FlushState). f.group) planned.flush in
       let prepared : IsPrepared config new.log o.flush =
       record {
         kept_for = planned.kept_for ∙ ap (λ n. min config.retention (2 * (route_of config n).repeat_interval)) (sym of_group);
-        asked = λ k a less.
+        notified = λ k a less.
             let spare = planned.spare k a less in
-            record { group = spare.group; known = asked k a less spare.group; sets = spare.sets };
+            record { group = spare.group; known = notified k a less spare.group; sets = spare.sets };
       } in
       record {
-        told =
-            told_taking
-            ∙ ap (λ r. Some r) (told_opened config id (state_of old) chosen.t (group_state g) all_asked some)
+        returned =
+            taking_returned
+            ∙ ap (λ r. Some r) (opened_returned config id (state_of old) chosen.t (group_state g) all_notified some)
             ∙ (λ i. Some (flush_reply (sym planned.number i) (sym planned.group i) (sym planned.deadline i) (sym planned.notices i)));
         state =
             agrees_same _ _
             (ap state_of is
             ∙ (λ i. record (state_of old) { clock = chosen.t; groups = groups i; rows = rows i; flushes = opened i; next_number = old.next_number + 1 })
-            ∙ sym (after_this (flush_reply o.number o.group o.deadline o.notices.items) ∙ after_opened config (state_of old) chosen.t (group_state g) all_asked some));
+            ∙ sym (after_this (flush_reply o.number o.group o.deadline o.notices.items) ∙ after_opened config (state_of old) chosen.t (group_state g) all_notified some));
         routed = subst (λ gs. AreRouted config.routes (names_of gs)) (sym put) (routed_after h named_as_before);
         prepared =
             subst (λ fs. All (IsPrepared config new.log) fs) (sym flushes)
@@ -188,7 +188,7 @@ module _ (config : Config) (id : ℕ) (old : kept.State) (chosen : ChosenGroup) 
             (All-cons (IsPrepared config new.log) o.flush [] prepared (All-nil (IsPrepared config new.log))));
         marked = λ n.
             ap (λ gs. is_marked (marks_of gs) n) put
-            ∙ (marked_open old.groups.items chosen.place h takes.place open_now (named_as_before ∙ sym (ap (λ (x : Group). x.name) (takes.group h))) n
+            ∙ (marked_open old.groups.items chosen.index h takes.index open_now (named_as_before ∙ sym (ap (λ (x : Group). x.name) (takes.group h))) n
             ∙ (ap (λ b. b || same_name n h.name) (good.marked n)
             ∙ (ap (λ m. is_flushing (map flush_state old.flushes.items) n || same_name n m) (named_as_before ∙ sym of_group)
             ∙ sym (ap (λ fs. is_flushing (map flush_state fs) n) flushes ∙ flushing_more old.flushes.items o.flush n))));

@@ -10,7 +10,7 @@ use Rattle.am_model.specs.State.{GroupState, FlushState}
 use Rattle.am_board.specs.Beginning.{may_take, first_of, IsFirst}
 use Rattle.am_board.specs.declared.group.Group.{Group}
 
--- the groups from a place on, where that one is `r`
+-- the groups from an index on, where that one is `r`
 later : (flushes : List FlushState) (t : ℕ) (groups : List Group) (i j : ℕ) (d r : Group) → j < length groups → i ≡ j + 1 → r ≡ get_or groups j r
     → first_of flushes t (map group_state (drop j groups)) ≡ least due_cmp (cond (may_take flushes t (group_state r)) (group_state (get_or groups j d) ∷ filter (may_take flushes t) (map group_state (drop i groups))) (filter (may_take flushes t) (map group_state (drop i groups))))
 later flushes t groups i j d r within next is =
@@ -35,7 +35,7 @@ first_of-passed flushes t groups i j r within next is may =
     later flushes t groups i j r r within next is
     ∙ ap (λ b. least due_cmp (cond b (group_state (get_or groups j r) ∷ filter (may_take flushes t) (map group_state (drop i groups))) (filter (may_take flushes t) (map group_state (drop i groups))))) may
 
--- the group at the place, if there is one
+-- the group at the index, if there is one
 pub first_seen : (groups : List Group) (o : Option ℕ) (first : Option GroupState) (d : Group) → IsFirst groups o first → option_map (λ i. group_state (get_or groups i d)) o ≡ first
 first_seen groups None first d is = sym is
 first_seen groups (Some i) first d is = sym (is d)

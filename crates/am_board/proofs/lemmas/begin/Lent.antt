@@ -1,4 +1,4 @@
--- What is unmuted as it stands in a group, against what a flush copies of it.
+-- What is unmuted as it is in a group, against what a flush copies of it.
 use Rattle.std.proofs.Common.{◌≡◌, ℕ, ◌∷◌, [], List, Bor, IsTrue, map, refl, sym, subst}
 use Rattle.am_alerts.specs.Labels.{label_set_cmp}
 use Rattle.am_alerts.specs.declared.labels.Label.{Label}

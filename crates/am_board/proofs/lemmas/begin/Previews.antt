@@ -33,9 +33,9 @@ module _ (eq : GroupName → GroupName → Bool) (same : (a b : GroupName) → e
       ap (λ n. entry_of (log_rows log) n i) (sym group) ∙ (ap (entry_of (log_rows log) key.group) (sym integration) ∙ entry_of-log_rows eq same log key.group key.integration apart)
 
   -- and what holds of all rows holds of it
-  pub kept-holds : (P : ℕ → Type 0) → All (λ row. P row.moment) (log_rows log) → IfSome (row_of eq log key) (λ row. P row.moment)
-  kept-holds P all = subst (λ o. IfSome o (λ row. P row.moment)) kept-entry (by (find (is_entry_of name i) (log_rows log)) refl)
+  pub kept-holds : (P : ℕ → Type 0) → All (λ row. P row.time) (log_rows log) → IfSome (row_of eq log key) (λ row. P row.time)
+  kept-holds P all = subst (λ o. IfSome o (λ row. P row.time)) kept-entry (by (find (is_entry_of name i) (log_rows log)) refl)
     where
-      by : (o : Option RowView) → find (is_entry_of name i) (log_rows log) ≡ o → IfSome (option_map log_row o) (λ row. P row.moment)
+      by : (o : Option RowView) → find (is_entry_of name i) (log_rows log) ≡ o → IfSome (option_map log_row o) (λ row. P row.time)
       by None found = tt
-      by (Some row) found = all-find (λ (r : RowView). P r.moment) (is_entry_of name i) row (log_rows log) (recursion_from_All (λ (r : RowView). P r.moment) (log_rows log) all) found
+      by (Some row) found = all-find (λ (r : RowView). P r.time) (is_entry_of name i) row (log_rows log) (recursion_from_All (λ (r : RowView). P r.time) (log_rows log) all) found

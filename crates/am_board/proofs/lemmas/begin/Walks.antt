@@ -1,4 +1,4 @@
--- A walk over the alerts of a group at places: one place more.
+-- A walk over the alerts of a group at indexes: one index more.
 use Rattle.std.proofs.Common.{◌≡◌, ℕ, ◌+◌, ◌<◌, Bool, true, false, not, ◌++◌, ◌∷◌, [], Option, Some, None, List, get_or, length, map, filter, take, slice_get, refl, sym, ap, ◌∙◌, if◌then◌else◌}
 use Rattle.std.specs.Prelude.{is_some}
 use Rattle.std.specs.List.{cons_option, filter_map}
@@ -17,7 +17,7 @@ use Rattle.am_board.specs.Beginning.{copies_at, copy_among, firing_among, resolv
 use Rattle.am_board.specs.Refinement.{member_state}
 use Rattle.am_board.specs.Walk.{AreFound, cause_of, firing_if, listed_if, muted_at, muted_if, resolved_if}
 use Rattle.am_board.specs.declared.group.Member.{Member}
-use Rattle.am_board.specs.declared.walk.MutedPlace.{MutedPlace}
+use Rattle.am_board.specs.declared.walk.MutedIndex.{MutedIndex}
 use Rattle.am_board.specs.declared.walk.Walk.{Walk}
 use Rattle.am_board.proofs.lemmas.invariant.Order.{there_more}
 use Rattle.am_board.proofs.lemmas.unsilenced.Muting.{is_some-cause}
@@ -85,7 +85,7 @@ module _ (rules : List RuleData) (s : State) (t : ℕ) where
     abbrev so_far : List Member
     so_far = filter_map (slice_get ms) (take i ps)
 
-    muted_more : (b : Bool) (muted : List MutedPlace) → muted ≡ (if b then filter_map (muted_at (cause_of rules s t) ms) (take i ps) else [])
+    muted_more : (b : Bool) (muted : List MutedIndex) → muted ≡ (if b then filter_map (muted_at (cause_of rules s t) ms) (take i ps) else [])
         → (o : Option Member) → slice_get ms (get_or ps i 0) ≡ o
         → (if b then filter_map (muted_at (cause_of rules s t) ms) (take (i + 1) ps) else [])
         ≡ muted ++ (if b then cons_option (option_and_then (λ m. muted_if (get_or ps i 0) (cause_of rules s t m)) o) [] else [])
@@ -96,7 +96,7 @@ module _ (rules : List RuleData) (s : State) (t : ℕ) where
         ∙ ap (λ p. muted ++ cons_option (option_and_then (λ m. muted_if (get_or ps i 0) (cause_of rules s t m)) p) []) at
     muted_more false muted is o at = sym (append-nil muted ∙ is)
 
-    -- an alert is at the next place
+    -- an alert is at the next index
     pub found_more : (m : Member) → slice_get ms (get_or ps i 0) ≡ Some m → (new : Walk)
         → copies_at t new.firing.items ≡ copies_at t walk.firing.items ++ firing_if t m.alert (cause_of rules s t m)
         → copies_at t new.resolved.items ≡ copies_at t walk.resolved.items ++ resolved_if t m.alert (cause_of rules s t m)
@@ -124,7 +124,7 @@ module _ (rules : List RuleData) (s : State) (t : ℕ) where
           muted = sym (muted_more causes walk.muted.items before.muted None at ∙ ap (λ l. walk.muted.items ++ l) (neither causes []) ∙ append-nil walk.muted.items);
         }
       where
-        neither : (b : Bool) (l : List MutedPlace) → (if b then l else l) ≡ l
+        neither : (b : Bool) (l : List MutedIndex) → (if b then l else l) ≡ l
         neither true l = refl
         neither false l = refl
 

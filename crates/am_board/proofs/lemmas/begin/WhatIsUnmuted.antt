@@ -19,12 +19,12 @@ use Rattle.am_board.specs.Beginning.{AreRising, IsUnmuted, copies_at, copy_among
 use Rattle.am_model.specs.Insert.{same_alert, same_member}
 use Rattle.am_board.specs.Refinement.{group_state, member_state}
 use Rattle.am_board.specs.Members.{labels_of}
-use Rattle.am_board.specs.Order.{member_cmp, places_in_order}
+use Rattle.am_board.specs.Order.{member_cmp, indexes_in_order}
 use Rattle.am_board.specs.Walk.{IsWalk}
 use Rattle.am_board.specs.declared.walk.Walk.{Walk}
 use Rattle.am_model.specs.Lists.{in_order, unless, without}
 use Rattle.am_model.specs.State.{GroupState, MemberState, State}
-use Rattle.am_model.proofs.lists.Distinct.{IsDistinct-told}
+use Rattle.am_model.proofs.lists.Distinct.{IsDistinct-mapped}
 use Rattle.am_model.proofs.lists.InOrder.{apart_by_ties, in_order-map}
 use Rattle.am_model.proofs.states.InOrder.{IsDistinct-copy, alert_cmp_total, firing-ascends, labels-copied, resolved-ascends, same_alert-ties}
 use Rattle.am_board.proofs.lemmas.invariant.Order.{in_order-filter, members_there}
@@ -51,14 +51,14 @@ module _ (config : Config) (s : State) (t : ℕ) (g : Group) (apart : IsDistinct
   copy-in_order =
       ap (without (λ (a : AlertData). is_muted a.labels t s.silences config.rules s.known)) (copies-in_order t g.members.items)
       ∙ left_out (λ a. not (is_muted a.labels t s.silences config.rules s.known)) (copies t g.members.items)
-      (IsDistinct-told same_member same_alert (λ (m : MemberState). copied t m.alert) (λ m n i. same_label_set (labels-copied t m.alert i) (labels-copied t n.alert i)) (group_state g).members apart)
+      (IsDistinct-mapped same_member same_alert (λ (m : MemberState). copied t m.alert) (λ m n i. same_label_set (labels-copied t m.alert i) (labels-copied t n.alert i)) (group_state g).members apart)
 
   -- what fires and what is resolved of a group in the order of its labels is what is unmuted in it
   is_found : (rules : List RuleData) (members : List Member) (firing resolved : List AlertData)
       → route_muted config g.name t ≡ None → rules ≡ config.rules → members ≡ in_order member_cmp g.members.items
       → firing ≡ firing_among rules s t members → resolved ≡ resolved_among rules s t members
       → IsUnmuted config s t (group_state g) (record { firing = firing; resolved = resolved })
-  is_found rules members firing resolved unshut same_rules same_members fire gone =
+  is_found rules members firing resolved not_muted same_rules same_members fire gone =
       let copy = copy_under config.rules s t (group_state g) in
       let apart_copy : IsDistinct same_alert copy = IsDistinct-copy config.rules s t (group_state g) apart in
       record {
@@ -67,13 +67,13 @@ module _ (config : Config) (s : State) (t : ℕ) (g : Group) (apart : IsDistinct
             ∙ (ap (λ r. firing_among r s t members) same_rules ∙ ap (firing_among config.rules s t) same_members)
             ∙ ap (without (λ (a : AlertData). is_resolved a t)) copy-in_order
             ∙ left_out (λ a. not (is_resolved a t)) copy apart_copy
-            ∙ sym (ap (λ o. in_order alert_cmp (without (λ a. is_resolved a t) (unless o copy))) unshut);
+            ∙ sym (ap (λ o. in_order alert_cmp (without (λ a. is_resolved a t) (unless o copy))) not_muted);
         resolved =
             gone
             ∙ (ap (λ r. resolved_among r s t members) same_rules ∙ ap (resolved_among config.rules s t) same_members)
             ∙ ap (filter (λ (a : AlertData). is_resolved a t)) copy-in_order
             ∙ left_out (λ a. is_resolved a t) copy apart_copy
-            ∙ sym (ap (λ o. in_order alert_cmp (filter (λ a. is_resolved a t) (unless o copy))) unshut);
+            ∙ sym (ap (λ o. in_order alert_cmp (filter (λ a. is_resolved a t) (unless o copy))) not_muted);
       }
 
   -- what a walk finds is what is unmuted
@@ -81,17 +81,17 @@ module _ (config : Config) (s : State) (t : ℕ) (g : Group) (apart : IsDistinct
       → route_muted config g.name t ≡ None → rules ≡ config.rules → IsWalk rules s t g.members.items causes walk
       → unmuted.firing ≡ copies_at t walk.firing.items → unmuted.resolved ≡ copies_at t walk.resolved.items
       → IsUnmuted config s t (group_state g) unmuted
-  is_walked rules causes walk unmuted unshut same_rules is fire gone =
+  is_walked rules causes walk unmuted not_muted same_rules is fire gone =
       let ms = g.members.items in
-      let found = is_found rules (filter_map (slice_get ms) (places_in_order (map labels_of ms))) (copies_at t walk.firing.items) (copies_at t walk.resolved.items)
-      unshut same_rules (members_there ms) is.firing is.resolved in
+      let found = is_found rules (filter_map (slice_get ms) (indexes_in_order (map labels_of ms))) (copies_at t walk.firing.items) (copies_at t walk.resolved.items)
+      not_muted same_rules (members_there ms) is.firing is.resolved in
       record { firing = fire ∙ found.firing; resolved = gone ∙ found.resolved }
 
 -- nothing is unmuted where the route is muted
 pub nothing_found : (config : Config) (s : State) (t : ℕ) (g : GroupState) (firing resolved : List AlertData)
     → is_some (route_muted config g.name t) ≡ true → firing ≡ [] → resolved ≡ []
     → IsUnmuted config s t g (record { firing = firing; resolved = resolved })
-nothing_found config s t g firing resolved shut none gone = by (route_muted config g.name t) refl shut
+nothing_found config s t g firing resolved muted none gone = by (route_muted config g.name t) refl muted
   where
     by : (o : Option ℕ) → route_muted config g.name t ≡ o → is_some o ≡ true → IsUnmuted config s t g (record { firing = firing; resolved = resolved })
     by None e h = absurd (false≢true h)

@@ -4,7 +4,7 @@ use Rattle.std.specs.Prelude.{All, IsPermutation}
 use Rattle.std.specs.List.{remove}
 use Rattle.std.specs.Option.{option_map}
 use Rattle.am_alerts.specs.RoutingTree.{last_of}
-use Rattle.am_alerts.specs.declared.limits.TheConstants.{MAX_MOMENT}
+use Rattle.am_alerts.specs.declared.limits.TheConstants.{MAX_TIME}
 use Rattle.am_retry.specs.declared.outcome.Outcome.{Outcome}
 use Rattle.am_model.specs.Finish.{leaves_by, finished_group, finished, after_finish_of, rows_after}
 use Rattle.am_board.specs.Group.{names_of}
@@ -13,7 +13,7 @@ use Rattle.am_board.specs.Refinement.{IsPrepared, EqualUpToRowOrder, flush_state
 use Rattle.am_board.specs.LogRows.{log_rows}
 use Rattle.am_model.specs.Lists.{without, changed_where}
 use Rattle.am_board.specs.Finishing.{logged_of, rows_with, KnowTheSame}
-use Rattle.am_model.specs.State.{is_flushing, is_named, members_in, moment, flush_numbered, same_name}
+use Rattle.am_model.specs.State.{is_flushing, is_named, members_in, time, flush_numbered, same_name}
 use Rattle.am_board.specs.Step.{StateInvariant, AppliesCall}
 use Rattle.am_model.specs.declared.config.Config.{Config}
 use Rattle.am_board.specs.declared.flush.OpenFlush.{OpenFlush}
@@ -30,7 +30,7 @@ use Rattle.am_board.proofs.lemmas.invariant.OpenFlushes.{flushing_removed}
 
 -- what the parts of a finish did: the clock was set, the flush taken out, the alerts that leave too, and the rows put
 pub record IsFinished (config : Config) (old new : kept.State) (o : OpenFlush) (f now : ℕ) (outcomes : List (ℕ × Outcome)) (result : Finished) (r : Record) : Type 0 where
-  pub clock : new.clock ≡ max old.clock (min now MAX_MOMENT)
+  pub clock : new.clock ≡ max old.clock (min now MAX_TIME)
   pub inserts : new.inserts ≡ old.inserts
   pub known : new.known ≡ old.known
   pub names : names_of new.groups.items ≡ names_of old.groups.items
@@ -39,8 +39,8 @@ pub record IsFinished (config : Config) (old new : kept.State) (o : OpenFlush) (
   pub removed : result.removed ≡ count_by (leaves_by outcomes (flush_state o)) (members_in (map group_state old.groups.items) o.group)
   pub silences : new.silences ≡ old.silences
   pub keys : KnowTheSame new.log old.log
-  pub logged : result.logged ≡ length (logged_of outcomes o.asked.items)
-  pub rows : IsPermutation (log_rows new.log) (rows_with o new.clock outcomes o.asked.items (log_rows old.log))
+  pub logged : result.logged ≡ length (logged_of outcomes o.notified.items)
+  pub rows : IsPermutation (log_rows new.log) (rows_with o new.clock outcomes o.notified.items (log_rows old.log))
   pub flushes : new.flushes.items ≡ remove old.flushes.items f
   pub less : vec_len new.flushes + 1 ≡ vec_len old.flushes
   pub next_number : new.next_number ≡ old.next_number
@@ -55,12 +55,12 @@ module _ (config : Config) (id : ℕ) (old new : kept.State) (f : ℕ) (o : Open
   found : flush_numbered (state_of old).flushes o.number ≡ Some (flush_state o)
   found = open-found config old f o within is good
 
-  told : IsFinished config old new o f now outcomes result r → option_map (λ g. replies.Finished (finished (state_of old) outcomes g)) (flush_numbered (state_of old).flushes o.number) ≡ Some (replies.Finished result)
-  told done =
+  returned : IsFinished config old new o f now outcomes result r → option_map (λ g. replies.Finished (finished (state_of old) outcomes g)) (flush_numbered (state_of old).flushes o.number) ≡ Some (replies.Finished result)
+  returned done =
       ap (option_map (λ g. replies.Finished (finished (state_of old) outcomes g))) found
       ∙ (λ i. Some (replies.Finished (record { logged = sym done.logged i; removed = sym done.removed i })))
 
-  state : IsFinished config old new o f now outcomes result r → EqualUpToRowOrder (state_of new) (after_finish_of config (state_of old) (moment (state_of old) now) outcomes (Some (flush_state o)))
+  state : IsFinished config old new o f now outcomes result r → EqualUpToRowOrder (state_of new) (after_finish_of config (state_of old) (time (state_of old) now) outcomes (Some (flush_state o)))
   state done =
       let ready = open-prepared config old f o within is good in
       let flushes : map flush_state new.flushes.items ≡ without (λ g. g.number == o.number) (map flush_state old.flushes.items) =
@@ -83,8 +83,8 @@ module _ (config : Config) (id : ℕ) (old new : kept.State) (f : ℕ) (o : Open
   pub finish-accepted : IsFinished config old new o f now outcomes result r → AppliesCall config id r old new
   finish-accepted done =
       record {
-        told = told done;
-        state = subst (λ g. EqualUpToRowOrder (state_of new) (after_finish_of config (state_of old) (moment (state_of old) now) outcomes g)) (sym found) (state done);
+        returned = returned done;
+        state = subst (λ g. EqualUpToRowOrder (state_of new) (after_finish_of config (state_of old) (time (state_of old) now) outcomes g)) (sym found) (state done);
         routed = subst (λ names. All (λ n. n.route ≤ last_of config.routes) names) (sym done.names) good.routed;
         prepared = subst (All (IsPrepared config new.log)) (sym done.flushes) (All-remove (IsPrepared config new.log) old.flushes.items f (all_prepared config old.log new.log old.flushes.items done.keys good.prepared));
         marked = λ n.

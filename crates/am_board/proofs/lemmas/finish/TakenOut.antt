@@ -12,7 +12,7 @@ use Rattle.am_retry.specs.declared.outcome.Outcome.{Outcome}
 use Rattle.am_model.specs.Finish.{has_succeeded, all_succeeded}
 use Rattle.am_model.specs.Insert.{same_group}
 use Rattle.am_board.specs.Finishing.{leaves_where, without_leaving}
-use Rattle.am_board.specs.Refinement.{asked_state_of, member_state, group_state, flush_state}
+use Rattle.am_board.specs.Refinement.{notified_state_of, member_state, group_state, flush_state}
 use Rattle.am_model.specs.Lists.{changed_where}
 use Rattle.am_model.specs.State.{MemberState, GroupState, same_name, is_named, members_in}
 use Rattle.am_board.specs.declared.flush.LeavingAlert.{LeavingAlert}
@@ -54,8 +54,8 @@ changed-found name groups i d change g at distinct is =
 
 -- ---- whether all succeeded
 
-pub all-kept : (outcomes : List (ℕ × Outcome)) (f : OpenFlush) → all_succeeded outcomes (flush_state f) ≡ list_all (λ a. has_succeeded outcomes (asked_state_of a)) f.asked.items
-all-kept outcomes f = list_all-map (has_succeeded outcomes) asked_state_of f.asked.items
+pub all-kept : (outcomes : List (ℕ × Outcome)) (f : OpenFlush) → all_succeeded outcomes (flush_state f) ≡ list_all (λ a. has_succeeded outcomes (notified_state_of a)) f.notified.items
+all-kept outcomes f = list_all-map (has_succeeded outcomes) notified_state_of f.notified.items
 
 -- where one failed nobody leaves
 module _ (leaving : List LeavingAlert) where

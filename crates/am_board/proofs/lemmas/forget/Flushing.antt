@@ -13,7 +13,7 @@ use Rattle.am_model.specs.State.{same_name}
 use Rattle.am_model.specs.declared.config.Config.{Config}
 use Rattle.am_model.specs.declared.group.GroupName.{GroupName}
 use Rattle.am_board.specs.declared.flush.OpenFlush.{OpenFlush}
-use Rattle.am_board.specs.Refinement.{IsAsked, IsPrepared}
+use Rattle.am_board.specs.Refinement.{IsNotified, IsPrepared}
 
 abbrev groups_of : List OpenFlush → List GroupName
 groups_of fs = map (λ f. f.group) fs
@@ -39,12 +39,12 @@ prepared-forgotten config log fs h =
     (all-both (IsOfThese names) (IsPrepared config log) (IsPrepared config left)
     (λ f among k. record {
       kept_for = k.kept_for;
-      asked =
-          All-weaker (IsAsked log f) (IsAsked left f)
+      notified =
+          All-weaker (IsNotified log f) (IsNotified left f)
           (λ a j. record {
             group = j.group;
             known = is_known-without_unused same_name log same_name_equiv names a.key (ap (λ n. list_any (λ g. same_name g n) names) j.group ∙ among) j.known;
             sets = j.sets;
-          }) f.asked.items k.asked;
+          }) f.notified.items k.notified;
     })
     fs (themselves fs) (all_to (IsPrepared config log) fs h))

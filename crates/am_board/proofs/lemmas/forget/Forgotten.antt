@@ -1,4 +1,4 @@
--- Where a forgetting tells that no alert went, the same alerts are known.
+-- Where a forgetting says that no alert went, the same alerts are known.
 use Rattle.std.proofs.Common.{◌≡◌, ℕ, ◌+◌, cond, not, true, false, Bool, Some, List, [], ◌∷◌, count_by, refl, ap, ◌∙◌, arith}
 use Rattle.std.proofs.lemmas.List.Sums.{sum_by-cons}
 use Rattle.am_model.specs.declared.config.Config.{Config}
@@ -8,7 +8,7 @@ use Rattle.am_model.specs.declared.record.Reply.TheVariants as replies
 use Rattle.am_model.specs.Forget.{is_idle, forgotten}
 use Rattle.am_model.specs.Lists.{without}
 use Rattle.am_model.specs.Records.{entry}
-use Rattle.am_model.specs.State.{State, moment}
+use Rattle.am_model.specs.State.{State, time}
 use Rattle.am_board.specs.declared.state.State as kept
 use Rattle.am_board.specs.Refinement.{state_of}
 use Rattle.am_board.specs.Step.{AppliesCall}
@@ -23,10 +23,10 @@ none_go {X} test (x ∷ xs) e =
     ] (sum_by-cons (λ (y : X). cond (test y) 1 0) x xs)
 
 module _ (config : Config) (id pass now : ℕ) (old new : kept.State) (x : Forgotten) (accepts : AppliesCall config id (entry pass (Forget now) (replies.Forgotten x)) old new) where
-  told : forgotten (state_of old) (moment (state_of old) now) ≡ x
-  told = let said : Some (replies.Forgotten (forgotten (state_of old) (moment (state_of old) now))) ≡ Some (replies.Forgotten x) = accepts.told in cc
+  returned : forgotten (state_of old) (time (state_of old) now) ≡ x
+  returned = let said : Some (replies.Forgotten (forgotten (state_of old) (time (state_of old) now))) ≡ Some (replies.Forgotten x) = accepts.returned in cc
 
   pub same_known : x.alerts ≡ 0 → new.known.items ≡ old.known.items
   same_known none =
       ap (λ (s : State). s.known) accepts.state.rest
-      ∙ none_go (is_idle (state_of old).groups (moment (state_of old) now)) old.known.items (ap (λ (f : Forgotten). f.alerts) told ∙ none)
+      ∙ none_go (is_idle (state_of old).groups (time (state_of old) now)) old.known.items (ap (λ (f : Forgotten). f.alerts) returned ∙ none)

@@ -60,5 +60,5 @@ module _ (config : Config) (sets : List (List Label)) (t : ℕ) where
 -- what was said of the first alert, where it is known which one it is
 pub tested_first : (s sets : List (List Label)) (u t : ℕ) (left : List AlertData) (a : AlertData) (others : List AlertData) (b : Bool) (next : List AlertData) → s ≡ sets → u ≡ t → left ≡ a ∷ others → TestsFirst s u left b next
     → (b ≡ not (is_idle_but_for sets t a)) × (next ≡ others)
-tested_first s sets u t left a others b next e f h told =
-    subst (λ known. TestsFirst sets t known b next) h (subst (λ v. TestsFirst sets v left b next) f (subst (λ ss. TestsFirst ss u left b next) e told))
+tested_first s sets u t left a others b next e f h returned =
+    subst (λ known. TestsFirst sets t known b next) h (subst (λ v. TestsFirst sets v left b next) f (subst (λ ss. TestsFirst ss u left b next) e returned))

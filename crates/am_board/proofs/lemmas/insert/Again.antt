@@ -12,7 +12,7 @@ use Rattle.am_alerts.specs.Labels.{same_label_set}
 use Rattle.am_alerts.specs.declared.labels.Label.{Label}
 use Rattle.am_model.proofs.lists.Alone.{filter-none}
 use Rattle.am_model.proofs.lists.Distinct.{all_from, all_to, all-map, all-weaker}
-use Rattle.am_model.proofs.lists.Places.{position-map}
+use Rattle.am_model.proofs.lists.Indexes.{position-map}
 use Rattle.am_model.specs.Insert.{name_in, names_for, put_into_group, wait_of}
 use Rattle.am_model.specs.State.{MemberState, GroupState, has_group}
 use Rattle.am_model.specs.declared.config.Config.{Config}
@@ -20,13 +20,13 @@ use Rattle.am_model.specs.declared.group.GroupName.{GroupName}
 use Rattle.am_board.specs.Again.{HasAt, IsSpot, IsPutInEach, PutsInEach}
 use Rattle.am_board.specs.Group.{names_of, label_sets, AreRouted, Changes, Gets}
 use Rattle.am_board.specs.GroupList.{GroupList}
-use Rattle.am_board.specs.Inserting.{place_in}
-use Rattle.am_board.specs.Members.{labels_of, place_of}
+use Rattle.am_board.specs.Inserting.{index_in}
+use Rattle.am_board.specs.Members.{labels_of, index_of}
 use Rattle.am_board.specs.Refinement.{group_state}
 use Rattle.am_board.specs.declared.again.Spot.{Spot}
 use Rattle.am_board.specs.declared.group.Group.{Group}
 use Rattle.am_board.specs.declared.group.Member.{Member}
-use Rattle.am_board.proofs.lemmas.insert.Found.{found_within, same_places}
+use Rattle.am_board.proofs.lemmas.insert.Found.{found_within, same_indexes}
 use Rattle.am_board.proofs.lemmas.insert.GroupRoom.{named_at}
 use Rattle.am_board.proofs.lemmas.insert.Inserting.{missing_is}
 use Rattle.am_board.proofs.lemmas.insert.Placing.{put_group_at}
@@ -39,7 +39,7 @@ not_false true e = refl
 not_false false e = absurd (false≢true (sym e))
 
 -- a group that is found is there
-pub there_found : (gs : List Group) (name : GroupName) (i : ℕ) → place_in name gs ≡ Some i → has_group (map group_state gs) name ≡ true
+pub there_found : (gs : List Group) (name : GroupName) (i : ℕ) → index_in name gs ≡ Some i → has_group (map group_state gs) name ≡ true
 there_found gs name i at = not_false (has_group (map group_state gs) name) (sym (missing_is gs name) ∙ ap (λ o. is_none o) at)
 
 -- the groups of an alert are of routes that are there
@@ -61,10 +61,10 @@ made_none gs names there =
 pub is_put : (config : Config) (t : ℕ) (m : MemberState) (names : List GroupName) (old new : GroupList) (b : Bool) → b ≡ true → PutsInEach config t m names (Ok b) old new → IsPutInEach config t m names old new
 is_put config t m names old new b e h = subst (λ x. PutsInEach config t m names (Ok x) old new) e h
 
--- ---- an alert stands where it stood, as the label sets tell
+-- ---- an alert is where it stood, as the label sets say
 
-place_told : (labels : List Label) (ms : List Member) → place_of labels ms ≡ position (same_label_set labels) (map labels_of ms)
-place_told labels ms = sym (position-map labels_of (same_label_set labels) ms)
+index_mapped : (labels : List Label) (ms : List Member) → index_of labels ms ≡ position (same_label_set labels) (map labels_of ms)
+index_mapped labels ms = sym (position-map labels_of (same_label_set labels) ms)
 
 module _ (old new : List Group) (same : map label_sets new ≡ map label_sets old) (i : ℕ) (within : i < length old) where
   sets_at : (d : Group) → label_sets (get_or new i d) ≡ label_sets (get_or old i d)
@@ -74,14 +74,14 @@ module _ (old new : List Group) (same : map label_sets new ≡ map label_sets ol
       ∙ ap (λ (sets : List (List (List Label))). get_or sets i (label_sets d)) same
       ∙ get_or-map label_sets old i d (label_sets d) within
 
-  place_still : (labels : List Label) (d : Group) → place_of labels (get_or new i d).members.items ≡ place_of labels (get_or old i d).members.items
-  place_still labels d =
-      place_told labels (get_or new i d).members.items
+  index_still : (labels : List Label) (d : Group) → index_of labels (get_or new i d).members.items ≡ index_of labels (get_or old i d).members.items
+  index_still labels d =
+      index_mapped labels (get_or new i d).members.items
       ∙ ap (position (same_label_set labels)) (sets_at d)
-      ∙ sym (place_told labels (get_or old i d).members.items)
+      ∙ sym (index_mapped labels (get_or old i d).members.items)
 
 pub has_still : (labels : List Label) (spot : Spot) (old new : List Group) → map label_sets new ≡ map label_sets old → spot.group < length old → HasAt labels spot old → HasAt labels spot new
-has_still labels spot old new same within has d = place_still old new same spot.group within labels d ∙ has d
+has_still labels spot old new same within has d = index_still old new same spot.group within labels d ∙ has d
 
 -- ---- one group more
 
@@ -89,7 +89,7 @@ module _ (config : Config) (t : ℕ) (m : MemberState) (old mid new : GroupList)
   pub put_one_more : IsPutInEach config t m names old mid → IsSpot old.items name labels spot → Changes (Gets m wait t) spot.group mid new → map label_sets new.items ≡ map label_sets mid.items
       → wait ≡ wait_of config name → (wanted : List GroupName) → wanted ≡ names ++ name ∷ [] → IsPutInEach config t m wanted old new
   put_one_more put found group sets waits wanted all =
-      let at : place_in name mid.items ≡ Some spot.group = same_places name old.items mid.items put.names ∙ found.group in
+      let at : index_in name mid.items ≡ Some spot.group = same_indexes name old.items mid.items put.names ∙ found.group in
       let within : spot.group < length mid.items = found_within (Some spot.group) name mid.items (sym at) in
       let of_name : group.from.name ≡ name = ap (λ (g : Group). g.name) group.was ∙ named_at name mid.items spot.group group.from at in
       let Is : GroupName → Type 0 = λ n. has_group (map group_state old.items) n ≡ true in

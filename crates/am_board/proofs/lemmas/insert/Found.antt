@@ -1,4 +1,4 @@
--- The places that were found for placements stay theirs, whatever room is made and whatever group is added.
+-- The indexes that were found for placements stay theirs, whatever room is made and whatever group is added.
 use Rattle.std.proofs.Common.{◌≡◌, ◌∙◌, ℕ, ◌<◌, ◌&&◌, false, Option, Some, None, List, [], ◌∷◌, map, length, refl, sym, ap, subst, inl, inr, arith}
 use Rattle.std.specs.Prelude.{IfSome, ◌==◌}
 use Rattle.std.specs.List.{AllByRecursion, IsDistinct, position}
@@ -13,37 +13,37 @@ use Rattle.am_alerts.specs.declared.labels.Label.{Label}
 use Rattle.am_board.specs.declared.group.Group.{Group}
 use Rattle.am_board.specs.declared.insert.Placement.{Placement}
 use Rattle.am_board.specs.Group.{names_of, AddsAtMost, HasRoom}
-use Rattle.am_board.specs.Inserting.{place_in, IsFound, AreFound, AreApart, HaveRoom, target_of}
+use Rattle.am_board.specs.Inserting.{index_in, IsFound, AreFound, AreApart, HaveRoom, target_of}
 use Rattle.am_board.specs.Refinement.{group_state}
 use Rattle.am_model.specs.declared.config.Config.{Config}
 use Rattle.am_model.specs.declared.group.GroupName.{GroupName}
 use Rattle.am_model.specs.Insert.{name_in, names_for, same_group}
 use Rattle.am_model.specs.State.{GroupState, same_name}
-use Rattle.am_model.proofs.lists.Distinct.{all_from, all_to, all-both, IsDistinct-told, IsDistinct-unmap}
-use Rattle.am_model.proofs.lists.Places.{position-map, position-last}
+use Rattle.am_model.proofs.lists.Distinct.{all_from, all_to, all-both, IsDistinct-mapped, IsDistinct-unmap}
+use Rattle.am_model.proofs.lists.Indexes.{position-map, position-last}
 
--- a place is told by the names alone
-by_names : (name : GroupName) (gs : List Group) → place_in name gs ≡ position (same_name name) (names_of gs)
+-- an index is reported by the names alone
+by_names : (name : GroupName) (gs : List Group) → index_in name gs ≡ position (same_name name) (names_of gs)
 by_names name gs = sym (position-map (λ (g : Group). g.name) (same_name name) gs)
 
-pub same_places : (name : GroupName) (old new : List Group) → names_of new ≡ names_of old → place_in name new ≡ place_in name old
-same_places name old new e = by_names name new ∙ (ap (position (same_name name)) e ∙ sym (by_names name old))
+pub same_indexes : (name : GroupName) (old new : List Group) → names_of new ≡ names_of old → index_in name new ≡ index_in name old
+same_indexes name old new e = by_names name new ∙ (ap (position (same_name name)) e ∙ sym (by_names name old))
 
 pub still_found : (ps : List Placement) (old new : List Group) → names_of new ≡ names_of old → AreFound old ps → AreFound new ps
-still_found ps old new e found i d within = found i d within ∙ sym (same_places _ old new e)
+still_found ps old new e found i d within = found i d within ∙ sym (same_indexes _ old new e)
 
--- a place that was found is one of the list
-pub found_within : (place : Option ℕ) (name : GroupName) (gs : List Group) → place ≡ place_in name gs → IfSome place (λ i. i < length gs)
+-- an index that was found is one of the list
+pub found_within : (index : Option ℕ) (name : GroupName) (gs : List Group) → index ≡ index_in name gs → IfSome index (λ i. i < length gs)
 found_within None name [] e = tt
 found_within None name (g ∷ gs) e = tt
 found_within (Some i) name [] e = absurd (cc)
 found_within (Some i) name (g ∷ gs) e = (position-Some (λ (h : Group). same_name name h.name) (g ∷ gs) i g (sym e)).0
 
--- a group of another route that is added moves no place
-pub found_more : (x : GroupName) (old new : List Group) → AddsAtMost (names_of old) x (names_of new) → (name : GroupName) → (name.route == x.route) ≡ false → place_in name new ≡ place_in name old
+-- a group of another route that is added moves no index
+pub found_more : (x : GroupName) (old new : List Group) → AddsAtMost (names_of old) x (names_of new) → (name : GroupName) → (name.route == x.route) ≡ false → index_in name new ≡ index_in name old
 found_more x old new added name other =
     elim added [
-      | inl e ↦ same_places name old new e
+      | inl e ↦ same_indexes name old new e
       | inr e ↦
           let apart : same_name name x ≡ false = ap (λ b. b && same_label_set name.labels x.labels) other in
           by_names name new ∙ (ap (position (same_name name)) e ∙ (position-last (same_name name) x apart (names_of old) ∙ sym (by_names name old)))
@@ -86,8 +86,8 @@ are_apart config labels ps names =
 
 -- the groups of a state in which no two have one name
 pub names_apart : (gs : List Group) → IsDistinct same_group (map group_state gs) → IsDistinct same_name (names_of gs)
-names_apart gs h = subst (IsDistinct same_name) (told gs) (IsDistinct-told same_group same_name (λ (g : GroupState). g.name) (λ x y. refl) (map group_state gs) h)
+names_apart gs h = subst (IsDistinct same_name) (returned gs) (IsDistinct-mapped same_group same_name (λ (g : GroupState). g.name) (λ x y. refl) (map group_state gs) h)
   where
-    told : (gs : List Group) → map (λ (g : GroupState). g.name) (map group_state gs) ≡ names_of gs
-    told [] = refl
-    told (g ∷ gs) = ap (λ ns. g.name ∷ ns) (told gs)
+    returned : (gs : List Group) → map (λ (g : GroupState). g.name) (map group_state gs) ≡ names_of gs
+    returned [] = refl
+    returned (g ∷ gs) = ap (λ ns. g.name ∷ ns) (returned gs)

@@ -13,7 +13,7 @@ use Rattle.am_board.specs.declared.group.Group.{Group}
 use Rattle.am_model.specs.declared.group.GroupName.{GroupName}
 use Rattle.am_model.proofs.lists.Alone.{IsAlone, alone-distinct, find-no_position, none-find}
 use Rattle.am_board.proofs.lemmas.invariant.Keyed.{value_at, values-set}
-use Rattle.am_model.proofs.lists.Places.{position-map}
+use Rattle.am_model.proofs.lists.Indexes.{position-map}
 use Rattle.am_model.proofs.states.Alike.{same_name_equiv, same_name-is}
 
 -- the groups of these entries
@@ -21,7 +21,7 @@ abbrev pub listed : List (GroupName × Group) → ℕ → GroupList
 listed es room = record { items = values_of es; room = room }
 
 module _ (es : List (GroupName × Group)) (room : ℕ) (k : GroupList) (seen : listed es room ≡ k) (i : ℕ) (from : Group) (at : slice_get (values_of es) i ≡ Some from) where
-  -- the group at a place is one of the list
+  -- the group at an index is one of the list
   pub lent_at : from ≡ get_or k.items i from
   lent_at = (value_at (values_of es) i from at).0 ∙ ap (λ (g : GroupList). get_or g.items i from) seen
 
@@ -31,7 +31,7 @@ module _ (es : List (GroupName × Group)) (room : ℕ) (k : GroupList) (seen : l
   pub lent_as : (d : Group) → from ≡ get_or k.items i d
   lent_as d = lent_at ∙ get_or_default k.items i from d within_at
 
-  -- what is written there stands there
+  -- what is written there is there
   pub written_at : (to d : Group) → get_or (values_of (set_value_at es i to)) i d ≡ to
   written_at to d = ap (λ gs. get_or gs i d) (values-set es i to) ∙ get_or-set_same (values_of es) i to d (value_at (values_of es) i from at).1
 
@@ -83,8 +83,8 @@ module _ (name : GroupName) (more : ℕ) where
   -- the only group of the name has the room
   pub room_reserved : (old new : List Group) (i : ℕ) → names_of new ≡ names_of old → IsDistinct same_name (names_of old) → position (λ g. same_name name g.name) old ≡ Some i → ((d : Group) → Fits more (get_or new i d)) → HasRoom more name new
   room_reserved old new i named distinct at fits =
-      let place = position-map (λ (g : Group). g.name) (same_name name) old ∙ at in
-      let h = position-Some (same_name name) (names_of old) i name place in
+      let index = position-map (λ (g : Group). g.name) (same_name name) old ∙ at in
+      let h = position-Some (same_name name) (names_of old) i name index in
       let alone : IsAlone (same_name name) (names_of old) i =
       alone-distinct same_name same_name_equiv (same_name name) (names_of old) i name h.0 distinct (λ y. same_name_equiv.congr name (get_or (names_of old) i name) y h.1) in
       room_alone new i (subst (λ ns. IsAlone (same_name name) ns i) (sym named) alone) fits

@@ -44,14 +44,14 @@ again_leaves config s new t a clock inserts known groups silences log flushes nu
     }
 
 -- with its record it is an accepted insert
-pub applies_again : (config : Config) (old mid : kept.State) (pass now : ℕ) (alert : AlertData) (told : Inserted) (pushed : Vec Record Global) → StateInvariant config old → IsPutAgain config now alert told old mid
-    → pushed.items ≡ mid.history.items ++ entry pass (call.Insert now alert) (replies.Inserted told) ∷ [] → vec_len pushed ≡ vec_len mid.history + 1 → vec_capacity pushed ≡ vec_capacity mid.history
-    → (id : ℕ) → AppliesCall config id (entry pass (call.Insert now alert) (replies.Inserted told)) old (record mid { history = pushed })
-applies_again config old mid pass now alert told pushed good put items counted room id =
-    let r : Record = entry pass (call.Insert now alert) (replies.Inserted told) in
+pub applies_again : (config : Config) (old mid : kept.State) (pass now : ℕ) (alert : AlertData) (returned : Inserted) (pushed : Vec Record Global) → StateInvariant config old → IsPutAgain config now alert returned old mid
+    → pushed.items ≡ mid.history.items ++ entry pass (call.Insert now alert) (replies.Inserted returned) ∷ [] → vec_len pushed ≡ vec_len mid.history + 1 → vec_capacity pushed ≡ vec_capacity mid.history
+    → (id : ℕ) → AppliesCall config id (entry pass (call.Insert now alert) (replies.Inserted returned)) old (record mid { history = pushed })
+applies_again config old mid pass now alert returned pushed good put items counted room id =
+    let r : Record = entry pass (call.Insert now alert) (replies.Inserted returned) in
     let logged : All (IsPrepared config mid.log) old.flushes.items = subst (λ log. All (IsPrepared config log) old.flushes.items) (sym put.log) good.prepared in
     record {
-      told = ap (λ (t : Inserted). Some (replies.Inserted t)) put.told;
+      returned = ap (λ (t : Inserted). Some (replies.Inserted t)) put.returned;
       state = agrees_same _ _ put.state;
       routed = subst (AreRouted config.routes) (sym put.names) good.routed;
       prepared = subst (λ (fs : Vec OpenFlush Global). All (IsPrepared config mid.log) fs.items) (sym put.flushes) logged;
@@ -81,7 +81,7 @@ module _ (config : Config) (old mid : kept.State) (held : IsReservedState old mi
 
   pub applies_reserved : (id : ℕ) (r : Record) (new : kept.State) → AppliesCall config id r mid new → AppliesCall config id r old new
   applies_reserved id r new applied = record {
-    told = subst (λ s. reply config id s r.call ≡ Some r.reply) held.state applied.told;
+    returned = subst (λ s. reply config id s r.call ≡ Some r.reply) held.state applied.returned;
     state = subst (λ s. EqualUpToRowOrder (state_of new) (after config s r)) held.state applied.state;
     routed = applied.routed;
     prepared = applied.prepared;
@@ -109,12 +109,12 @@ module _ (config : Config) (old mid : kept.State) (held : IsReservedState old mi
 abbrev pub Puts : Config → kept.State → kept.State → ℕ → ℕ → Result Inserted Fault → AlertData → Type 0
 Puts config old new pass now r alert =
     MatchResult r
-    (λ told. (insert_cause config (vec_len old.history) (state_of old) alert ≡ None)
-    × ((id : ℕ) → AppliesCall config id (entry pass (call.Insert now alert) (replies.Inserted told)) old new))
+    (λ returned. (insert_cause config (vec_len old.history) (state_of old) alert ≡ None)
+    × ((id : ℕ) → AppliesCall config id (entry pass (call.Insert now alert) (replies.Inserted returned)) old new))
     (λ fault. IsAnswer (insert_cause config (vec_len old.history) (state_of old) alert) fault × LeavesUnchanged config old new)
 
 pub puts_reserved : (config : Config) (old mid new : kept.State) (pass now : ℕ) (alert : AlertData) (r : Result Inserted Fault) → IsReservedState old mid → Puts config mid new pass now r alert → Puts config old new pass now r alert
-puts_reserved config old mid new pass now alert (Ok told) held h =
-    (sym (cause_reserved config old mid held alert) ∙ h.0, λ id. applies_reserved config old mid held id (entry pass (call.Insert now alert) (replies.Inserted told)) new (h.1 id))
+puts_reserved config old mid new pass now alert (Ok returned) held h =
+    (sym (cause_reserved config old mid held alert) ∙ h.0, λ id. applies_reserved config old mid held id (entry pass (call.Insert now alert) (replies.Inserted returned)) new (h.1 id))
 puts_reserved config old mid new pass now alert (Err fault) held h =
     (subst (λ cause. IsAnswer cause fault) (cause_reserved config old mid held alert) h.0, leaves_reserved config old mid held new h.1)

@@ -1,4 +1,4 @@
--- What a board tells of a call that its state accepted or refused.
+-- What a board says of a call that its state accepted or refused.
 use Rattle.std.proofs.Common.{All, ◌≡◌, ℕ, ◌+◌, ◌≤◌, true, false, not, Option, Some, None, Result, Ok, Err, List, ◌++◌, length, vec_len, refl, sym, ap, ◌∙◌, subst, eq-eqb, arith, Vec, Global, if◌then◌else◌}
 use Rattle.std.specs.Prelude.{◌==◌, IfOk, OnOk, OnErr, MatchResult, slice_get}
 use Rattle.std.proofs.lemmas.List.{length-map}
@@ -15,15 +15,15 @@ use Rattle.am_model.specs.declared.record.Record.{Record}
 use Rattle.am_model.specs.declared.record.Reply.{Reply}
 use Rattle.am_board.specs.declared.state.State as kept
 use Rattle.am_board.specs.Board.{IsSound, whole}
-use Rattle.am_model.specs.Causes.{is_full, asked_cause, notice_cause, flush_cause, note_cause}
+use Rattle.am_model.specs.Causes.{is_full, notified_cause, notice_cause, flush_cause, note_cause}
 use Rattle.am_model.specs.Notice.{NoticeData}
 use Rattle.am_model.specs.Ticket.{TicketData, outcome_of}
 use Rattle.am_board.specs.History.{BoardData, KeepsLimits, IsReplyAt, records_at, with_record, state_at}
 use Rattle.am_model.specs.Records.{IsNoteOf, entry}
 use Rattle.am_board.specs.Refinement.{state_of}
-use Rattle.am_model.specs.Note.{is_ready, asked_by, may_note, with_note, after_note, after_note_of}
+use Rattle.am_model.specs.Note.{is_ready, notified_by, may_note, with_note, after_note, after_note_of}
 use Rattle.am_model.specs.Replay.{after, after_call, replay}
-use Rattle.am_model.specs.State.{AskedState, FlushState, State, moment, at_moment, flush_numbered}
+use Rattle.am_model.specs.State.{NotifiedState, FlushState, State, time, at_time, flush_numbered}
 use Rattle.am_retry.specs.declared.outcome.Outcome.{Outcome}
 use Rattle.am_board.specs.Step.{AppliesCall, LeavesUnchanged, IsAnswer, IsCaused, IsLoadAnswer, IsLoadCaused, IsNoteAnswer, IsNoteCaused}
 use Rattle.am_model.proofs.legal.FewGroups.{IsInsert}
@@ -36,14 +36,14 @@ use Rattle.am_model.specs.declared.views.GroupView.{GroupView}
 use Rattle.am_model.proofs.lists.Words.{in_order-moves}
 use Rattle.std.proofs.lemmas.List.Sorted.{length_permutation}
 use Rattle.std.proofs.lemmas.List.Sorted.{All-permutation, IsPermutation-sym}
-use Rattle.am_alerts.specs.declared.limits.TheConstants.{MAX_MOMENT}
+use Rattle.am_alerts.specs.declared.limits.TheConstants.{MAX_TIME}
 use Rattle.am_model.specs.declared.views.RowView.{RowView}
 use Rattle.am_model.specs.look_back.Preview.{preview_at, preview}
 use Rattle.am_board.specs.LogRows.{log_rows}
-use Rattle.am_model.proofs.legal.RowMoments.{rows-timely}
+use Rattle.am_model.proofs.legal.RowTimes.{rows-timely}
 use Rattle.am_model.proofs.looking_back.reasons.Previews.{preview-found}
 use Rattle.am_model.proofs.lists.Distinct.{all_from}
-use Rattle.am_board.proofs.lemmas.invariant.Sound.{IsFew, all_counted, few_after, kept_counted, opened_now, consistent_now, told_at, sound_then, sound_still, whole_more, whole_with}
+use Rattle.am_board.proofs.lemmas.invariant.Sound.{IsFew, all_counted, few_after, kept_counted, opened_now, consistent_now, returned_at, sound_then, sound_still, whole_more, whole_with}
 
 -- a board as it is seen with this history, of which it handed out what it did
 abbrev pub seen_with : Inside → List Record → BoardData
@@ -70,19 +70,19 @@ room_of config records s more full other none apart =
 pub opened_then : (config : Config) (id : ℕ) (r : Record) (old new : kept.State) → AppliesCall config id r old new → vec_len new.flushes ≡ length (after config (state_of old) r).flushes
 opened_then config id r old new accepts = opened_now new ∙ ap (λ (s : State). length s.flushes) accepts.state.rest
 
-module _ (b : Inside) (sound : IsSound b) (now : BoardData) (view_is : seen b b.state ≡ now) (new : kept.State) {T E : Type 0} (pass : ℕ) (call : Call) (told : T → Reply) (P : T → Type 0) (accepts : (x : T) → P x → AppliesCall b.config b.id (entry pass call (told x)) b.state new) (Q : E → Type 0) where
+module _ (b : Inside) (sound : IsSound b) (now : BoardData) (view_is : seen b b.state ≡ now) (new : kept.State) {T E : Type 0} (pass : ℕ) (call : Call) (returned : T → Reply) (P : T → Type 0) (accepts : (x : T) → P x → AppliesCall b.config b.id (entry pass call (returned x)) b.state new) (Q : E → Type 0) where
   -- an accepted call is recorded
-  pub recorded : (r : Result T E) → MatchResult r P (λ fault. Q fault × LeavesUnchanged b.config b.state new) → IfOk r (λ x. seen b new ≡ with_record now (entry pass call (told x)))
+  pub recorded : (r : Result T E) → MatchResult r P (λ fault. Q fault × LeavesUnchanged b.config b.state new) → IfOk r (λ x. seen b new ≡ with_record now (entry pass call (returned x)))
   recorded (Ok x) h =
-      subst (λ (d : BoardData). seen b new ≡ with_record d (entry pass call (told x))) view_is
-      (ap (seen_with b) (whole_more b new (entry pass call (told x)) (accepts x h).history))
+      subst (λ (d : BoardData). seen b new ≡ with_record d (entry pass call (returned x))) view_is
+      (ap (seen_with b) (whole_more b new (entry pass call (returned x)) (accepts x h).history))
   recorded (Err fault) h = tt
 
-  -- it was told what the definitions give
-  pub told_now : (r : Result T E) → MatchResult r P (λ fault. Q fault × LeavesUnchanged b.config b.state new) → IfOk r (λ x. IsReplyAt now call (told x))
-  told_now (Ok x) h =
-      subst (λ (d : BoardData). IsReplyAt d call (told x)) view_is (told_at b sound (entry pass call (told x)) new (accepts x h))
-  told_now (Err fault) h = tt
+  -- it returned what the definitions give
+  pub returned_now : (r : Result T E) → MatchResult r P (λ fault. Q fault × LeavesUnchanged b.config b.state new) → IfOk r (λ x. IsReplyAt now call (returned x))
+  returned_now (Ok x) h =
+      subst (λ (d : BoardData). IsReplyAt d call (returned x)) view_is (returned_at b sound (entry pass call (returned x)) new (accepts x h))
+  returned_now (Err fault) h = tt
 
   -- a refused call changes nothing
   pub refused : (r : Result T E) → MatchResult r P (λ fault. Q fault × LeavesUnchanged b.config b.state new) → OnErr r (seen b new ≡ now)
@@ -93,7 +93,7 @@ module _ (b : Inside) (sound : IsSound b) (now : BoardData) (view_is : seen b b.
   pub sound_again : IsForget call ≡ false → ((x : T) → P x → IsWithin b.config (after_call b.config (state_of b.state) call) new) → (r : Result T E) → MatchResult r P (λ fault. Q fault × LeavesUnchanged b.config b.state new) → IsSound (record b { state = new })
   sound_again keeps within (Ok x) h =
       let limits : IsWithin b.config (after_call b.config (state_of b.state) call) new = within x h in
-      sound_then b sound (entry pass call (told x)) new (accepts x h) keeps limits.0 limits.1 limits.2
+      sound_then b sound (entry pass call (returned x)) new (accepts x h) keeps limits.0 limits.1 limits.2
   sound_again keeps within (Err fault) h = sound_still b sound new h.1
 
 -- why a call was refused, in other words
@@ -101,7 +101,7 @@ pub caused : {T : Type 0} (cause other : Option Fault) → cause ≡ other → (
 caused cause other same P S (Ok x) h = subst (λ c. c ≡ None) same h.0
 caused cause other same P S (Err fault) h = subst (λ c. IsAnswer c fault) same h.0
 
--- the same, where more is told of an accepted call
+-- the same, where more is reported of an accepted call
 pub caused_too : {T : Type 0} (cause other : Option Fault) → cause ≡ other → (P F : T → Type 0) (S : Type 0) (r : Result T Fault) → MatchResult r (λ x. (cause ≡ None) × P x × F x) (λ fault. IsAnswer cause fault × S) → IsCaused other r
 caused_too cause other same P F S (Ok x) h = subst (λ c. c ≡ None) same h.0
 caused_too cause other same P F S (Err fault) h = subst (λ c. IsAnswer c fault) same h.0
@@ -116,7 +116,7 @@ pub note_caused : {T : Type 0} (cause other : Option NoteFault) → cause ≡ ot
 note_caused cause other same P S (Ok x) h = subst (λ c. c ≡ None) same h.0
 note_caused cause other same P S (Err fault) h = subst (λ c. IsNoteAnswer c fault) same h.0
 
--- what more is told
+-- what more is reported
 pub fresh_too : {T E : Type 0} (A P F : T → Type 0) (Q : E → Type 0) (r : Result T E) → MatchResult r (λ x. A x × P x × F x) Q → IfOk r F
 fresh_too A P F Q (Ok x) h = h.2
 fresh_too A P F Q (Err fault) h = tt
@@ -124,9 +124,9 @@ fresh_too A P F Q (Err fault) h = tt
 -- ---- notes
 
 -- a note of an asked integration is accepted only where the history has room
-asked_room : (config : Config) (records : ℕ) (s : State) (outcome : Option Outcome) (o : Option AskedState) → asked_cause config records s outcome o ≡ None → records + length s.flushes + 1 ≤ config.limits.history
-asked_room config records s outcome None e = absurd (cc)
-asked_room config records s outcome (Some a) none =
+notified_room : (config : Config) (records : ℕ) (s : State) (outcome : Option Outcome) (o : Option NotifiedState) → notified_cause config records s outcome o ≡ None → records + length s.flushes + 1 ≤ config.limits.history
+notified_room config records s outcome None e = absurd (cc)
+notified_room config records s outcome (Some a) none =
     elim (is_ready outcome a) as (λ b. (if not b then Some note.NotReady else (if a.noted then Some note.Already else (if is_full config records s 1 then Some note.HistoryFull else None))) ≡ None → records + length s.flushes + 1 ≤ config.limits.history) [
       | false ↦ λ e. absurd (cc)
       | true ↦ λ e.
@@ -138,47 +138,47 @@ asked_room config records s outcome (Some a) none =
 
 notice_room : (config : Config) (records : ℕ) (s : State) (ticket : TicketData) (n : Option NoticeData) (f : FlushState) → notice_cause config records s ticket n f ≡ None → records + length s.flushes + 1 ≤ config.limits.history
 notice_room config records s ticket None f e = absurd (cc)
-notice_room config records s ticket (Some n) f e = asked_room config records s (outcome_of ticket.outcomes n.integration) (asked_by f n.integration) e
+notice_room config records s ticket (Some n) f e = notified_room config records s (outcome_of ticket.outcomes n.integration) (notified_by f n.integration) e
 
-note_room : (config : Config) (records : ℕ) (s : State) (ticket : TicketData) (place : ℕ) (o : Option FlushState) → flush_cause config records s ticket place o ≡ None → records + length s.flushes + 1 ≤ config.limits.history
-note_room config records s ticket place None e = absurd (cc)
-note_room config records s ticket place (Some f) e = notice_room config records s ticket (slice_get ticket.notices place) f e
+note_room : (config : Config) (records : ℕ) (s : State) (ticket : TicketData) (index : ℕ) (o : Option FlushState) → flush_cause config records s ticket index o ≡ None → records + length s.flushes + 1 ≤ config.limits.history
+note_room config records s ticket index None e = absurd (cc)
+note_room config records s ticket index (Some f) e = notice_room config records s ticket (slice_get ticket.notices index) f e
 
 -- a note leaves as many flushes open
 length-noted : (config : Config) (s : State) (t integration : ℕ) (outcome : Option Outcome) (o : Option FlushState) → length (after_note_of config s t integration outcome o).flushes ≡ length s.flushes
 length-noted config s t integration outcome None = refl
 length-noted config s t integration outcome (Some f) =
-    elim (may_note integration outcome f) as (λ b. length (if b then after_note config s t integration f else at_moment s t).flushes ≡ length s.flushes) [
+    elim (may_note integration outcome f) as (λ b. length (if b then after_note config s t integration f else at_time s t).flushes ≡ length s.flushes) [
       | true ↦ length-map s.flushes (λ (g : FlushState). if g.number == f.number then with_note integration g else g)
       | false ↦ refl
     ]
 
-module _ (b : Inside) (sound : IsSound b) (now : BoardData) (view_is : seen b b.state ≡ now) (new : kept.State) (pass at : ℕ) (ticket : TicketData) (place : ℕ) where
-  -- what an accepted note tells
+module _ (b : Inside) (sound : IsSound b) (now : BoardData) (view_is : seen b b.state ≡ now) (new : kept.State) (pass at : ℕ) (ticket : TicketData) (index : ℕ) where
+  -- what an accepted note says
   abbrev IsNoted : Type 0
   IsNoted =
-      (flush_cause b.config (vec_len b.state.history) (state_of b.state) ticket place (flush_numbered (state_of b.state).flushes ticket.number) ≡ None)
-      × ((r : Record) × IsNoteOf pass at ticket place r × ((id : ℕ) → AppliesCall b.config id r b.state new))
+      (flush_cause b.config (vec_len b.state.history) (state_of b.state) ticket index (flush_numbered (state_of b.state).flushes ticket.number) ≡ None)
+      × ((r : Record) × IsNoteOf pass at ticket index r × ((id : ℕ) → AppliesCall b.config id r b.state new))
 
   pub noted_now : {T E : Type 0} (Q : E → Type 0) (result : Result T E) → MatchResult result (λ _. IsNoted) (λ fault. Q fault × LeavesUnchanged b.config b.state new)
-      → OnOk result ((r : Record) × IsNoteOf pass at ticket place r × (seen b new ≡ with_record now r) × IsReplyAt now r.call r.reply)
+      → OnOk result ((r : Record) × IsNoteOf pass at ticket index r × (seen b new ≡ with_record now r) × IsReplyAt now r.call r.reply)
   noted_now Q (Ok x) h =
       let accepts = h.1.2 b.id in (
         h.1.0,
         h.1.1,
         subst (λ (d : BoardData). seen b new ≡ with_record d h.1.0) view_is (ap (seen_with b) (whole_more b new h.1.0 accepts.history)),
-        subst (λ (d : BoardData). IsReplyAt d h.1.0.call h.1.0.reply) view_is (told_at b sound h.1.0 new accepts),
+        subst (λ (d : BoardData). IsReplyAt d h.1.0.call h.1.0.reply) view_is (returned_at b sound h.1.0 new accepts),
       )
   noted_now Q (Err fault) h = tt
 
-  note_within : (r : Record) → IsNoteOf pass at ticket place r → AppliesCall b.config b.id r b.state new
+  note_within : (r : Record) → IsNoteOf pass at ticket index r → AppliesCall b.config b.id r b.state new
       → vec_len b.state.history + length (state_of b.state).flushes + 1 ≤ b.config.limits.history → IsWithin b.config (after b.config (state_of b.state) r) new
   note_within r is accepts room =
       let s : State = state_of b.state in
-      let told : Call = Note at ticket.number is.0.integration (outcome_of ticket.outcomes is.0.integration) in
-      let same : length (after_call b.config s told).flushes ≡ length s.flushes = length-noted b.config s (moment s at) is.0.integration (outcome_of ticket.outcomes is.0.integration) (flush_numbered s.flushes ticket.number) in
+      let noting : Call = Note at ticket.number is.0.integration (outcome_of ticket.outcomes is.0.integration) in
+      let same : length (after_call b.config s noting).flushes ≡ length s.flushes = length-noted b.config s (time s at) is.0.integration (outcome_of ticket.outcomes is.0.integration) (flush_numbered s.flushes ticket.number) in
       let opened : vec_len new.flushes ≡ length (after_call b.config s r.call).flushes = opened_then b.config b.id r b.state new accepts in
-      let called : length (after_call b.config s r.call).flushes ≡ length (after_call b.config s told).flushes = ap (λ (x : Record). length (after_call b.config s x.call).flushes) is.2 in
+      let called : length (after_call b.config s r.call).flushes ≡ length (after_call b.config s noting).flushes = ap (λ (x : Record). length (after_call b.config s x.call).flushes) is.2 in
       let before = opened_now b.state in
       let few : IsFew b.config (after_call b.config s r.call) = few_after b sound r.call (ap (λ (x : Record). IsInsert x.call) is.2) (ap (λ (x : Record). IsSilence x.call) is.2) in
       (few, omega (arith, opened, called, same, before, sound.opened), omega (arith, opened, called, same, room, accepts.records))
@@ -186,21 +186,21 @@ module _ (b : Inside) (sound : IsSound b) (now : BoardData) (view_is : seen b b.
   pub sound_noted : {T E : Type 0} (Q : E → Type 0) (result : Result T E) → MatchResult result (λ _. IsNoted) (λ fault. Q fault × LeavesUnchanged b.config b.state new) → IsSound (record b { state = new })
   sound_noted Q (Ok x) h =
       let accepts = h.1.2 b.id in
-      let room = note_room b.config (vec_len b.state.history) (state_of b.state) ticket place (flush_numbered (state_of b.state).flushes ticket.number) h.0 in
+      let room = note_room b.config (vec_len b.state.history) (state_of b.state) ticket index (flush_numbered (state_of b.state).flushes ticket.number) h.0 in
       let limits : IsWithin b.config (after b.config (state_of b.state) h.1.0) new = note_within h.1.0 h.1.1 accepts room in
       sound_then b sound h.1.0 new accepts (ap (λ (x : Record). IsForget x.call) h.1.1.2) limits.0 limits.1 limits.2
   sound_noted Q (Err fault) h = sound_still b sound new h.1
 
   -- why a note isn't accepted, at the state after the history
-  pub noted_caused : ticket.desk ≡ now.id → flush_cause b.config (vec_len b.state.history) (state_of b.state) ticket place (flush_numbered (state_of b.state).flushes ticket.number) ≡ note_cause now.config now.id (records_at now) (state_at now) ticket place
+  pub noted_caused : ticket.board_id ≡ now.id → flush_cause b.config (vec_len b.state.history) (state_of b.state) ticket index (flush_numbered (state_of b.state).flushes ticket.number) ≡ note_cause now.config now.id (records_at now) (state_at now) ticket index
   noted_caused ours =
       let replayed = replay b.config (whole b) in
-      let there = flush_cause now.config (records_at now) (state_at now) ticket place (flush_numbered (state_at now).flushes ticket.number) in
-      let same : flush_cause b.config (vec_len b.state.history) (state_of b.state) ticket place (flush_numbered (state_of b.state).flushes ticket.number) ≡ there =
-      subst (λ (d : BoardData). flush_cause b.config (vec_len b.state.history) (state_of b.state) ticket place (flush_numbered (state_of b.state).flushes ticket.number) ≡ flush_cause d.config (records_at d) (state_at d) ticket place (flush_numbered (state_at d).flushes ticket.number)) view_is
-      (ap (λ (s : State). flush_cause b.config (vec_len b.state.history) s ticket place (flush_numbered s.flushes ticket.number)) sound.agrees.rest
-      ∙ ap (λ n. flush_cause b.config n replayed ticket place (flush_numbered replayed.flushes ticket.number)) (kept_counted b sound)) in
-      same ∙ sym (ap (λ t. if t then there else Some note.Foreign) (eq-eqb ticket.desk now.id ours))
+      let there = flush_cause now.config (records_at now) (state_at now) ticket index (flush_numbered (state_at now).flushes ticket.number) in
+      let same : flush_cause b.config (vec_len b.state.history) (state_of b.state) ticket index (flush_numbered (state_of b.state).flushes ticket.number) ≡ there =
+      subst (λ (d : BoardData). flush_cause b.config (vec_len b.state.history) (state_of b.state) ticket index (flush_numbered (state_of b.state).flushes ticket.number) ≡ flush_cause d.config (records_at d) (state_at d) ticket index (flush_numbered (state_at d).flushes ticket.number)) view_is
+      (ap (λ (s : State). flush_cause b.config (vec_len b.state.history) s ticket index (flush_numbered s.flushes ticket.number)) sound.agrees.rest
+      ∙ ap (λ n. flush_cause b.config n replayed ticket index (flush_numbered replayed.flushes ticket.number)) (kept_counted b sound)) in
+      same ∙ sym (ap (λ t. if t then there else Some note.Foreign) (eq-eqb ticket.board_id now.id ours))
 
 -- ---- what a board shows
 
@@ -210,19 +210,19 @@ module _ (b : Inside) (sound : IsSound b) (now : BoardData) (view_is : seen b b.
       subst (λ (d : BoardData). row_views (state_of b.state) ≡ row_views (state_at d)) view_is
       (row_views-agrees (state_of b.state) (replay b.config (whole b)) sound.agrees (consistent_now b sound).rows)
 
-  pub preview_now : (at : ℕ) → preview_at b.config (state_of b.state) (moment (state_of b.state) at) ≡ preview now.config now.history at
+  pub preview_now : (at : ℕ) → preview_at b.config (state_of b.state) (time (state_of b.state) at) ≡ preview now.config now.history at
   preview_now at =
       let replayed = replay b.config (whole b) in
-      subst (λ (d : BoardData). preview_at b.config (state_of b.state) (moment (state_of b.state) at) ≡ preview d.config d.history at) view_is
-      (preview_at-agrees (state_of b.state) replayed sound.agrees (consistent_now b sound).rows b.config (moment (state_of b.state) at)
-      ∙ (ap (λ (s : State). preview_at b.config replayed (moment s at)) sound.agrees.rest ∙ preview-found b.config b.id (whole b) at sound.legal))
+      subst (λ (d : BoardData). preview_at b.config (state_of b.state) (time (state_of b.state) at) ≡ preview d.config d.history at) view_is
+      (preview_at-agrees (state_of b.state) replayed sound.agrees (consistent_now b sound).rows b.config (time (state_of b.state) at)
+      ∙ (ap (λ (s : State). preview_at b.config replayed (time s at)) sound.agrees.rest ∙ preview-found b.config b.id (whole b) at sound.legal))
 
-  -- no row of the log is of a moment after the greatest
-  pub rows_timely : All (λ row. row.moment ≤ MAX_MOMENT) (log_rows b.state.log)
+  -- no row of the log is of a time after the greatest
+  pub rows_timely : All (λ row. row.time ≤ MAX_TIME) (log_rows b.state.log)
   rows_timely =
       let rows = (replay b.config (whole b)).rows in
-      All-permutation (λ (row : RowView). row.moment ≤ MAX_MOMENT) rows (state_of b.state).rows (IsPermutation-sym (state_of b.state).rows rows sound.agrees.rows)
-      (all_from (λ (row : RowView). row.moment ≤ MAX_MOMENT) rows (rows-timely b.config (whole b)))
+      All-permutation (λ (row : RowView). row.time ≤ MAX_TIME) rows (state_of b.state).rows (IsPermutation-sym (state_of b.state).rows rows sound.agrees.rows)
+      (all_from (λ (row : RowView). row.time ≤ MAX_TIME) rows (rows-timely b.config (whole b)))
 
   pub groups_at : group_views (state_of b.state) ≡ group_views (state_at now)
   groups_at =

@@ -2,7 +2,7 @@
 use Rattle.std.proofs.Common.{◌≡◌, ◌≢◌, ◌⊎◌, Option, Some, None, sym, ap, ⊎_elim}
 use Rattle.am_board.specs.Step.{IsAnswer, IsNoteAnswer}
 use Rattle.am_model.specs.declared.fault.Fault.{Fault}
-use Rattle.am_model.specs.declared.fault.Fault.TheVariants.{NoMemory, TooManyNames, TooManyGroups, TooManySilences, TooManyOpen, HistoryFull}
+use Rattle.am_model.specs.declared.fault.Fault.TheVariants.{NoMemory, TooManyAlerts, TooManyGroups, TooManySilences, TooManyOpen, HistoryFull}
 use Rattle.am_model.specs.declared.fault.NoteFault.{NoteFault}
 use Rattle.am_model.specs.declared.fault.NoteFault.TheVariants as note
 
@@ -14,7 +14,7 @@ one_of_two cause f answer ne = ⊎_elim (λ (e : f ≡ cause). ap (λ (x : Fault
 pub answer_is_cause : (cause : Option Fault) (f : Fault) → IsAnswer cause f → f ≢ NoMemory → cause ≡ Some f
 answer_is_cause None f answer ne = absurd (ne answer)
 answer_is_cause (Some NoMemory) f answer ne = absurd (ne answer)
-answer_is_cause (Some TooManyNames) f answer ne = ap (λ (x : Fault). Some x) (sym answer)
+answer_is_cause (Some TooManyAlerts) f answer ne = ap (λ (x : Fault). Some x) (sym answer)
 answer_is_cause (Some TooManyGroups) f answer ne = one_of_two TooManyGroups f answer ne
 answer_is_cause (Some TooManySilences) f answer ne = ap (λ (x : Fault). Some x) (sym answer)
 answer_is_cause (Some TooManyOpen) f answer ne = one_of_two TooManyOpen f answer ne

@@ -1,4 +1,4 @@
--- What a board tells of a finish.
+-- What a board says of a finish.
 use Rattle.std.proofs.Common.{◌≡◌, ℕ, ◌+◌, Bool, eqb-true, Option, Some, None, List, [], ◌∷◌, get_or, vec_len, refl, sym, ap, ◌∙◌, subst, arith}
 use Rattle.std.specs.Prelude.{◌==◌, Ok, position}
 use Rattle.std.specs.Option.{option_map}
@@ -20,15 +20,15 @@ use Rattle.am_board.specs.Refinement.{flush_state}
 use Rattle.am_model.specs.State.{FlushState, State, flush_numbered}
 use Rattle.am_board.specs.Step.{StateInvariant, AppliesCall}
 use Rattle.am_model.proofs.lists.Alone.{find-mapped, find-no_position}
-use Rattle.am_board.proofs.lemmas.invariant.Calls.{recorded, seen, told_now}
+use Rattle.am_board.proofs.lemmas.invariant.Calls.{recorded, seen, returned_now}
 use Rattle.am_board.proofs.lemmas.invariant.Sound.{few_after, good, sound_then}
 
--- an element of a list in which a place is found
+-- an element of a list in which an index is found
 first_of : {X : Type 0} (p : X → Bool) (xs : List X) (i : ℕ) → position p xs ≡ Some i → X
 first_of p [] i e = absurd (cc)
 first_of p (x ∷ xs) i e = x
 
--- what is answered isn't told of nothing
+-- what is answered isn't reported of nothing
 pub not_none : {X Y : Type 0} (f : X → Y) (o : Option X) (y : Y) → option_map f o ≡ Some y → o ≡ None → ⊥
 not_none f None y t e = absurd (cc)
 not_none f (Some x) y t e = absurd (cc)
@@ -61,9 +61,9 @@ module _ (b : Inside) (sound : IsSound b) (now : BoardData) (view_is : seen b b.
     finish_recorded =
         recorded b sound now view_is new pass call replies.Finished (λ y. AppliesCall b.config b.id (entry pass call (replies.Finished y)) b.state new) (λ y h. h) (λ (e : ℕ). Unit {0}) (Ok x) accepted
 
-    pub finish_told : IsReplyAt now call (replies.Finished x)
-    finish_told =
-        told_now b sound now view_is new pass call replies.Finished (λ y. AppliesCall b.config b.id (entry pass call (replies.Finished y)) b.state new) (λ y h. h) (λ (e : ℕ). Unit {0}) (Ok x) accepted
+    pub finish_returned : IsReplyAt now call (replies.Finished x)
+    finish_returned =
+        returned_now b sound now view_is new pass call replies.Finished (λ y. AppliesCall b.config b.id (entry pass call (replies.Finished y)) b.state new) (λ y h. h) (λ (e : ℕ). Unit {0}) (Ok x) accepted
 
     pub finish_sound : vec_len new.flushes + 1 ≡ vec_len b.state.flushes → IsSound (record b { state = new })
     finish_sound closed =

@@ -77,8 +77,8 @@ had_or false had h = h
 last_is : (keys : List DueKey) (k : DueKey) → slice_get (keys ++ k ∷ []) (length (keys ++ k ∷ []) - 1) ≡ Some k
 last_is keys k =
     let count = length-append keys (k ∷ []) in
-    let place : length (keys ++ k ∷ []) - 1 ≡ length keys = omega (arith, count) in
-    ap (slice_get (keys ++ k ∷ [])) place
+    let index : length (keys ++ k ∷ []) - 1 ≡ length keys = omega (arith, count) in
+    ap (slice_get (keys ++ k ∷ [])) index
     ∙ slice_get-get_or (keys ++ k ∷ []) (length keys) k (omega (arith, count))
     ∙ ap (λ x. Some x) (get_or-append_seam keys k [] k)
 
@@ -105,7 +105,7 @@ popped_keeps (Some k) old new key other at removal same apart =
 
 -- ---- the keys of the first groups
 
--- the set has the keys of the groups below a place
+-- the set has the keys of the groups below an index
 abbrev pub HasBelow : DueSet → List Group → ℕ → Type 0
 HasBelow new groups n = (k : ℕ) (d : Group) → k < n → HasKey new (key_of (get_or groups k d))
 
@@ -124,32 +124,32 @@ has_next old new groups n g within is below has keeps k d less =
 
 -- ---- each group has its name alone
 
--- where none passes, the one at a place doesn't
+-- where none passes, the one at an index doesn't
 pub fails_at : {X : Type 0} (test : X → Bool) (xs : List X) (k : ℕ) (d : X) → k < length xs → AllByRecursion (λ y. test y ≡ false) xs → test (get_or xs k d) ≡ false
 fails_at test [] k d less all = absurd (omega (arith, less))
 fails_at test (x ∷ xs) zero d less all = all.0
 fails_at test (x ∷ xs) (suc k) d less all = fails_at test xs k d (omega (arith, less)) all.1
 
--- an element that alone passes is at its place
-alone_place : {X : Type 0} (test : X → Bool) (xs : List X) (i j : ℕ) (d : X) → IsAlone test xs i → j < length xs → test (get_or xs j d) ≡ true → j ≡ i
-alone_place test [] i j d alone within h = absurd alone
-alone_place test (x ∷ xs) zero zero d alone within h = refl
-alone_place test (x ∷ xs) zero (suc j) d alone within h = absurd (true≢false (sym h ∙ fails_at test xs j d (omega (arith, within)) alone.1))
-alone_place test (x ∷ xs) (suc i) zero d alone within h = absurd (true≢false (sym h ∙ alone.0))
-alone_place test (x ∷ xs) (suc i) (suc j) d alone within h = ap suc (alone_place test xs i j d alone.1 (omega (arith, within)) h)
+-- an element that alone passes is at its index
+alone_index : {X : Type 0} (test : X → Bool) (xs : List X) (i j : ℕ) (d : X) → IsAlone test xs i → j < length xs → test (get_or xs j d) ≡ true → j ≡ i
+alone_index test [] i j d alone within h = absurd alone
+alone_index test (x ∷ xs) zero zero d alone within h = refl
+alone_index test (x ∷ xs) zero (suc j) d alone within h = absurd (true≢false (sym h ∙ fails_at test xs j d (omega (arith, within)) alone.1))
+alone_index test (x ∷ xs) (suc i) zero d alone within h = absurd (true≢false (sym h ∙ alone.0))
+alone_index test (x ∷ xs) (suc i) (suc j) d alone within h = ap suc (alone_index test xs i j d alone.1 (omega (arith, within)) h)
 
--- two places of one name are one
-pub only_place : (gs : List Group) (i j : ℕ) (d e : Group) → IsDistinct same_name (names_of gs) → i < length gs → j < length gs
+-- two indexes of one name are one
+pub only_index : (gs : List Group) (i j : ℕ) (d e : Group) → IsDistinct same_name (names_of gs) → i < length gs → j < length gs
     → same_name (get_or gs i d).name (get_or gs j e).name ≡ true → j ≡ i
-only_place gs i j d e distinct here there same =
+only_index gs i j d e distinct here there same =
     let name : GroupName = (get_or gs i d).name in
     let at_i : get_or (names_of gs) i name ≡ name = get_or-map (λ (g : Group). g.name) gs i d name here in
     let at_j : get_or (names_of gs) j e.name ≡ (get_or gs j e).name = get_or-map (λ (g : Group). g.name) gs j e e.name there in
     let count = length-map gs (λ (g : Group). g.name) in
     let alone : IsAlone (same_name name) (names_of gs) i = alone-distinct same_name same_name_equiv (same_name name) (names_of gs) i name (omega (arith, here, count)) distinct (λ y. ap (λ n. same_name n y) (sym at_i)) in
-    alone_place (same_name name) (names_of gs) i j e.name alone (omega (arith, there, count)) (ap (same_name name) at_j ∙ same)
+    alone_index (same_name name) (names_of gs) i j e.name alone (omega (arith, there, count)) (ap (same_name name) at_j ∙ same)
 
--- the names of groups are what they stand under
+-- the names of groups are what they are under
 pub names-keys : (es : List (GroupName × Group)) → AreKeyed name_of es → names_of (values_of es) ≡ keys_of es
 names-keys [] h = refl
 names-keys (e ∷ es) h =
@@ -163,7 +163,7 @@ keys_set [] i x = refl
 keys_set (e ∷ es) zero x = refl
 keys_set (e ∷ es) (suc i) x = ap (λ ks. e.0 ∷ ks) (keys_set es i x)
 
--- the group at a place was changed, and maybe its key
+-- the group at an index was changed, and maybe its key
 due_set : (old new : DueSet) (gs : List Group) (i : ℕ) (from to : Group) → IsDistinct same_name (names_of gs) → from ≡ get_or gs i from → i < length gs
     → HasKey new (key_of to) → ((key : DueKey) → same_name key.name from.name ≡ false → HasKey old key → HasKey new key)
     → AreDue old gs → AreDue new (set gs i to)
@@ -178,7 +178,7 @@ due_set old new gs i from to distinct at within has keeps due k d less =
           let is : get_or (set gs i to) k d ≡ get_or gs k d = get_or-set_other gs i k to d apart in
           let other : same_name (get_or gs k d).name from.name ≡ false =
           elim (same_name (get_or gs k d).name from.name) as (λ b. same_name (get_or gs k d).name from.name ≡ b → b ≡ false) [
-            | true ↦ λ same. absurd (apart (sym (only_place gs k i d from distinct there within (ap (λ (x : Group). same_name (get_or gs k d).name x.name) (sym at) ∙ same))))
+            | true ↦ λ same. absurd (apart (sym (only_index gs k i d from distinct there within (ap (λ (x : Group). same_name (get_or gs k d).name x.name) (sym at) ∙ same))))
             | false ↦ λ same. refl
           ] refl in
           subst (λ x. HasKey new (key_of x)) (sym is) (keeps (key_of (get_or gs k d)) other (due k d there))
@@ -192,14 +192,14 @@ had_at due es i from name tied at named =
     let key : key_of (get_or (values_of es) i from) ≡ key_at name from.due = ap key_of (sym there.0) ∙ (λ j. key_at (sym named j) from.due) in
     subst (HasKey due) key (tied.due i from there.1)
 
--- a group was changed, and its key from one moment to another
+-- a group was changed, and its key from one time to another
 pub tied_change : (old new : DueSet) (es : List (GroupName × Group)) (i : ℕ) (from to : Group) (name : GroupName) (due : ℕ) → IsTied old es → slice_get (values_of es) i ≡ Some from
     → name ≡ from.name → to.name ≡ from.name → to.due ≡ due
     → HasKey new (key_at name due) → ((key : DueKey) → same_name key.name name ≡ false → HasKey old key → HasKey new key)
     → IsTied new (set_value_at es i to)
-tied_change old new es i from to name due tied at called named moment has keeps =
+tied_change old new es i from to name due tied at called named time has keeps =
     let there = value_at (values_of es) i from at in
-    let key : key_at name due ≡ key_of to = λ j. key_at ((called ∙ sym named) j) (sym moment j) in
+    let key : key_at name due ≡ key_of to = λ j. key_at ((called ∙ sym named) j) (sym time j) in
     record {
       keyed = AreKeyed-set same_name name_of es i from to tied.keyed at named;
       distinct = subst (IsDistinct same_name) (sym (keys_set es i to)) tied.distinct;

@@ -16,11 +16,11 @@ use Rattle.am_board.proofs.lemmas.invariant.Keyed.{value_at}
 use Rattle.am_board.specs.DueOrder.{has_key, key_at, key_cmp, key_cmp_total, AreRising}
 use Rattle.am_board.specs.declared.due.DueKey.{DueKey}
 
--- a key of this moment and name
+-- a key of this time and name
 pub key_called : (key : DueKey) (name : GroupName) (due : ℕ) → key.due ≡ due → same_name key.name name ≡ true → key ≡ key_at name due
-key_called key name due moment same =
+key_called key name due time same =
     let called = same_name-is key.name name same in
-    λ i. key_at (called i) (moment i)
+    λ i. key_at (called i) (time i)
 
 -- ---- a key comes behind all others
 
@@ -88,7 +88,7 @@ first_keeps (Some k) old new key other at is apart =
     let differs : is_eq (key_cmp other k) ≡ false = ap (λ (x : DueKey). is_eq (key_cmp other x)) same ∙ apart in
     sym (ap (λ (ks : List DueKey). has_key ks other) is ∙ ap (λ b. b || has_key new other) differs)
 
--- ---- a key at a place goes
+-- ---- a key at an index goes
 
 without_at : (P : DueKey → Type 0) (keys : List DueKey) (i : ℕ) → AllByRecursion P keys → AllByRecursion P (remove keys i)
 without_at P [] zero h = tt
@@ -122,13 +122,13 @@ pub removed_all : (o : Option DueKey) (old new : List DueKey) (i : ℕ) (d : Due
 removed_all None old new i d is went = absurd (true≢false (sym (ap is_some is)))
 removed_all (Some k) old new i d is went = went
 
--- ---- the key of a place
+-- ---- the key of an index
 
--- a key of this moment and name stands there
-pub key_stands : (keys : List DueKey) (i : ℕ) (key : DueKey) (name : GroupName) (due : ℕ) → i < length keys → key ≡ get_or keys i key → key.due ≡ due
+-- a key of this time and name is there
+pub key_is_there : (keys : List DueKey) (i : ℕ) (key : DueKey) (name : GroupName) (due : ℕ) → i < length keys → key ≡ get_or keys i key → key.due ≡ due
     → same_name key.name name ≡ true → slice_get keys i ≡ Some (key_at name due)
-key_stands keys i key name due within stands moment same =
-    slice_get-get_or keys i key within ∙ ap (λ (k : DueKey). Some k) (sym stands ∙ key_called key name due moment same)
+key_is_there keys i key name due within holds time same =
+    slice_get-get_or keys i key within ∙ ap (λ (k : DueKey). Some k) (sym holds ∙ key_called key name due time same)
 
 -- ---- two lists
 

@@ -23,8 +23,8 @@ use Rattle.am_model.specs.Lists.{upsert}
 use Rattle.am_model.specs.Replay.{after_call}
 use Rattle.am_model.specs.State.{State}
 use Rattle.am_model.proofs.legal.FewKnown.{IsForget, known_others}
-use Rattle.am_model.proofs.lists.Places as lists
-use Rattle.am_model.proofs.lists.Places.{put_new}
+use Rattle.am_model.proofs.lists.Indexes as lists
+use Rattle.am_model.proofs.lists.Indexes.{put_new}
 use Rattle.am_board.specs.GroupNameCache.{AreKept}
 use Rattle.am_board.specs.Step.{AppliesCall, LeavesUnchanged}
 use Rattle.am_board.specs.declared.state.State as kept
@@ -57,15 +57,15 @@ module _ (config : Config) (s : State) where
   kept_after (Note now number integration outcome) kept e were = subst (λ known. AreKept config known kept) (sym (known_others config s (Note now number integration outcome) refl refl refl).0) were
 
 module _ (alert : AlertData) (known : List AlertData) where
-  -- the alert stands where the one with its labels stood, or last
-  pub put_at : (place : Option ℕ) (n : ℕ) (a : AlertData) → place ≡ position (same_alert alert) known → n ≡ unwrap_or place (length known) → IsAt (upsert same_alert alert known) n a → a ≡ alert
+  -- the alert is where the one with its labels stood, or last
+  pub put_at : (index : Option ℕ) (n : ℕ) (a : AlertData) → index ≡ position (same_alert alert) known → n ≡ unwrap_or index (length known) → IsAt (upsert same_alert alert known) n a → a ≡ alert
   put_at None n a e at is =
       is.1 ∙ (ap (λ xs. get_or xs n a) (put_new same_alert alert known (sym e)) ∙ get_or_push known alert a n (sym at))
   put_at (Some i) n a e at is =
       let within : n < length known = omega (arith, at, (position-Some (same_alert alert) known i alert (sym e)).0) in
       is.1 ∙ (ap (λ xs. get_or xs n a) (lists.put_at same_alert alert known n (sym (ap (λ j. Some j) at ∙ e))) ∙ get_or-set_same known n alert a within)
 
-  pub put_within : (place : Option ℕ) (n : ℕ) → place ≡ position (same_alert alert) known → n ≡ unwrap_or place (length known) → n < length (upsert same_alert alert known)
+  pub put_within : (index : Option ℕ) (n : ℕ) → index ≡ position (same_alert alert) known → n ≡ unwrap_or index (length known) → n < length (upsert same_alert alert known)
   put_within None n e at =
       omega (arith, at, ap (λ (xs : List AlertData). length xs) (put_new same_alert alert known (sym e)), length-append known (alert ∷ []))
   put_within (Some i) n e at = omega (arith, at, (position-Some (same_alert alert) known i alert (sym e)).0, no_fewer alert known)
@@ -79,7 +79,7 @@ kept_of config known kept labels i names are at held =
     let there : IsAt known i a = (found.0, get_or_default known i nobody a found.0) in
     are.names i a names there held ∙ sym (ap (names_for config) ((same_label_set-decides labels a.labels).0 found.1))
 
--- one place more, with no names
+-- one index more, with no names
 pub kept_more : (config : Config) (known : List AlertData) (kept : List (Option (List GroupName))) → AreKept config known kept → length kept < length known → AreKept config known (kept ++ None ∷ [])
 kept_more config known kept are few =
     record {
@@ -99,21 +99,21 @@ kept_more config known kept are few =
     some_none : (names : List GroupName) → Some names ≡ None → ⊥
     some_none names e = absurd (cc)
 
--- other names at a place
-pub kept_there : (config : Config) (known : List AlertData) (kept : List (Option (List GroupName))) (place : ℕ) (new : List GroupName) → AreKept config known kept → place < length kept → ((a : AlertData) → IsAt known place a → new ≡ names_for config a.labels) → AreKept config known (set kept place (Some new))
-kept_there config known kept place new are within told =
+-- other names at an index
+pub kept_there : (config : Config) (known : List AlertData) (kept : List (Option (List GroupName))) (index : ℕ) (new : List GroupName) → AreKept config known kept → index < length kept → ((a : AlertData) → IsAt known index a → new ≡ names_for config a.labels) → AreKept config known (set kept index (Some new))
+kept_there config known kept index new are within returned =
     record {
-      within = omega (arith, length-set kept place (Some new), are.within);
+      within = omega (arith, length-set kept index (Some new), are.within);
       names = λ i a names is at.
-          elim (eqb i place) as (λ b. eqb i place ≡ b → names ≡ names_for config a.labels) [
+          elim (eqb i index) as (λ b. eqb i index ≡ b → names ≡ names_for config a.labels) [
             | true ↦ λ e.
-                let here : i ≡ place = eqb-true i place e in
-                let at_place : IsAt known place a = subst (λ j. IsAt known j a) here is in
-                let held : get_or (set kept place (Some new)) i (Some names) ≡ Some new = ap (λ j. get_or (set kept place (Some new)) j (Some names)) here ∙ get_or-set_same kept place (Some new) (Some names) within in
-                same_some names new (at.1 ∙ held) ∙ told a at_place
+                let here : i ≡ index = eqb-true i index e in
+                let at_index : IsAt known index a = subst (λ j. IsAt known j a) here is in
+                let held : get_or (set kept index (Some new)) i (Some names) ≡ Some new = ap (λ j. get_or (set kept index (Some new)) j (Some names)) here ∙ get_or-set_same kept index (Some new) (Some names) within in
+                same_some names new (at.1 ∙ held) ∙ returned a at_index
             | false ↦ λ e.
-                let apart : i ≢ place = eqb-false i place e in
-                are.names i a names is (omega (arith, at.0, length-set kept place (Some new)), at.1 ∙ get_or-set_other kept place i (Some new) (Some names) apart)
+                let apart : i ≢ index = eqb-false i index e in
+                are.names i a names is (omega (arith, at.0, length-set kept index (Some new)), at.1 ∙ get_or-set_other kept index i (Some new) (Some names) apart)
           ] refl;
     }
   where
@@ -121,8 +121,8 @@ kept_there config known kept place new are within told =
     same_some xs ys e = cc
 
 -- what is known after an accepted insert
-pub known_then : (config : Config) (id pass now : ℕ) (alert : AlertData) (told : Reply) (old new : kept.State) → AppliesCall config id (entry pass (Insert now alert) told) old new → new.known.items ≡ upsert same_alert alert old.known.items
-known_then config id pass now alert told old new accepts = ap (λ (s : State). s.known) accepts.state.rest
+pub known_then : (config : Config) (id pass now : ℕ) (alert : AlertData) (returned : Reply) (old new : kept.State) → AppliesCall config id (entry pass (Insert now alert) returned) old new → new.known.items ≡ upsert same_alert alert old.known.items
+known_then config id pass now alert returned old new accepts = ap (λ (s : State). s.known) accepts.state.rest
 
 -- what is known after a refusal
 pub known_still : (config : Config) (old new : kept.State) → LeavesUnchanged config old new → new.known.items ≡ old.known.items

@@ -60,7 +60,7 @@ room_push n name gs g other room =
 pub whole_again : {X : Type 0} (n : ℕ) (xs ys : List X) → length xs ≡ n → take n (xs ++ ys) ≡ xs
 whole_again n xs ys e = subst (λ m. take m (xs ++ ys) ≡ xs) e (take-append_seam xs ys)
 
--- the route of a group at a place is there
+-- the route of a group at an index is there
 pub routed_at : (tree : RoutingTree) (gs : List Group) (i : ℕ) (g : Group) → AreRouted tree (names_of gs) → i < length gs → g ≡ get_or gs i g → g.name.route ≤ last_of tree
 routed_at tree gs i g routed within is =
     let within_names : i < length (names_of gs) = omega (arith, within, length-map gs (λ (x : Group). x.name)) in

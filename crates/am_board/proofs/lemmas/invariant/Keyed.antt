@@ -9,7 +9,7 @@ use Rattle.indexmap.proofs.MapLemmas.{insert_entry-first, Found-position}
 use Rattle.am_board.specs.Keyed.{AreKeyed}
 use Rattle.am_model.specs.Lists.{upsert}
 
--- what a value that is there tells of its place
+-- what a value that is there says of its index
 pub value_at : {X : Type 0} (xs : List X) (i : ℕ) (x : X) → slice_get xs i ≡ Some x → (x ≡ get_or xs i x) × (i < length xs)
 value_at [] i x e = absurd (cc)
 value_at (y ∷ ys) zero x e = (cc, omega arith)
@@ -43,10 +43,10 @@ module _ {K X : Type 0} (eq : K → K → Bool) (key : X → K) where
   abbrev pub same_key : X → X → Bool
   same_key x y = eq (key x) (key y)
 
-  place_or_len : (k : K) (es : List (K × X)) → AreKeyed key es → position_or_len (eq k) (keys_of es) ≡ position_or_len (λ x. eq k (key x)) (values_of es)
-  place_or_len k [] h = refl
-  place_or_len k (e ∷ es) h =
-      λ j. cond (not (eq k (All-head IsKeyed e es h j))) (1 + place_or_len k es (All-tail IsKeyed e es h) j) 0
+  index_or_len : (k : K) (es : List (K × X)) → AreKeyed key es → position_or_len (eq k) (keys_of es) ≡ position_or_len (λ x. eq k (key x)) (values_of es)
+  index_or_len k [] h = refl
+  index_or_len k (e ∷ es) h =
+      λ j. cond (not (eq k (All-head IsKeyed e es h j))) (1 + index_or_len k es (All-tail IsKeyed e es h) j) 0
 
   same_length : (es : List (K × X)) → length (keys_of es) ≡ length (values_of es)
   same_length [] = refl
@@ -65,9 +65,9 @@ module _ {K X : Type 0} (eq : K → K → Bool) (key : X → K) where
   AreKeyed-filter test es h = All-filter test IsKeyed es h
 
   -- a search of the keys is a search of the values
-  pub place_of-keys : (k : K) (es : List (K × X)) → AreKeyed key es → position (eq k) (keys_of es) ≡ position (λ x. eq k (key x)) (values_of es)
-  place_of-keys k es h =
-      λ j. cond (ltb (place_or_len k es h j) (same_length es j)) (Some (place_or_len k es h j)) None
+  pub index_of-keys : (k : K) (es : List (K × X)) → AreKeyed key es → position (eq k) (keys_of es) ≡ position (λ x. eq k (key x)) (values_of es)
+  index_of-keys k es h =
+      λ j. cond (ltb (index_or_len k es h j) (same_length es j)) (Some (index_or_len k es h j)) None
 
   -- an insert under its key puts a value in
   pub upsert-entries : (x : X) (es : List (K × X)) → AreKeyed key es → values_of (insert_entry eq es (key x) x) ≡ upsert same_key x (values_of es)

@@ -6,7 +6,7 @@ use Rattle.std.proofs.lemmas.List.{length-append}
 use Rattle.am_alerts.specs.AlertData.{AlertData}
 use Rattle.am_mute.specs.Silence.{SilenceData}
 use Rattle.am_board.specs.declared.board.Board.TheInside.{Inside}
-use Rattle.am_model.specs.declared.fault.Fault.TheVariants.{HistoryFull, TooManyNames, TooManySilences, TooManyOpen}
+use Rattle.am_model.specs.declared.fault.Fault.TheVariants.{HistoryFull, TooManyAlerts, TooManySilences, TooManyOpen}
 use Rattle.am_model.specs.declared.record.Call.{Call}
 use Rattle.am_model.specs.declared.record.Call.TheVariants.{Insert, Begin, Maintain, Forget, Load}
 use Rattle.am_model.specs.declared.fault.LoadFault.{LoadFault}
@@ -24,15 +24,15 @@ use Rattle.am_board.specs.declared.begin.Begun.{Begun}
 use Rattle.am_model.specs.declared.config.Config.{Config}
 use Rattle.am_model.specs.declared.config.Integration.{Integration}
 use Rattle.am_board.specs.Board.{IsSound, whole}
-use Rattle.am_model.specs.Begin.{taken, asked_of, flush_asking, after_asking, after_taking}
-use Rattle.am_model.specs.Causes.{is_name_too_many, is_silence_too_many, insert_cause, silence_cause, begin_cause, maintain_cause, forget_cause, load_cause, row_cause, is_full, asks_some, opens_by}
+use Rattle.am_model.specs.Begin.{taken, notified_of, flush_notifying, after_notifying, after_taking}
+use Rattle.am_model.specs.Causes.{is_alert_too_many, is_silence_too_many, insert_cause, silence_cause, begin_cause, maintain_cause, forget_cause, load_cause, row_cause, is_full, notifies_some, opens_by}
 use Rattle.am_board.specs.History.{BoardData, records_at, state_at, reply_of}
 use Rattle.am_model.specs.Records.{call_of_silence, entry}
 use Rattle.am_board.specs.Refinement.{state_of}
 use Rattle.am_model.specs.Insert.{same_alert}
 use Rattle.am_model.specs.Replay.{replay, after_call}
-use Rattle.am_model.specs.Upkeep.{same_silence}
-use Rattle.am_model.specs.State.{GroupState, State, moment}
+use Rattle.am_model.specs.Maintenance.{same_silence}
+use Rattle.am_model.specs.State.{GroupState, State, time}
 use Rattle.am_board.specs.Step.{AppliesCall}
 use Rattle.am_board.proofs.lemmas.invariant.Agreeing.{insert_cause-agrees, silence_cause-agrees, maintain_cause-agrees, forget_cause-agrees, load_cause-agrees, begin_cause-agrees}
 use Rattle.am_model.proofs.legal.FewGroups.{few_inserted}
@@ -62,9 +62,9 @@ module _ (b : Inside) (sound : IsSound b) (pass now : ℕ) (new : kept.State) wh
   insert_within alert x none accepts =
       let s : State = state_of b.state in
       let parts = room_of b.config (vec_len b.state.history) s 1 (Some HistoryFull) _ none (λ h. absurd (cc)) in
-      let names = neither_cause (is_name_too_many b.config s alert) TooManyNames _ parts.1 in
+      let names = neither_cause (is_alert_too_many b.config s alert) TooManyAlerts _ parts.1 in
       keeps_within b sound pass (Insert now alert) (replies.Inserted x) new accepts (omega arith) parts.0
-      (fits-upsert same_alert alert s.known b.config.limits.names sound.names names.0, few_inserted b.config s (moment s now) alert (is_name_too_many b.config s alert) parts.1, sound.silences)
+      (fits-upsert same_alert alert s.known b.config.limits.alerts sound.names names.0, few_inserted b.config s (time s now) alert (is_alert_too_many b.config s alert) parts.1, sound.silences)
 
   pub silence_within : (silence : SilenceData) (x : Silenced) → silence_cause b.config (vec_len b.state.history) (state_of b.state) silence ≡ None
       → AppliesCall b.config b.id (entry pass (call_of_silence now silence) (replies.Silenced x)) b.state new → IsWithin b.config (after_call b.config (state_of b.state) (call_of_silence now silence)) new
@@ -89,25 +89,25 @@ module _ (b : Inside) (sound : IsSound b) (pass now : ℕ) (new : kept.State) wh
       (room_of b.config (vec_len b.state.history) (state_of b.state) 1 (Some HistoryFull) None none (λ h. absurd (cc))).0
       (few_after b sound (Forget now) refl refl)
 
-  pub load_within : (row : RowView) (x : Loaded) → load_cause b.config (vec_len b.state.history) (state_of b.state) (moment (state_of b.state) now) row ≡ None
+  pub load_within : (row : RowView) (x : Loaded) → load_cause b.config (vec_len b.state.history) (state_of b.state) (time (state_of b.state) now) row ≡ None
       → AppliesCall b.config b.id (entry pass (Load now row) (replies.Loaded x)) b.state new → IsWithin b.config (after_call b.config (state_of b.state) (Load now row)) new
   load_within row x none accepts =
       let s : State = state_of b.state in
       let full : Option LoadFault = if is_full b.config (vec_len b.state.history) s 1 then Some load.HistoryFull else None in
       keeps_within b sound pass (Load now row) (replies.Loaded x) new accepts (omega arith)
-      (room_of b.config (vec_len b.state.history) s 1 (Some load.HistoryFull) None (second_cause (row_cause b.config (moment s now) row) full none) (λ h. absurd (cc))).0
+      (room_of b.config (vec_len b.state.history) s 1 (Some load.HistoryFull) None (second_cause (row_cause b.config (time s now) row) full none) (λ h. absurd (cc))).0
       (few_after b sound (Load now row) refl refl)
 
 -- ---- a begin opens a flush only where one more may be open
 
-fits_asking : (config : Config) (s : State) (t : ℕ) (g : GroupState) (asked : List (ℕ × Integration)) → length s.flushes ≤ config.limits.flushes
-    → (if nat_le config.limits.flushes (length s.flushes) && asks_some asked then Some TooManyOpen else None) ≡ None
-    → (length (after_asking config s t g asked).flushes ≤ config.limits.flushes) × (length (after_asking config s t g asked).flushes ≤ length s.flushes + 1)
-fits_asking config s t g [] few none = (few, omega arith)
-fits_asking config s t g (i ∷ is) few none =
-    let longer : length (s.flushes ++ flush_asking config s t g (i ∷ is) ∷ []) ≡ length s.flushes + 1 = length-append s.flushes (flush_asking config s t g (i ∷ is) ∷ []) in
+fits_notifying : (config : Config) (s : State) (t : ℕ) (g : GroupState) (notified : List (ℕ × Integration)) → length s.flushes ≤ config.limits.flushes
+    → (if nat_le config.limits.flushes (length s.flushes) && notifies_some notified then Some TooManyOpen else None) ≡ None
+    → (length (after_notifying config s t g notified).flushes ≤ config.limits.flushes) × (length (after_notifying config s t g notified).flushes ≤ length s.flushes + 1)
+fits_notifying config s t g [] few none = (few, omega arith)
+fits_notifying config s t g (i ∷ is) few none =
+    let longer : length (s.flushes ++ flush_notifying config s t g (i ∷ is) ∷ []) ≡ length s.flushes + 1 = length-append s.flushes (flush_notifying config s t g (i ∷ is) ∷ []) in
     elim (nat_le config.limits.flushes (length s.flushes)) as (λ b. nat_le config.limits.flushes (length s.flushes) ≡ b → (if b && true then Some TooManyOpen else None) ≡ None
-    → (length (s.flushes ++ flush_asking config s t g (i ∷ is) ∷ []) ≤ config.limits.flushes) × (length (s.flushes ++ flush_asking config s t g (i ∷ is) ∷ []) ≤ length s.flushes + 1)) [
+    → (length (s.flushes ++ flush_notifying config s t g (i ∷ is) ∷ []) ≤ config.limits.flushes) × (length (s.flushes ++ flush_notifying config s t g (i ∷ is) ∷ []) ≤ length s.flushes + 1)) [
       | true ↦ λ e h. absurd (cc)
       | false ↦ λ e h. (grind (arith, nat_tests, e, longer), omega (arith, longer))
     ] refl none
@@ -116,13 +116,13 @@ fits_taking : (config : Config) (s : State) (t : ℕ) (o : Option GroupState) �
     → (if nat_le config.limits.flushes (length s.flushes) && opens_by config s t o then Some TooManyOpen else None) ≡ None
     → (length (after_taking config s t o).flushes ≤ config.limits.flushes) × (length (after_taking config s t o).flushes ≤ length s.flushes + 1)
 fits_taking config s t None few none = (few, omega arith)
-fits_taking config s t (Some g) few none = fits_asking config s t g (asked_of config s t g) few none
+fits_taking config s t (Some g) few none = fits_notifying config s t g (notified_of config s t g) few none
 
-pub begin_within : (b : Inside) (sound : IsSound b) (pass now : ℕ) (new : kept.State) (x : Begun) → begin_cause b.config (vec_len b.state.history) (state_of b.state) (moment (state_of b.state) now) ≡ None
+pub begin_within : (b : Inside) (sound : IsSound b) (pass now : ℕ) (new : kept.State) (x : Begun) → begin_cause b.config (vec_len b.state.history) (state_of b.state) (time (state_of b.state) now) ≡ None
     → AppliesCall b.config b.id (entry pass (Begin now) (reply_of x)) b.state new → IsWithin b.config (after_call b.config (state_of b.state) (Begin now)) new
 begin_within b sound pass now new x none accepts =
     let s : State = state_of b.state in
-    let t : ℕ = moment s now in
+    let t : ℕ = time s now in
     let parts = room_of b.config (vec_len b.state.history) s 2 (Some HistoryFull) _ none (λ h. absurd (cc)) in
     let before = opened_now b.state in
     let few : length s.flushes ≤ b.config.limits.flushes = omega (arith, before, sound.opened) in
@@ -145,19 +145,19 @@ module _ (b : Inside) (sound : IsSound b) (now : BoardData) (view_is : seen b b.
       subst (λ (d : BoardData). forget_cause b.config (vec_len b.state.history) (state_of b.state) ≡ forget_cause d.config (records_at d) (state_at d)) view_is
       (forget_cause-agrees (state_of b.state) replayed sound.agrees b.config (vec_len b.state.history) ∙ ap (λ n. forget_cause b.config n replayed) (kept_counted b sound))
 
-  pub load_caused : (at : ℕ) (row : RowView) → load_cause b.config (vec_len b.state.history) (state_of b.state) (moment (state_of b.state) at) row ≡ load_cause now.config (records_at now) (state_at now) (moment (state_at now) at) row
+  pub load_caused : (at : ℕ) (row : RowView) → load_cause b.config (vec_len b.state.history) (state_of b.state) (time (state_of b.state) at) row ≡ load_cause now.config (records_at now) (state_at now) (time (state_at now) at) row
   load_caused at row =
-      subst (λ (d : BoardData). load_cause b.config (vec_len b.state.history) (state_of b.state) (moment (state_of b.state) at) row ≡ load_cause d.config (records_at d) (state_at d) (moment (state_at d) at) row) view_is
-      (load_cause-agrees (state_of b.state) replayed sound.agrees b.config (vec_len b.state.history) (moment (state_of b.state) at) row
-      ∙ (ap (λ (s : State). load_cause b.config (vec_len b.state.history) replayed (moment s at) row) sound.agrees.rest
-      ∙ ap (λ n. load_cause b.config n replayed (moment replayed at) row) (kept_counted b sound)))
+      subst (λ (d : BoardData). load_cause b.config (vec_len b.state.history) (state_of b.state) (time (state_of b.state) at) row ≡ load_cause d.config (records_at d) (state_at d) (time (state_at d) at) row) view_is
+      (load_cause-agrees (state_of b.state) replayed sound.agrees b.config (vec_len b.state.history) (time (state_of b.state) at) row
+      ∙ (ap (λ (s : State). load_cause b.config (vec_len b.state.history) replayed (time s at) row) sound.agrees.rest
+      ∙ ap (λ n. load_cause b.config n replayed (time replayed at) row) (kept_counted b sound)))
 
-  pub begin_caused : (at : ℕ) → begin_cause b.config (vec_len b.state.history) (state_of b.state) (moment (state_of b.state) at) ≡ begin_cause now.config (records_at now) (state_at now) (moment (state_at now) at)
+  pub begin_caused : (at : ℕ) → begin_cause b.config (vec_len b.state.history) (state_of b.state) (time (state_of b.state) at) ≡ begin_cause now.config (records_at now) (state_at now) (time (state_at now) at)
   begin_caused at =
-      subst (λ (d : BoardData). begin_cause b.config (vec_len b.state.history) (state_of b.state) (moment (state_of b.state) at) ≡ begin_cause d.config (records_at d) (state_at d) (moment (state_at d) at)) view_is
-      (begin_cause-agrees (state_of b.state) replayed sound.agrees (consistent_now b sound).rows b.config (vec_len b.state.history) (moment (state_of b.state) at)
-      ∙ (ap (λ (s : State). begin_cause b.config (vec_len b.state.history) replayed (moment s at)) sound.agrees.rest
-      ∙ ap (λ n. begin_cause b.config n replayed (moment replayed at)) (kept_counted b sound)))
+      subst (λ (d : BoardData). begin_cause b.config (vec_len b.state.history) (state_of b.state) (time (state_of b.state) at) ≡ begin_cause d.config (records_at d) (state_at d) (time (state_at d) at)) view_is
+      (begin_cause-agrees (state_of b.state) replayed sound.agrees (consistent_now b sound).rows b.config (vec_len b.state.history) (time (state_of b.state) at)
+      ∙ (ap (λ (s : State). begin_cause b.config (vec_len b.state.history) replayed (time s at)) sound.agrees.rest
+      ∙ ap (λ n. begin_cause b.config n replayed (time replayed at)) (kept_counted b sound)))
 
   pub insert_caused : (alert : AlertData) → insert_cause b.config (vec_len b.state.history) (state_of b.state) alert ≡ insert_cause now.config (records_at now) (state_at now) alert
   insert_caused alert =

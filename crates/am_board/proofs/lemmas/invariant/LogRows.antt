@@ -18,7 +18,7 @@ use Rattle.am_model.specs.Begin.{is_entry_of, log_row, entry_of}
 use Rattle.am_model.specs.Finish.{same_key, log_with}
 use Rattle.am_model.specs.Lists.{without}
 use Rattle.am_model.specs.State.{same_name}
-use Rattle.am_model.specs.Upkeep.{has_expired}
+use Rattle.am_model.specs.Maintenance.{has_expired}
 use Rattle.am_model.specs.declared.group.GroupName.{GroupName}
 use Rattle.am_model.specs.declared.views.RowView.{RowView}
 use Rattle.am_board.specs.LogRows.{row_under, log_rows}
@@ -31,7 +31,7 @@ use Rattle.am_model.proofs.states.Alike.{same_key_equiv, same_name-is, same_name
 log_key-laws : IsEquivalence (key_eq same_name)
 log_key-laws = key_eq-laws same_name_equiv
 
--- no row stands under a key that no slot has
+-- no row is under a key that no slot has
 nothing_under : (key : LogKey GroupName) (log : Slots GroupName (List Label)) → AllByRecursion (λ k. key_eq same_name key k ≡ false) (keys_of log) → find (is_entry_of key.group key.integration) (log_rows log) ≡ None
 nothing_under key [] all = refl
 nothing_under key ((k, None) ∷ log) all = nothing_under key log all.1
@@ -169,11 +169,11 @@ log_rows-with_key eq log key = by (is_known eq log key)
     by true = refl
     by false = none log
 
-module _ (eq : GroupName → GroupName → Bool) (told : (a b : GroupName) → eq a b ≡ same_name a b) where
+module _ (eq : GroupName → GroupName → Bool) (returned : (a b : GroupName) → eq a b ≡ same_name a b) where
   one_test : same_name ≡ eq
-  one_test i a b = sym (told a b) i
+  one_test i a b = sym (returned a b) i
 
-  -- the entry of an integration is the row that stands under its key
+  -- the entry of an integration is the row that is under its key
   pub entry_of-log_rows : (log : Slots GroupName (List Label)) (name : GroupName) (integration : ℕ) → HasDistinctKeys eq log → entry_of (log_rows log) name integration ≡ row_of eq log (record { group = name; integration = integration })
   entry_of-log_rows log name integration = subst (λ e. HasDistinctKeys e log → entry_of (log_rows log) name integration ≡ row_of e log (record { group = name; integration = integration })) one_test (entry_at log (record { group = name; integration = integration }))
 

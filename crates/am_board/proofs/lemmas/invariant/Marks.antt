@@ -1,9 +1,9 @@
--- The marks of groups with an open flush, through what is done to one group, and what they tell.
+-- The marks of groups with an open flush, through what is done to one group, and what they say.
 use Rattle.std.proofs.Common.{◌≡◌, ℕ, zero, suc, ◌<◌, Bool, true, false, cond, not, ◌&&◌, ◌||◌, true≢false, None, List, [], ◌∷◌, ◌++◌, length, filter, get_or, set, refl, sym, ap, ◌∙◌, arith}
 use Rattle.std.specs.List.{AllByRecursion, IsDistinct, position}
 use Rattle.std.proofs.Math.Seq.{map-set_same}
 use Rattle.am_model.specs.State.{FlushState, same_name}
-use Rattle.am_model.specs.Upkeep.{is_deserted}
+use Rattle.am_model.specs.Maintenance.{has_no_alerts}
 use Rattle.am_model.specs.declared.group.GroupName.{GroupName}
 use Rattle.am_model.proofs.lists.Alone.{find-no_position, none-find}
 use Rattle.am_model.proofs.states.Alike.{same_name_equiv}
@@ -27,7 +27,7 @@ or_last : (a r s : Bool) → (a || (r || s)) ≡ ((a || r) || s)
 or_last true r s = refl
 or_last false r s = refl
 
--- what is left where the one at a place doesn't pass any more
+-- what is left where the one at an index doesn't pass any more
 pub but_for : (a s r : Bool) → (s ≡ true → r ≡ false) → r ≡ (((a && s) || r) && not s)
 but_for true true r none = none refl
 but_for false true true none = none refl
@@ -85,7 +85,7 @@ none_alike : (m n : GroupName) → same_name m n ≡ true → (names : List Grou
 none_alike m n same [] none = tt
 none_alike m n same (k ∷ names) none = (sym (same_name_equiv.congr m n k same) ∙ none.0, none_alike m n same names none.1)
 
--- what is none of these names is not the name at a place
+-- what is none of these names is not the name at an index
 apart_at : (m : GroupName) (gs : List Group) (i : ℕ) (d : Group) → i < length gs → AllByRecursion (λ k. same_name m k ≡ false) (names_of gs) → same_name m (get_or gs i d).name ≡ false
 apart_at m [] i d within none = absurd (omega (arith, within))
 apart_at m (x ∷ gs) zero d within none = none.0
@@ -131,7 +131,7 @@ marked_missing gs name at n =
     named [] none = tt
     named (h ∷ hs) none = (none.0, named hs none.1)
 
--- ---- what the marks tell
+-- ---- what the marks say
 
 -- a group's own mark is the one of its name
 own_mark : (gs : List Group) → IsDistinct same_name (names_of gs) → (j : ℕ) (d : Group) → j < length gs → (get_or gs j d).is_open ≡ is_marked (marks_of gs) (get_or gs j d).name
@@ -161,13 +161,13 @@ tell_open flushes gs distinct marked j d within = own_mark gs distinct j d withi
 
 -- ---- groups without alerts go, none of which has an open flush
 
-pub marked_without : (gs : List Group) → AllByRecursion (λ g. is_deserted (group_state g) ≡ true → g.is_open ≡ false) gs → (n : GroupName)
-    → is_marked (marks_of (filter (λ g. not (is_deserted (group_state g))) gs)) n ≡ is_marked (marks_of gs) n
+pub marked_without : (gs : List Group) → AllByRecursion (λ g. has_no_alerts (group_state g) ≡ true → g.is_open ≡ false) gs → (n : GroupName)
+    → is_marked (marks_of (filter (λ g. not (has_no_alerts (group_state g))) gs)) n ≡ is_marked (marks_of gs) n
 marked_without [] closed n = refl
 marked_without (x ∷ gs) closed n =
     let rest = marked_without gs closed.1 n in
-    let kept : List Group = filter (λ g. not (is_deserted (group_state g))) gs in
-    elim (is_deserted (group_state x)) as (λ b. is_deserted (group_state x) ≡ b → is_marked (marks_of (cond (not b) (x ∷ kept) kept)) n ≡ ((x.is_open && same_name n x.name) || is_marked (marks_of gs) n)) [
+    let kept : List Group = filter (λ g. not (has_no_alerts (group_state g))) gs in
+    elim (has_no_alerts (group_state x)) as (λ b. has_no_alerts (group_state x) ≡ b → is_marked (marks_of (cond (not b) (x ∷ kept) kept)) n ≡ ((x.is_open && same_name n x.name) || is_marked (marks_of gs) n)) [
       | true ↦ λ e. rest ∙ sym (ap (λ b. (b && same_name n x.name) || is_marked (marks_of gs) n) (closed.0 e))
       | false ↦ λ e. ap (λ b. (x.is_open && same_name n x.name) || b) rest
     ] refl

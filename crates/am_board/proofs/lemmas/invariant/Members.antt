@@ -22,7 +22,7 @@ use Rattle.am_model.proofs.lists.Words.{all-upsert}
 use Rattle.am_board.specs.Keyed.{AreKeyed}
 use Rattle.am_board.specs.Refinement.{member_state}
 use Rattle.am_board.specs.Members.{labels_of, AreMembers}
-use Rattle.am_board.specs.Order.{ArePlaces, places_in_order}
+use Rattle.am_board.specs.Order.{AreIndexes, indexes_in_order}
 use Rattle.am_board.specs.declared.group.Member.{Member}
 use Rattle.am_board.proofs.lemmas.invariant.Keyed.{same_key, length-values, values-filter, upsert-entries, AreKeyed-filter, AreKeyed-insert}
 
@@ -93,14 +93,14 @@ labels_keyed [] h = refl
 labels_keyed (e ∷ es) h = λ i. sym (All-head IsLabelled e es h) i ∷ labels_keyed es (All-tail IsLabelled e es h) i
 
 -- the order is that of the same label sets
-pub order_kept : (order : List ℕ) (es fs : List (List Label × Member)) → AreKeyed labels_of es → AreKeyed labels_of fs → keys_of fs ≡ keys_of es → ArePlaces order (values_of es) → ArePlaces order (values_of fs)
+pub order_kept : (order : List ℕ) (es fs : List (List Label × Member)) → AreKeyed labels_of es → AreKeyed labels_of fs → keys_of fs ≡ keys_of es → AreIndexes order (values_of es) → AreIndexes order (values_of fs)
 order_kept order es fs keyed still same h =
     let sets : map labels_of (values_of es) ≡ map labels_of (values_of fs) = labels_keyed es keyed ∙ sym same ∙ sym (labels_keyed fs still) in
     let as_many : length (values_of es) ≡ length (values_of fs) = sym (length-map (values_of es) labels_of) ∙ ap length sets ∙ length-map (values_of fs) labels_of in
     record {
       first = h.first;
       within = let within = h.within in omega (arith, within, as_many);
-      sorted = λ whole. h.sorted (whole ∙ sym as_many) ∙ ap places_in_order sets;
+      sorted = λ whole. h.sorted (whole ∙ sym as_many) ∙ ap indexes_in_order sets;
     }
 
 -- where no entry more is there after one was put in, the keys are the same
@@ -122,15 +122,15 @@ no_fewer k m (e ∷ es) =
       | false ↦ omega (arith, rest)
     ]
 
--- one was put in: its label set was there, or it is last and its place isn't kept
+-- one was put in: its label set was there, or it is last and its index isn't kept
 pub order_put : (order : List ℕ) (m : Member) (es : List (List Label × Member)) → AreMembers es → AreMembers (insert_entry same_label_set es m.alert.labels m)
-    → ArePlaces order (values_of es) → ArePlaces order (values_of (insert_entry same_label_set es m.alert.labels m))
+    → AreIndexes order (values_of es) → AreIndexes order (values_of (insert_entry same_label_set es m.alert.labels m))
 order_put order m es before after h = by (length fs == length es) refl
   where
     fs : List (List Label × Member)
     fs = insert_entry same_label_set es m.alert.labels m
 
-    by : (b : Bool) → (length fs == length es) ≡ b → ArePlaces order (values_of fs)
+    by : (b : Bool) → (length fs == length es) ≡ b → AreIndexes order (values_of fs)
     by true e = order_kept order es fs before.keyed after.keyed (keys_put m.alert.labels m es (eqb-true (length fs) (length es) e)) h
     by false e =
         let differ : (length fs ≡ length es → ⊥) = λ same. true≢false (sym (eq-eqb (length fs) (length es) same) ∙ e) in

@@ -1,4 +1,4 @@
--- The alerts of a group in the order of their labels: as their places tell it, and as it goes through what a begin makes of them.
+-- The alerts of a group in the order of their labels: as their indexes say it, and as it goes through what a begin makes of them.
 use denote.Param.Members.{Mut}
 use Rattle.std.proofs.Common.{◌≡◌, ℕ, zero, suc, ◌+◌, ◌<◌, ◌++◌, get_or, take, Bool, true, false, cond, not, Option, Some, None, List, [], ◌∷◌, length, map, filter, slice_get, refl, sym, ap, ◌∙◌, subst, arith}
 use Rattle.std.specs.Prelude.{IsPermutation, IsSortedBy}
@@ -26,14 +26,14 @@ use Rattle.am_nflog.specs.Members.{is_ascending}
 use Rattle.am_model.specs.Insert.{same_member}
 use Rattle.am_model.specs.Lists.{put_in_order, in_order}
 use Rattle.am_model.specs.State.{MemberState}
-use Rattle.am_model.proofs.lists.Distinct.{IsDistinct-told, IsDistinct-unmap}
+use Rattle.am_model.proofs.lists.Distinct.{IsDistinct-mapped, IsDistinct-unmap}
 use Rattle.am_model.proofs.lists.InOrder.{sort_by_is_in_order, in_order-ascends, in_order-map}
 use Rattle.am_board.specs.Refinement.{member_state}
 use Rattle.am_board.specs.Members.{labels_of}
-use Rattle.am_board.specs.Order.{ArePlaces, member_cmp, place_cmp, places_in_order}
+use Rattle.am_board.specs.Order.{AreIndexes, member_cmp, index_cmp, indexes_in_order}
 use Rattle.am_board.specs.declared.group.Member.{Member}
 
--- ---- all places
+-- ---- all indexes
 
 shifted : {X : Type 0} (f : ℕ → X) (a n : ℕ) → map f (range_with_len (a + 1) n) ≡ map (λ i. f (suc i)) (range_with_len a n)
 shifted f a zero = refl
@@ -41,7 +41,7 @@ shifted f a (suc n) =
     let e : a + 1 ≡ suc a = omega arith in
     ap (λ i. f i ∷ map f (range_with_len (a + 1 + 1) n)) e ∙ ap (λ xs. f (suc a) ∷ xs) (shifted f (a + 1) n)
 
--- what stands at all places
+-- what is at all indexes
 pub all_there : {X : Type 0} (xs : List X) → map (slice_get xs) (range_with_len 0 (length xs)) ≡ map Some xs
 all_there [] = refl
 all_there (x ∷ xs) = ap (λ os. Some x ∷ os) (shifted (slice_get (x ∷ xs)) 0 (length xs) ∙ all_there xs)
@@ -50,58 +50,58 @@ one_more : (a n j : ℕ) → a + n ≡ j → range_with_len a (suc n) ≡ range_
 one_more a zero j e = let same : a ≡ j = omega (arith, e) in ap (λ k. k ∷ []) same
 one_more a (suc n) j e = ap (λ ks. a ∷ ks) (one_more (a + 1) n j (omega (arith, e)))
 
--- one place more
+-- one index more
 pub counting : (n : ℕ) → range_with_len 0 (n + 1) ≡ range_with_len 0 n ++ n ∷ []
 counting n = let on : n + 1 ≡ suc n = omega arith in ap (range_with_len 0) on ∙ one_more 0 n n (omega arith)
 
--- ---- the places in order
+-- ---- the indexes in order
 
-pub place_cmp_total : (sets : List (List Label)) → IsTotalOrder (place_cmp sets)
-place_cmp_total sets = on_total (slice_get sets) (options_total label_set_cmp_total)
+pub index_cmp_total : (sets : List (List Label)) → IsTotalOrder (index_cmp sets)
+index_cmp_total sets = on_total (slice_get sets) (options_total label_set_cmp_total)
 
 member_cmp_total : IsTotalOrder member_cmp
 member_cmp_total = on_total labels_of label_set_cmp_total
 
-labels_told : (ms : List Member) → map (λ (m : MemberState). m.alert.labels) (map member_state ms) ≡ map labels_of ms
-labels_told [] = refl
-labels_told (m ∷ ms) = ap (λ ls. labels_of m ∷ ls) (labels_told ms)
+labels_mapped : (ms : List Member) → map (λ (m : MemberState). m.alert.labels) (map member_state ms) ≡ map labels_of ms
+labels_mapped [] = refl
+labels_mapped (m ∷ ms) = ap (λ ls. labels_of m ∷ ls) (labels_mapped ms)
 
--- no two places tie where no two alerts have one label set
-places_apart : (ms : List Member) → IsDistinct same_member (map member_state ms) → IsDistinct (eq_by_cmp (place_cmp (map labels_of ms))) (range_with_len 0 (length (map labels_of ms)))
-places_apart ms apart =
+-- no two indexes tie where no two alerts have one label set
+indexes_apart : (ms : List Member) → IsDistinct same_member (map member_state ms) → IsDistinct (eq_by_cmp (index_cmp (map labels_of ms))) (range_with_len 0 (length (map labels_of ms)))
+indexes_apart ms apart =
     let sets = map labels_of ms in
     let differ : IsDistinct same_label_set sets =
-    subst (IsDistinct same_label_set) (labels_told ms) (IsDistinct-told same_member same_label_set (λ (m : MemberState). m.alert.labels) (λ m n. refl) (map member_state ms) apart) in
+    subst (IsDistinct same_label_set) (labels_mapped ms) (IsDistinct-mapped same_member same_label_set (λ (m : MemberState). m.alert.labels) (λ m n. refl) (map member_state ms) apart) in
     let there : IsDistinct (eq_by_cmp (option_cmp label_set_cmp)) (map Some sets) =
-    IsDistinct-told same_label_set (eq_by_cmp (option_cmp label_set_cmp)) Some (λ k l. sym (same_label_set-cmp k l)) sets differ in
+    IsDistinct-mapped same_label_set (eq_by_cmp (option_cmp label_set_cmp)) Some (λ k l. sym (same_label_set-cmp k l)) sets differ in
     IsDistinct-unmap (slice_get sets) (eq_by_cmp (option_cmp label_set_cmp)) (range_with_len 0 (length sets))
     (subst (IsDistinct (eq_by_cmp (option_cmp label_set_cmp))) (sym (all_there sets)) there)
 
--- what a sort of all places gives
-pub sorted_places : {F : Type 0} {g : Mut F (Bor ℕ × (Bor ℕ × Unit {0})) Ordering} {f : F} (ms : List Member) (xs ys : List ℕ) → IsPermutation (range_with_len 0 (length ms)) xs → IsPermutation xs ys
+-- what a sort of all indexes gives
+pub sorted_indexes : {F : Type 0} {g : Mut F (Bor ℕ × (Bor ℕ × Unit {0})) Ordering} {f : F} (ms : List Member) (xs ys : List ℕ) → IsPermutation (range_with_len 0 (length ms)) xs → IsPermutation xs ys
     → ((lt : ℕ → ℕ → Bool) → IsStrictWeakOrder lt → ComparesAs g lt f → IsSortedBy lt ys)
-    → ((a : Bor ℕ × (Bor ℕ × Unit {0})) (r : Ordering) (f' : F) → Called g f a r f' → (r ≡ place_cmp (map labels_of ms) a.0.now a.1.0.now) × (f' ≡ f))
-    → IsDistinct same_member (map member_state ms) → ys ≡ places_in_order (map labels_of ms)
-sorted_places ms xs ys all moved sorted answers apart =
+    → ((a : Bor ℕ × (Bor ℕ × Unit {0})) (r : Ordering) (f' : F) → Called g f a r f' → (r ≡ index_cmp (map labels_of ms) a.0.now a.1.0.now) × (f' ≡ f))
+    → IsDistinct same_member (map member_state ms) → ys ≡ indexes_in_order (map labels_of ms)
+sorted_indexes ms xs ys all moved sorted answers apart =
     let sets = map labels_of ms in
     let as_many : range_with_len 0 (length ms) ≡ range_with_len 0 (length sets) = ap (range_with_len 0) (sym (length-map ms labels_of)) in
     let from : IsPermutation (range_with_len 0 (length sets)) ys =
-    subst (λ all_places. IsPermutation all_places ys) as_many (IsPermutation-trans (range_with_len 0 (length ms)) xs ys all moved) in
-    sort_by_is_in_order (place_cmp sets) (place_cmp_total sets) (range_with_len 0 (length sets)) ys from sorted answers (places_apart ms apart)
+    subst (λ all_indexes. IsPermutation all_indexes ys) as_many (IsPermutation-trans (range_with_len 0 (length ms)) xs ys all moved) in
+    sort_by_is_in_order (index_cmp sets) (index_cmp_total sets) (range_with_len 0 (length sets)) ys from sorted answers (indexes_apart ms apart)
 
--- one place more behind others
+-- one index more behind others
 pub one_added : (i : ℕ) (xs ys : List ℕ) → IsPermutation (range_with_len 0 i) xs → ys ≡ xs ++ i ∷ [] → IsPermutation (range_with_len 0 (i + 1)) ys
 one_added i xs ys moved added =
-    subst (λ all_places. IsPermutation all_places ys) (sym (counting i))
+    subst (λ all_indexes. IsPermutation all_indexes ys) (sym (counting i))
     (subst (IsPermutation (range_with_len 0 i ++ i ∷ [])) (sym added) (IsPermutation-append_left (i ∷ []) (range_with_len 0 i) xs moved))
 
--- no place is there
-pub none_there : (ms : List Member) → ArePlaces [] ms
+-- no index is there
+pub none_there : (ms : List Member) → AreIndexes [] ms
 none_there [] = record { first = IsPermutation-refl []; within = omega arith; sorted = λ whole. refl }
 none_there (m ∷ ms) = record { first = IsPermutation-refl []; within = omega arith; sorted = λ whole. absurd (omega (arith, whole)) }
 
--- all places are there, in the order of labels
-pub all_sorted : (ms : List Member) (ps : List ℕ) → ps ≡ places_in_order (map labels_of ms) → IsPermutation (range_with_len 0 (length ms)) ps → ArePlaces ps ms
+-- all indexes are there, in the order of labels
+pub all_sorted : (ms : List Member) (ps : List ℕ) → ps ≡ indexes_in_order (map labels_of ms) → IsPermutation (range_with_len 0 (length ms)) ps → AreIndexes ps ms
 all_sorted ms ps is moved =
     let as_many : length ps ≡ length ms = length_permutation (range_with_len 0 (length ms)) ps moved ∙ length-range_with_len 0 (length ms) in
     record {
@@ -110,7 +110,7 @@ all_sorted ms ps is moved =
       sorted = λ whole. is;
     }
 
--- ---- the alerts at the places
+-- ---- the alerts at the indexes
 
 given : {X Y : Type 0} (h : X → Option Y) (xs : List X) → filter_map h xs ≡ filter_map (λ (o : Option Y). o) (map h xs)
 given h [] = refl
@@ -120,7 +120,7 @@ all_given : {X : Type 0} (xs : List X) → filter_map (λ (o : Option X). o) (ma
 all_given [] = refl
 all_given (x ∷ xs) = ap (λ ys. x ∷ ys) (all_given xs)
 
--- one place more
+-- one index more
 pub there_more : (ms : List Member) (ps : List ℕ) (i : ℕ) (o : Option Member) → i < length ps → slice_get ms (get_or ps i 0) ≡ o
     → filter_map (slice_get ms) (take (i + 1) ps) ≡ filter_map (slice_get ms) (take i ps) ++ cons_option o []
 there_more ms ps i o within at =
@@ -134,19 +134,19 @@ options_alike None (Some n) = refl
 options_alike (Some m) None = refl
 options_alike (Some m) (Some n) = refl
 
-place_told : (ms : List Member) (i j : ℕ) → option_cmp member_cmp (slice_get ms i) (slice_get ms j) ≡ place_cmp (map labels_of ms) i j
-place_told ms i j =
+index_mapped : (ms : List Member) (i j : ℕ) → option_cmp member_cmp (slice_get ms i) (slice_get ms j) ≡ index_cmp (map labels_of ms) i j
+index_mapped ms i j =
     options_alike (slice_get ms i) (slice_get ms j)
     ∙ (λ k. option_cmp label_set_cmp (sym (slice_get-map labels_of ms i) k) (sym (slice_get-map labels_of ms j) k))
 
--- at the places in order the alerts stand in order
-pub members_there : (ms : List Member) → filter_map (slice_get ms) (places_in_order (map labels_of ms)) ≡ in_order member_cmp ms
+-- at the indexes in order the alerts are in order
+pub members_there : (ms : List Member) → filter_map (slice_get ms) (indexes_in_order (map labels_of ms)) ≡ in_order member_cmp ms
 members_there ms =
     let sets = map labels_of ms in
     let all = range_with_len 0 (length sets) in
-    given (slice_get ms) (in_order (place_cmp sets) all)
+    given (slice_get ms) (in_order (index_cmp sets) all)
     ∙ ap (filter_map (λ (o : Option Member). o))
-    (in_order-map (place_cmp sets) (option_cmp member_cmp) (slice_get ms) (place_told ms) all
+    (in_order-map (index_cmp sets) (option_cmp member_cmp) (slice_get ms) (index_mapped ms) all
     ∙ ap (λ n. in_order (option_cmp member_cmp) (map (slice_get ms) (range_with_len 0 n))) (length-map ms labels_of)
     ∙ ap (in_order (option_cmp member_cmp)) (all_there ms)
     ∙ sym (in_order-map member_cmp (option_cmp member_cmp) Some (λ m n. refl) ms))

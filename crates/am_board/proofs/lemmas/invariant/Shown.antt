@@ -32,10 +32,10 @@ log_rows-more log i slot within at =
     ∙ log_rows-append (take i log) (slot ∷ [])
 
 pub rows-added : (log : Slots GroupName (List Label)) (i : ℕ) (key : LogKey GroupName) (row : Option (LogRow (List Label))) (b : Bool) → i < length log → slice_get log i ≡ Some (key, row) → is_some row ≡ b → length (log_rows (take (i + 1) log)) ≡ length (log_rows (take i log)) + cond b 1 0
-rows-added log i key row b within at told =
+rows-added log i key row b within at returned =
     ap length (log_rows-more log i (key, row) within at)
     ∙ length-append (log_rows (take i log)) (log_rows ((key, row) ∷ []))
-    ∙ ap (λ n. length (log_rows (take i log)) + n) (one row ∙ ap (λ d. cond d 1 0) told)
+    ∙ ap (λ n. length (log_rows (take i log)) + n) (one row ∙ ap (λ d. cond d 1 0) returned)
   where
     one : (o : Option (LogRow (List Label))) → length (log_rows ((key, o) ∷ [])) ≡ cond (is_some o) 1 0
     one None = refl
@@ -59,9 +59,9 @@ alerts_counted (g ∷ groups) =
     ∙ (λ i. sym (length-map g.members.items member_state) i + alerts_counted groups i)
     ∙ sym (sum_by-cons (λ (h : GroupState). length h.members) (group_state g) (map group_state groups))
 
--- what holds of each group holds of the one at a place
-pub at_place : (P : GroupState → Type 0) (groups : List Group) (i : ℕ) (g : Group) → All P (map group_state groups) → i < length groups → g ≡ get_or groups i g → P (group_state g)
-at_place P groups i g all within is =
+-- what holds of each group holds of the one at an index
+pub at_index : (P : GroupState → Type 0) (groups : List Group) (i : ℕ) (g : Group) → All P (map group_state groups) → i < length groups → g ≡ get_or groups i g → P (group_state g)
+at_index P groups i g all within is =
     let there : i < length (map group_state groups) = omega (arith, within, length-map groups group_state) in
     let at : get_or (map group_state groups) i (group_state g) ≡ group_state g = get_or-map group_state groups i g (group_state g) within ∙ ap group_state (sym is) in
     subst P at (all i (group_state g) there)

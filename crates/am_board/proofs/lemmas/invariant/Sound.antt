@@ -35,14 +35,14 @@ use Rattle.am_model.proofs.configuration.Faultless.{few_integrations, retention_
 use Rattle.am_model.proofs.legal.Histories.{replay_appends, legal_appends}
 use Rattle.am_board.specs.Marks.{is_marked, marks_of}
 
--- how many flushes are open, as the state tells it
+-- how many flushes are open, as the state says it
 pub opened_now : (s : kept.State) → vec_len s.flushes ≡ length (state_of s).flushes
 opened_now s = s.flushes.ok.0 ∙ sym (length-map s.flushes.items flush_state)
 
 -- no more is known, and there are no more groups and silences, than the limits
 abbrev pub IsFew : Config → State → Type 0
 IsFew config s =
-    (length s.known ≤ config.limits.names) × (length s.groups ≤ config.limits.groups) × (length s.silences ≤ config.limits.silences)
+    (length s.known ≤ config.limits.alerts) × (length s.groups ≤ config.limits.groups) × (length s.silences ≤ config.limits.silences)
 
 -- the whole history with another state
 abbrev pub whole_with : Inside → kept.State → List Record
@@ -115,8 +115,8 @@ module _ (b : Inside) (sound : IsSound b) where
 
   module _ (r : Record) (new : kept.State) (accepts : AppliesCall b.config b.id r b.state new) where
     -- the reply is the one that the definitions give at the state after the history
-    pub told_at : reply b.config b.id replayed r.call ≡ Some r.reply
-    told_at = sym (reply-agrees (state_of b.state) replayed sound.agrees consistent_now.rows b.config b.id r.call) ∙ accepts.told
+    pub returned_at : reply b.config b.id replayed r.call ≡ Some r.reply
+    returned_at = sym (reply-agrees (state_of b.state) replayed sound.agrees consistent_now.rows b.config b.id r.call) ∙ accepts.returned
 
     -- the history with the record
     history_then : whole_with b new ≡ whole b ++ r ∷ []
@@ -126,7 +126,7 @@ module _ (b : Inside) (sound : IsSound b) where
     pub legal_then : IsLegal b.config b.id (whole_with b new)
     legal_then =
         subst (IsLegal b.config b.id) (sym history_then)
-        ((legal_appends b.config b.id (whole b) r).1 (sound.legal, told_at))
+        ((legal_appends b.config b.id (whole b) r).1 (sound.legal, returned_at))
 
     -- the state is the replay of the history with the record
     pub agrees_then : EqualUpToRowOrder (state_of new) (replay b.config (whole_with b new))
@@ -191,7 +191,7 @@ module _ (b : Inside) (sound : IsSound b) where
           agrees = subst (λ (s : State). EqualUpToRowOrder s (replay b.config (whole_with b new))) (sym stays.state) (subst (λ (h : List Record). EqualUpToRowOrder (state_of b.state) (replay b.config h)) same_whole sound.agrees);
           counted = sound.counted;
           few = sound.few;
-          names = subst (λ (s : State). length s.known ≤ b.config.limits.names) (sym stays.state) sound.names;
+          names = subst (λ (s : State). length s.known ≤ b.config.limits.alerts) (sym stays.state) sound.names;
           groups = subst (λ (s : State). length s.groups ≤ b.config.limits.groups) (sym stays.state) sound.groups;
           silences = subst (λ (s : State). length s.silences ≤ b.config.limits.silences) (sym stays.state) sound.silences;
           opened = omega (arith, same_opened, sound.opened);
@@ -243,7 +243,7 @@ new_sound b learnt names configured few limits new none nothing =
       agrees = subst (λ (h : List Record). EqualUpToRowOrder (state_of s) (replay config h)) (sym empty) (subst (λ (x : State). EqualUpToRowOrder x opening_state) (sym new.state) (EqualUpToRowOrder-refl opening_state));
       counted = none ∙ sym (ap (λ (h : List Record). length h) nothing);
       few = omega (arith, none);
-      names = subst (λ (x : State). length x.known ≤ config.limits.names) (sym new.state) (omega arith);
+      names = subst (λ (x : State). length x.known ≤ config.limits.alerts) (sym new.state) (omega arith);
       groups = subst (λ (x : State). length x.groups ≤ config.limits.groups) (sym new.state) (omega arith);
       silences = subst (λ (x : State). length x.silences ≤ config.limits.silences) (sym new.state) (omega arith);
       opened = omega (arith, new.unflushed);

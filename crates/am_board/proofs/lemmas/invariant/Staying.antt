@@ -5,7 +5,7 @@ use Rattle.std.proofs.lemmas.List.{length-map}
 use Rattle.am_alerts.specs.Fault.{ok_unless}
 use Rattle.am_model.specs.declared.config.Config.{Config}
 use Rattle.am_model.specs.declared.fault.Fault.{Fault}
-use Rattle.am_model.specs.declared.fault.Fault.TheVariants.{NoMemory, TooManyNames, TooManyGroups, TooManySilences, TooManyOpen, HistoryFull}
+use Rattle.am_model.specs.declared.fault.Fault.TheVariants.{NoMemory, TooManyAlerts, TooManyGroups, TooManySilences, TooManyOpen, HistoryFull}
 use Rattle.am_board.specs.declared.state.State as kept
 use Rattle.am_model.specs.Causes.{is_full}
 use Rattle.am_board.specs.Refinement.{state_of, flush_state, EqualUpToRowOrder}
@@ -16,7 +16,7 @@ use Rattle.am_model.specs.State.{State}
 -- the first cause may be answered
 pub cause_answered : (fault : Fault) → IsAnswer (Some fault) fault
 cause_answered NoMemory = refl
-cause_answered TooManyNames = refl
+cause_answered TooManyAlerts = refl
 cause_answered TooManyGroups = inl refl
 cause_answered TooManySilences = refl
 cause_answered TooManyOpen = inl refl

@@ -9,14 +9,14 @@ use Rattle.am_model.specs.declared.views.RowView.{RowView}
 
 pub load-allowed : (config : Config) (t : ℕ) (row : RowView) → row_cause config t row ≡ None → may_load config t row ≡ true
 load-allowed config t row none =
-    elim (has_integration config row) as (λ b. (if not b then Some load.NoIntegration else (if not (is_ordered row) then Some load.Unordered else (if nat_lt t row.moment then Some load.Ahead else None))) ≡ None
-    → (b && is_ordered row && nat_le row.moment t) ≡ true) [
+    elim (has_integration config row) as (λ b. (if not b then Some load.NoIntegration else (if not (is_ordered row) then Some load.Unordered else (if nat_lt t row.time then Some load.Ahead else None))) ≡ None
+    → (b && is_ordered row && nat_le row.time t) ≡ true) [
       | false ↦ λ e. absurd (cc)
       | true ↦ λ e.
-          elim (is_ordered row) as (λ b. (if not b then Some load.Unordered else (if nat_lt t row.moment then Some load.Ahead else None)) ≡ None → (b && nat_le row.moment t) ≡ true) [
+          elim (is_ordered row) as (λ b. (if not b then Some load.Unordered else (if nat_lt t row.time then Some load.Ahead else None)) ≡ None → (b && nat_le row.time t) ≡ true) [
             | false ↦ λ f. absurd (cc)
             | true ↦ λ f.
-                elim (nat_lt t row.moment) as (λ b. nat_lt t row.moment ≡ b → (if b then Some load.Ahead else None) ≡ None → nat_le row.moment t ≡ true) [
+                elim (nat_lt t row.time) as (λ b. nat_lt t row.time ≡ b → (if b then Some load.Ahead else None) ≡ None → nat_le row.time t ≡ true) [
                   | true ↦ λ g h. absurd (cc)
                   | false ↦ λ g h. grind (arith, nat_tests, g)
                 ] refl f

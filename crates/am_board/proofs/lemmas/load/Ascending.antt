@@ -1,4 +1,4 @@
--- Lists that rise strictly, told by each two that stand side by side.
+-- Lists that rise strictly, reported by each two that are side by side.
 use Rattle.std.proofs.Common.{◌≡◌, ℕ, zero, suc, ◌+◌, ◌-◌, ◌<◌, ◌≤◌, Bool, true, false, not, ◌&&◌, List, [], ◌∷◌, drop, length, refl, sym, ap, ◌∙◌, arith, is_ge, slice_index_or}
 use Rattle.std.specs.Cmp.{IsTotalOrder}
 use Rattle.std.specs.List.{list_all}
@@ -65,7 +65,7 @@ module _ {X : Type 0} (cmp : X → X → Ordering) (order : IsTotalOrder cmp) wh
   ascending-short (x ∷ y ∷ ys) zero h = absurd (omega (arith, h))
   ascending-short (x ∷ xs) (suc n) h = ascending-short xs n (omega (arith, h))
 
-  -- the list from one place on rises, if this one is below the next, and the list from there on rises
+  -- the list from one index on rises, if this one is below the next, and the list from there on rises
   pub ascending-on : (xs : List X) (i : ℕ) (x y : X) → 1 ≤ i → i < length xs → x ≡ slice_index_or xs (i - 1) x → y ≡ slice_index_or xs i y
       → is_ascending cmp (drop (i - 1) xs) ≡ (not (is_ge (cmp x y)) && is_ascending cmp (drop i xs))
   ascending-on xs i x y some within at_x at_y =

@@ -25,7 +25,7 @@ use Rattle.am_model.proofs.lists.Distinct.{IsDistinct-last}
 use Rattle.am_model.proofs.states.Alike.{same_name_equiv}
 use Rattle.am_board.specs.Loading.{key_of, KnowsNoLess}
 use Rattle.am_board.specs.LogRows.{log_rows}
-use Rattle.am_board.specs.Refinement.{IsAsked, IsPrepared}
+use Rattle.am_board.specs.Refinement.{IsNotified, IsPrepared}
 use Rattle.am_board.specs.declared.flush.OpenFlush.{OpenFlush}
 use Rattle.am_board.proofs.lemmas.invariant.LogRows.{entry_of-log_rows, log_rows-with_key, log_rows-with_row}
 
@@ -70,8 +70,8 @@ module _ (log new : Slots GroupName (List Label)) (row : RowView) (is : new ≡ 
       by false e = subst (HasDistinctKeys same_name) (by_time false e) distinct
 
   -- what becomes of the row
-  pub merge-told : (t : ℕ) (b : Bool) → nat_lt row.expiry t ≡ false → later ≡ b → loaded (log_rows log) t row ≡ (if b then Put else Kept)
-  merge-told t b e f =
+  pub merge-loaded : (t : ℕ) (b : Bool) → nat_lt row.expiry t ≡ false → later ≡ b → loaded (log_rows log) t row ≡ (if b then Put else Kept)
+  merge-loaded t b e f =
       ap (λ c. if c then Expired else loaded_by row (find (same_key row) (log_rows log))) e
       ∙ by_entry row (find (same_key row) (log_rows log))
       ∙ ap (λ o. if is_later (log_row row) o then Put else Kept) (entry_of-log_rows same_name (λ a b. refl) log row.group row.integration before)
@@ -90,11 +90,11 @@ module _ (log new : Slots GroupName (List Label)) (row : RowView) (is : new ≡ 
       by : (b : Bool) → later ≡ b → IsPermutation (log_rows new) (after (loaded (log_rows log) t row))
       by true f =
           let moved = log_rows-with_row same_name (λ a b. refl) (with_key same_name log key) key (log_row row) (with_key_distinct f) known in
-          subst (λ l. IsPermutation (log_rows new) (after l)) (sym (merge-told t true e f))
+          subst (λ l. IsPermutation (log_rows new) (after l)) (sym (merge-loaded t true e f))
           (subst (λ l. IsPermutation (log_rows l) (log_with row (log_rows log))) (sym (by_time true f))
           (subst (λ rows. IsPermutation (log_rows put) (log_with row rows)) (log_rows-with_key same_name log key) moved))
       by false f =
-          subst (λ l. IsPermutation (log_rows new) (after l)) (sym (merge-told t false e f))
+          subst (λ l. IsPermutation (log_rows new) (after l)) (sym (merge-loaded t false e f))
           (subst (λ l. IsPermutation (log_rows l) (log_rows log)) (sym (by_time false f)) (IsPermutation-refl (log_rows log)))
 
   -- each key that was known stays so
@@ -113,6 +113,6 @@ prepared-knowing config log new fs more h =
     All-weaker (IsPrepared config log) (IsPrepared config new)
     (λ f k. record {
       kept_for = k.kept_for;
-      asked = All-weaker (IsAsked log f) (IsAsked new f) (λ a j. record { group = j.group; known = more a.key j.known; sets = j.sets }) f.asked.items k.asked;
+      notified = All-weaker (IsNotified log f) (IsNotified new f) (λ a j. record { group = j.group; known = more a.key j.known; sets = j.sets }) f.notified.items k.notified;
     })
     fs h

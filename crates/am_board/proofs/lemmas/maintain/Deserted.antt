@@ -8,7 +8,7 @@ use Rattle.am_nflog.specs.Members.{is_empty}
 use Rattle.am_model.specs.Insert.{same_group}
 use Rattle.am_model.specs.Laws.{IsHeld}
 use Rattle.am_model.specs.State.{GroupState, FlushState, is_flushing, is_named, members_in, same_name}
-use Rattle.am_model.specs.Upkeep.{is_deserted}
+use Rattle.am_model.specs.Maintenance.{has_no_alerts}
 use Rattle.am_model.specs.declared.config.Config.{Config}
 use Rattle.am_model.specs.declared.group.GroupName.{GroupName}
 use Rattle.am_model.proofs.lists.Alone.{IsAlone, alone-distinct, find-alone}
@@ -30,10 +30,10 @@ of_name n (f ∷ fs) h P all =
       | false ↦ λ e there. of_name n fs there P all.1
     ] refl h
 
-pub deserted_closed : (config : Config) (s : kept.State) → StateInvariant config s → AllByRecursion (λ g. is_deserted (group_state g) ≡ true → g.is_open ≡ false) s.groups.items
-deserted_closed config s good = all_to (λ (g : Group). is_deserted (group_state g) ≡ true → g.is_open ≡ false) s.groups.items closed
+pub deserted_closed : (config : Config) (s : kept.State) → StateInvariant config s → AllByRecursion (λ g. has_no_alerts (group_state g) ≡ true → g.is_open ≡ false) s.groups.items
+deserted_closed config s good = all_to (λ (g : Group). has_no_alerts (group_state g) ≡ true → g.is_open ≡ false) s.groups.items closed
   where
-    closed : All (λ (g : Group). is_deserted (group_state g) ≡ true → g.is_open ≡ false) s.groups.items
+    closed : All (λ (g : Group). has_no_alerts (group_state g) ≡ true → g.is_open ≡ false) s.groups.items
     closed j d within gone =
         let gs : List Group = s.groups.items in
         let fs : List FlushState = map flush_state s.flushes.items in

@@ -12,7 +12,7 @@ use Rattle.am_nflog.specs.declared.key.LogKey.{LogKey}
 use Rattle.am_model.specs.declared.config.Config.{Config}
 use Rattle.am_board.specs.declared.flush.OpenFlush.{OpenFlush}
 use Rattle.am_model.specs.declared.group.GroupName.{GroupName}
-use Rattle.am_board.specs.Refinement.{IsAsked, IsPrepared}
+use Rattle.am_board.specs.Refinement.{IsNotified, IsPrepared}
 use Rattle.am_model.specs.Lists.{without}
 use Rattle.am_model.specs.State.{same_name}
 
@@ -38,7 +38,7 @@ module _ {X Y : Type 0} (test : Y → Bool) (f : X → Y) where
   length-without xs =
       let parts : length (filter (λ x. test (f x)) xs) + length (filter (λ x. not (test (f x))) xs) ≡ length xs = length-filter_both (λ x. test (f x)) (λ x. not (test (f x))) (λ x. refl) xs in
       let gone : length (filter (λ x. test (f x)) xs) ≡ count_by (λ x. test (f x)) xs = length-filter (λ x. test (f x)) xs in
-      let told : count_by test (map f xs) ≡ count_by (λ x. test (f x)) xs = count_by-map xs in
+      let fact : count_by test (map f xs) ≡ count_by (λ x. test (f x)) xs = count_by-map xs in
       omega arith
 
 -- what holds of each image holds of those that stay
@@ -63,6 +63,6 @@ prepared-collected config t log fs h =
     All-weaker (IsPrepared config log) (IsPrepared config (collected t log))
     (λ f k. record {
       kept_for = k.kept_for;
-      asked = All-weaker (IsAsked log f) (IsAsked (collected t log) f) (λ a j. record { group = j.group; known = subst IsTrue (sym (known-collected t log a.key)) j.known; sets = j.sets }) f.asked.items k.asked;
+      notified = All-weaker (IsNotified log f) (IsNotified (collected t log) f) (λ a j. record { group = j.group; known = subst IsTrue (sym (known-collected t log a.key)) j.known; sets = j.sets }) f.notified.items k.notified;
     })
     fs h

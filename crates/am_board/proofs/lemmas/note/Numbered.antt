@@ -10,7 +10,7 @@ use Rattle.am_board.specs.Refinement.{flush_state}
 use Rattle.am_board.specs.declared.flush.OpenFlush.{OpenFlush}
 use Rattle.am_board.proofs.lemmas.invariant.DueKeys.{fails_at}
 
--- an element that alone passes is at its place
+-- an element that alone passes is at its index
 only : {X : Type 0} (test : X → Bool) (xs : List X) (i j : ℕ) (d : X) → IsAlone test xs i → j < length xs → test (get_or xs j d) ≡ true → j ≡ i
 only test [] i j d alone within h = absurd alone
 only test (x ∷ xs) zero zero d alone within h = refl

@@ -5,7 +5,7 @@ use Rattle.am_model.specs.Causes.{row_cause}
 use Rattle.am_model.specs.Finish.{log_with}
 use Rattle.am_model.specs.Load.{is_put, loaded, may_load, rows_loading}
 use Rattle.am_model.specs.Records.{entry}
-use Rattle.am_model.specs.State.{moment}
+use Rattle.am_model.specs.State.{time}
 use Rattle.am_model.specs.declared.fault.LoadFault.TheVariants as load
 use Rattle.am_model.specs.declared.record.Call.TheVariants.{Load}
 use Rattle.am_model.specs.declared.record.Reply.TheVariants as replies
@@ -23,19 +23,19 @@ returns c =
     let old = c.args.state.now in
     let row : RowView = c.args.row in
     let rows : List RowView = log_rows old.log in
-    let u = moment (state_of old) c.args.now in
-    let e : c.moment-t.result ≡ u = c.moment-t.ensures in
+    let u = time (state_of old) c.args.now in
+    let e : c.time-t.result ≡ u = c.time-t.ensures in
     let counted : vec_len old.flushes ≡ length old.flushes.items = omega arith in
     let full = not_full config old 1 counted (omega arith) in
-    let none : row_cause config u row ≡ None = ap (λ t. row_cause config t row) (sym e) ∙ no_fault (row_cause config c.moment-t.result row) tt _ c.in_ok-check_row.ensures.cause in
+    let none : row_cause config u row ≡ None = ap (λ t. row_cause config t row) (sym e) ∙ no_fault (row_cause config c.time-t.result row) tt _ c.in_ok-check_row.ensures.cause in
     let may : may_load config u row ≡ true = load-allowed config u row none in
     let given : c.get.result.now ≡ row = c.get.ensures ∙ c.in_ok-row.ensures in
     let became : c.in_ok-loaded.loaded ≡ loaded rows u row = c.in_ok-loaded.ensures.loaded ∙ (λ i. loaded rows (e i) (given i)) in
-    let left : (if is_put (loaded rows c.moment-t.result c.get.result.now) then log_with c.get.result.now rows else rows) ≡ rows_loading config rows u row =
+    let left : (if is_put (loaded rows c.time-t.result c.get.result.now) then log_with c.get.result.now rows else rows) ≡ rows_loading config rows u row =
     (λ i. if is_put (loaded rows (e i) (given i)) then log_with (given i) rows else rows) ∙ sym (ap (λ b. if b && is_put (loaded rows u row) then log_with row rows else rows) may) in (
       (λ i. option_or (none i) (if full i then Some load.HistoryFull else None)),
       λ id. record {
-        told = ap (λ b. if b then Some (replies.Loaded (loaded rows u row)) else None) may ∙ ap (λ l. Some (replies.Loaded l)) (sym became);
+        returned = ap (λ b. if b then Some (replies.Loaded (loaded rows u row)) else None) may ∙ ap (λ l. Some (replies.Loaded l)) (sym became);
         state = record {
           rows = subst (IsPermutation (log_rows c.put_row.new.log)) left c.in_ok-loaded.ensures.rows;
           rest = λ i. record (state_of old) { clock = e i; rows = log_rows c.put_row.new.log };

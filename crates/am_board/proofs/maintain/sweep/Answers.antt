@@ -9,8 +9,8 @@ use Rattle.am_model.specs.Records.{entry}
 use Rattle.am_board.specs.Refinement.{state_of, IsPrepared}
 use Rattle.am_board.specs.LogRows.{log_rows}
 use Rattle.am_model.specs.Lists.{without}
-use Rattle.am_model.specs.State.{State, GroupState, moment}
-use Rattle.am_model.specs.Upkeep.{has_expired}
+use Rattle.am_model.specs.State.{State, GroupState, time}
+use Rattle.am_model.specs.Maintenance.{has_expired}
 use Rattle.am_board.proofs.lemmas.invariant.LogRows.{log_rows-collected, expired_count-rows}
 use Rattle.am_board.proofs.lemmas.maintain.Maintenance.{prepared-collected}
 use Rattle.am_board.proofs.lemmas.invariant.Staying.{not_full}
@@ -27,26 +27,26 @@ returns c =
     let old = c.args.state.now in
     let counted : vec_len old.flushes ≡ length old.flushes.items = omega arith in
     let full = not_full c.args.config.now old 1 counted (omega arith) in
-    let t = c.moment-t.result in
-    let u = moment (state_of old) c.args.now in
-    let e : t ≡ u = c.moment-t.ensures in
+    let t = c.time-t.result in
+    let u = time (state_of old) c.args.now in
+    let e : t ≡ u = c.time-t.ensures in
     let rows : log_rows c.collect.new.self ≡ without (has_expired u) (log_rows old.log) =
     ap log_rows c.collect.ensures.collected ∙ log_rows-collected t old.log ∙ ap (λ m. without (has_expired m) (log_rows old.log)) e in
     let gone : c.collect.result ≡ count_by (has_expired u) (log_rows old.log) =
     c.collect.ensures.count ∙ expired_count-rows t old.log ∙ ap (λ m. count_by (has_expired m) (log_rows old.log)) e in (
       ap (λ b. if b then Some HistoryFull else None) full,
       λ id. record {
-        told = λ i. Some (Maintained (record { groups = sym c.drop_deserted.ensures.count i; entries = sym gone i }));
+        returned = λ i. Some (Maintained (record { groups = sym c.drop_empty.ensures.count i; entries = sym gone i }));
         state = record {
           rows = subst (λ l. IsPermutation l (without (has_expired u) (log_rows old.log))) (sym rows) (IsPermutation-refl (without (has_expired u) (log_rows old.log)));
-          rest = with_groups (state_of old) (log_rows c.collect.new.self) t u _ _ e c.drop_deserted.ensures.groups;
+          rest = with_groups (state_of old) (log_rows c.collect.new.self) t u _ _ e c.drop_empty.ensures.groups;
         };
-        routed = c.drop_deserted.ensures.routed c.args.config.now.routes c.requires.good.routed;
+        routed = c.drop_empty.ensures.routed c.args.config.now.routes c.requires.good.routed;
         prepared = subst (λ log. All (IsPrepared c.args.config.now log) old.flushes.items) (sym c.collect.ensures.collected) (prepared-collected c.args.config.now t old.log old.flushes.items c.requires.good.prepared);
         marked = λ name.
-            ap (λ gs. is_marked (marks_of gs) name) c.drop_deserted.ensures.kept
+            ap (λ gs. is_marked (marks_of gs) name) c.drop_empty.ensures.kept
             ∙ (marked_without old.groups.items (deserted_closed c.args.config.now old c.requires.good) name ∙ c.requires.good.marked name);
-        history = c.push_reserved.ensures.items ∙ ap (λ h. h ++ entry c.args.pass (Maintain c.args.now) (Maintained (record { groups = c.drop_deserted.result; entries = c.collect.result })) ∷ []) c.in_ok-reserve.ensures.items;
+        history = c.push_reserved.ensures.items ∙ ap (λ h. h ++ entry c.args.pass (Maintain c.args.now) (Maintained (record { groups = c.drop_empty.result; entries = c.collect.result })) ∷ []) c.in_ok-reserve.ensures.items;
         records = omega arith;
         room = omega (arith, c.in_ok-reserve.ensures.ok, c.in_ok-reserve.ensures.len, c.push_reserved.ensures.len, c.push_reserved.ensures.capacity, c.len.ensures);
       },

@@ -21,22 +21,22 @@ use Rattle.am_board.proofs.note.note_success.Goals.{In_ok-found}
 use Rattle.am_board.proofs.lemmas.invariant.Staying.{stays_itself, has_room}
 
 -- what was found is among the flushes of the state
-found-in : (c : In_ok-found) → IsNoteTarget c.args.state.now.flushes.items c.args.ticket.now c.args.place c.in_ok-found.found
-found-in c = subst (λ fs. IsNoteTarget fs c.args.ticket.now c.args.place c.in_ok-found.found) c.as_slice.ensures.value c.in_ok-found.ensures.found
+found-in : (c : In_ok-found) → IsNoteTarget c.args.state.now.flushes.items c.args.ticket.now c.args.index c.in_ok-found.found
+found-in c = subst (λ fs. IsNoteTarget fs c.args.ticket.now c.args.index c.in_ok-found.found) c.as_slice.ensures.value c.in_ok-found.ensures.found
 
 -- the cause that is left
-left : (c : In_ok-found) → flush_cause c.args.config.now (vec_len c.args.state.now.history) (state_of c.args.state.now) c.args.ticket.now c.args.place (flush_numbered (map flush_state c.args.state.now.flushes.items) c.args.ticket.now.number)
+left : (c : In_ok-found) → flush_cause c.args.config.now (vec_len c.args.state.now.history) (state_of c.args.state.now) c.args.ticket.now c.args.index (flush_numbered (map flush_state c.args.state.now.flushes.items) c.args.ticket.now.number)
     ≡ (if is_full c.args.config.now (vec_len c.args.state.now.history) (state_of c.args.state.now) 1 then Some note.HistoryFull else None)
 left c =
     let there = element (λ (f : OpenFlush). nat_eq f.number c.args.ticket.now.number) c.args.state.now.flushes.items c.in_ok-found.found.flush (found-in c).first in
-    cause-left c.args.config.now c.args.state.now c.args.ticket.now c.args.place c.in_ok-found.found (found-in c) there.0 there.2
+    cause-left c.args.config.now c.args.state.now c.args.ticket.now c.args.index c.in_ok-found.found (found-in c) there.0 there.2
 
 pub returns-in_err-found : goal.returns-in_err-found
 returns-in_err-found c =
     let kept : map flush_state c.args.state.now.flushes.items ≡ map flush_state c.as_slice.result.now = ap (map flush_state) (sym c.as_slice.ensures.value) in
-    let cause : IfErr c.from_residual.result (λ fault. flush_cause c.args.config.now (vec_len c.args.state.now.history) (state_of c.args.state.now) c.args.ticket.now c.args.place (flush_numbered (map flush_state c.args.state.now.flushes.items) c.args.ticket.now.number) ≡ Some fault) =
+    let cause : IfErr c.from_residual.result (λ fault. flush_cause c.args.config.now (vec_len c.args.state.now.history) (state_of c.args.state.now) c.args.ticket.now c.args.index (flush_numbered (map flush_state c.args.state.now.flushes.items) c.args.ticket.now.number) ≡ Some fault) =
     search (rules, c.in_err-found.ensures.cause c.args.config.now (vec_len c.args.state.now.history) (state_of c.args.state.now) kept) in
-    refused c.from_residual.result _ (flush_cause c.args.config.now (vec_len c.args.state.now.history) (state_of c.args.state.now) c.args.ticket.now c.args.place (flush_numbered (map flush_state c.args.state.now.flushes.items) c.args.ticket.now.number)) (LeavesUnchanged c.args.config.now c.args.state.now c.args.state.now) c.from_residual.ensures.0 cause
+    refused c.from_residual.result _ (flush_cause c.args.config.now (vec_len c.args.state.now.history) (state_of c.args.state.now) c.args.ticket.now c.args.index (flush_numbered (map flush_state c.args.state.now.flushes.items) c.args.ticket.now.number)) (LeavesUnchanged c.args.config.now c.args.state.now c.args.state.now) c.from_residual.ensures.0 cause
     (stays_itself c.args.config.now c.args.state.now c.requires.good)
 
 pub returns-then-not-has_room : goal.returns-then-not-has_room
@@ -67,7 +67,7 @@ returns c =
     let room : vec_len c.args.state.now.history + vec_len c.args.state.now.flushes + 1 ≤ c.args.config.now.limits.history = c.has_room.ensures.0 c.if-not-has_room.false in
     let none = left (goal.at.returns c).In_ok-found ∙ ap (λ b. if b then Some note.HistoryFull else None) (has_room c.args.config.now c.args.state.now room) in
     let new : kept.State = record {
-      clock = c.moment-t.result;
+      clock = c.time-t.result;
       inserts = old.inserts;
       known = old.known;
       groups = old.groups;
@@ -77,7 +77,7 @@ returns c =
       next_number = old.next_number;
       history = c.push_reserved.new.self;
     } in
-    let notice = the_notice (slice_get c.args.ticket.now.notices c.args.place) c.in_ok-found.found.integration found.notice in
+    let notice = the_notice (slice_get c.args.ticket.now.notices c.args.index) c.in_ok-found.found.integration found.notice in
     let is : entry c.args.pass (Note c.args.now c.args.ticket.now.number c.in_ok-found.found.integration c.in_ok-found.found.outcome) replies.Noted ≡ entry c.args.pass (Note c.args.now c.args.ticket.now.number notice.0.integration (outcome_of c.args.ticket.now.outcomes notice.0.integration)) replies.Noted =
     ap (λ o. entry c.args.pass (Note c.args.now c.args.ticket.now.number c.in_ok-found.found.integration o) replies.Noted) found.outcome
     ∙ ap (λ j. entry c.args.pass (Note c.args.now c.args.ticket.now.number j (outcome_of c.args.ticket.now.outcomes j)) replies.Noted) (sym notice.2) in
@@ -91,9 +91,9 @@ returns c =
       (
         entry c.args.pass (Note c.args.now c.args.ticket.now.number c.in_ok-found.found.integration c.in_ok-found.found.outcome) replies.Noted,
         (notice.0, notice.1, is),
-        λ id. note-accepted c.args.config.now id old new c.args.ticket.now c.args.place c.in_ok-found.found found c.index_mut.result.now c.log_at_once.new.flush c.index_mut.ensures.value c.requires.good c.args.pass c.args.now
+        λ id. note-accepted c.args.config.now id old new c.args.ticket.now c.args.index c.in_ok-found.found found c.index_mut.result.now c.log_at_once.new.flush c.index_mut.ensures.value c.requires.good c.args.pass c.args.now
             (record {
-              clock = c.moment-t.ensures;
+              clock = c.time-t.ensures;
               inserts = refl;
               known = refl;
               groups = refl;

@@ -1,7 +1,7 @@
 use Rattle.std.proofs.Common.{◌≡◌, ◌∙◌, ◌+◌, ◌*◌, refl, ap, max, min, arith}
 use Rattle.am_alerts.specs.declared.route.Route.{Route}
 use Rattle.am_model.specs.declared.notice.TheConstants.{MIN_FLUSH_TIMEOUT}
-use Rattle.am_model.specs.Begin.{asked_of, deadline_of}
+use Rattle.am_model.specs.Begin.{notified_of, deadline_of}
 use Rattle.am_board.specs.Refinement.{group_state, state_of}
 use Rattle.am_board.proofs.lemmas.begin.PlannedFlushes.{all-spare, deadline-is, flush-is, kept_for-is, notices-are}
 use Rattle.am_board.proofs.plan.open.Goals as goal
@@ -12,18 +12,18 @@ returns c =
     let s = state_of c.args.state.now in
     let t = c.args.t in
     let g = c.args.group.now in
-    let asked = asked_of config s t (group_state g) in
+    let notified = notified_of config s t (group_state g) in
     let route = c.route-route.ensures.route in
     let deadline : c.saturating_add-deadline.result ≡ deadline_of config t (group_state g) =
-    deadline-is c.route-route.result.now t c.max.result c.saturating_add-deadline.result c.route-route.ensures.intervals c.requires.moment c.max.ensures c.saturating_add-deadline.ensures
+    deadline-is c.route-route.result.now t c.max.result c.saturating_add-deadline.result c.route-route.ensures.intervals c.requires.time c.max.ensures c.saturating_add-deadline.ensures
     ∙ ap (λ (r : Route). t + max r.group_interval MIN_FLUSH_TIMEOUT) route in
-    let notices = c.in_ok-notices.ensures.items ∙ notices-are config s t g c.args.unmuted.now c.requires.unmuted asked c.args.id c.saturating_add-deadline.result c.args.asked.now c.requires.asked deadline in
+    let notices = c.in_ok-notices.ensures.items ∙ notices-are config s t g c.args.unmuted.now c.requires.unmuted notified c.args.id c.saturating_add-deadline.result c.args.notified.now c.requires.notified deadline in
     record {
-      flush = flush-is config s t g c.args.unmuted.now c.requires.unmuted asked c.min-kept_for.result c.args.asked.now c.requires.asked c.in_ok-flush_of.field-0 c.in_ok-flush_of.ensures;
+      flush = flush-is config s t g c.args.unmuted.now c.requires.unmuted notified c.min-kept_for.result c.args.notified.now c.requires.notified c.in_ok-flush_of.field-0 c.in_ok-flush_of.ensures;
       kept_for = c.in_ok-flush_of.ensures.kept_for
           ∙ (kept_for-is c.route-route.result.now config.retention c.saturating_mul.result c.min-kept_for.result c.route-route.ensures.intervals c.saturating_mul.ensures c.min-kept_for.ensures
           ∙ ap (λ (r : Route). min config.retention (2 * r.repeat_interval)) route);
-      spare = all-spare config s t g c.args.unmuted.now c.requires.unmuted asked c.min-kept_for.result c.args.asked.now c.requires.asked c.in_ok-flush_of.field-0 c.in_ok-flush_of.ensures;
+      spare = all-spare config s t g c.args.unmuted.now c.requires.unmuted notified c.min-kept_for.result c.args.notified.now c.requires.notified c.in_ok-flush_of.field-0 c.in_ok-flush_of.ensures;
       number = refl;
       deadline = deadline;
       group = c.in_ok-copy.ensures;

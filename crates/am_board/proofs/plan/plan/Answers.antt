@@ -4,8 +4,8 @@ use Rattle.am_board.proofs.plan.plan.Goals as goal
 
 pub plan_of-requires-clause-route : goal.plan_of-requires-clause-route
 plan_of-requires-clause-route c =
-    routed_at c.args.config.now.routes c.args.state.now.groups.items c.args.chosen.place c.at-group.result.now c.requires.good.routed c.requires.place c.at-group.ensures
+    routed_at c.args.config.now.routes c.args.state.now.groups.items c.args.chosen.index c.at-group.result.now c.requires.good.routed c.requires.index c.at-group.ensures
 
 pub plan_of-requires-clause-apart : goal.plan_of-requires-clause-apart
 plan_of-requires-clause-apart c =
-    members-apart c.args.state.now.groups.items c.args.chosen.place c.at-group.result.now c.requires.good.consistent.members c.requires.place c.at-group.ensures
+    members-apart c.args.state.now.groups.items c.args.chosen.index c.at-group.result.now c.requires.good.consistent.members c.requires.index c.at-group.ensures

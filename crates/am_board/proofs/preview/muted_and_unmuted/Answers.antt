@@ -5,11 +5,11 @@ use Rattle.am_model.specs.Configured.{route_muted}
 use Rattle.am_model.specs.look_back.Preview.{muted_of}
 use Rattle.am_board.specs.Beginning.{copies_at, copies_of}
 use Rattle.am_board.specs.Members.{labels_of}
-use Rattle.am_board.specs.Order.{places_in_order}
+use Rattle.am_board.specs.Order.{indexes_in_order}
 use Rattle.am_board.specs.Refinement.{group_state, state_of}
 use Rattle.am_board.specs.Walk.{cause_of, muted_at, muted_member}
 use Rattle.am_board.specs.declared.group.Member.{Member}
-use Rattle.am_board.proofs.lemmas.begin.MutedPlaces.{as_muted_alerts}
+use Rattle.am_board.proofs.lemmas.begin.MutedIndexes.{as_muted_alerts}
 use Rattle.am_board.proofs.lemmas.begin.WhatIsUnmuted.{is_walked, not_muted, nothing_found}
 use Rattle.am_board.proofs.preview.muted_and_unmuted.Goals as goal
 use Rattle.am_board.proofs.preview.muted_and_unmuted.Goals.{In_ok-muted}
@@ -21,7 +21,7 @@ muted_are c =
     let rules = c.as_slice-rules.result.now in
     let causes = cause_of rules s c.args.t in
     let same = c.as_slice.ensures.value in
-    c.in_ok-muted.ensures causes (c.in_ok-walk.ensures.muted ∙ ap (λ (l : List Member). filter_map (muted_at causes l) (places_in_order (map labels_of l))) (sym same))
+    c.in_ok-muted.ensures causes (c.in_ok-walk.ensures.muted ∙ ap (λ (l : List Member). filter_map (muted_at causes l) (indexes_in_order (map labels_of l))) (sym same))
     ∙ ap (filter_map (muted_member causes)) same
     ∙ as_muted_alerts c.args.config.now rules s c.args.t c.args.group.now.members.items c.as_slice-rules.ensures
 

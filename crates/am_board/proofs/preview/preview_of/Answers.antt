@@ -10,30 +10,30 @@ use Rattle.am_board.proofs.lemmas.invariant.GroupNames.{routed_at}
 use Rattle.am_board.proofs.preview.preview_of.Goals as goal
 use Rattle.am_board.proofs.preview.preview_of.Goals.{After-at-group}
 
-within : (c : After-at-group) → c.in-Some.place < length c.args.state.now.groups.items
+within : (c : After-at-group) → c.in-Some.index < length c.args.state.now.groups.items
 within c = c.in-Some.ensures.within
 
 pub of-requires-clause-route : goal.of-requires-clause-route
 of-requires-clause-route c =
-    routed_at c.args.config.now.routes c.args.state.now.groups.items c.in-Some.place c.at-group.result.now c.requires.good.routed (within c) c.at-group.ensures
+    routed_at c.args.config.now.routes c.args.state.now.groups.items c.in-Some.index c.at-group.result.now c.requires.good.routed (within c) c.at-group.ensures
 
 pub of-requires-clause-apart : goal.of-requires-clause-apart
 of-requires-clause-apart c =
-    members-apart c.args.state.now.groups.items c.in-Some.place c.at-group.result.now c.requires.good.consistent.members (within c) c.at-group.ensures
+    members-apart c.args.state.now.groups.items c.in-Some.index c.at-group.result.now c.requires.good.consistent.members (within c) c.at-group.ensures
 
 pub returns-in_default : goal.returns-in_default
 returns-in_default c =
     let s = state_of c.args.state.now in
     let config = c.args.config.now in
-    sym (ap (λ t. preview_at config s t) (sym c.moment-t.ensures)
-    ∙ ap (option_map (preview_on config s c.moment-t.result (reason_of config s c.moment-t.result))) (c.in_default.ensures.first (map flush_state c.args.state.now.flushes.items) c.requires.good.marked))
+    sym (ap (λ t. preview_at config s t) (sym c.time-t.ensures)
+    ∙ ap (option_map (preview_on config s c.time-t.result (reason_of config s c.time-t.result))) (c.in_default.ensures.first (map flush_state c.args.state.now.flushes.items) c.requires.good.marked))
 
 pub returns : goal.returns
 returns c =
     let s = state_of c.args.state.now in
     let config = c.args.config.now in
     let g : Group = c.at-group.result.now in
-    let on : GroupState → Preview = preview_on config s c.moment-t.result (reason_of config s c.moment-t.result) in
+    let on : GroupState → Preview = preview_on config s c.time-t.result (reason_of config s c.time-t.result) in
     ap (λ (p : Preview). Some p) (c.in_ok-found.ensures.preview ∙ ap (λ (x : Group). on (group_state x)) c.at-group.ensures)
-    ∙ sym (ap (λ t. preview_at config s t) (sym c.moment-t.ensures)
+    ∙ sym (ap (λ t. preview_at config s t) (sym c.time-t.ensures)
     ∙ ap (option_map on) (c.in-Some.ensures.first (map flush_state c.args.state.now.flushes.items) c.requires.good.marked g))

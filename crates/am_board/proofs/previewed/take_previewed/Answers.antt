@@ -3,12 +3,12 @@ use Rattle.std.specs.Prelude.{All}
 use Rattle.std.specs.Option.{option_map}
 use Rattle.std.proofs.lemmas.Result.{err_from_is_err_and}
 use Rattle.std.proofs.lemmas.List.{get_or_default}
-use Rattle.am_alerts.specs.declared.limits.TheConstants.{MAX_MOMENT}
+use Rattle.am_alerts.specs.declared.limits.TheConstants.{MAX_TIME}
 use Rattle.am_mute.specs.Sources.{AreLearnt}
 use Rattle.am_model.specs.Begin.{taken}
 use Rattle.am_model.specs.Causes.{begin_cause, opens_by}
 use Rattle.am_model.specs.Records.{entry}
-use Rattle.am_model.specs.State.{moment}
+use Rattle.am_model.specs.State.{time}
 use Rattle.am_model.specs.declared.config.Config.{Config}
 use Rattle.am_model.specs.declared.fault.Fault.{Fault}
 use Rattle.am_model.specs.declared.preview.Preview.{Preview}
@@ -24,14 +24,14 @@ use Rattle.am_board.specs.declared.begin.Begun.{Begun}
 use Rattle.am_board.specs.declared.begin.ChosenGroup.{ChosenGroup}
 use Rattle.am_board.specs.declared.group.Group.{Group}
 use Rattle.am_board.specs.declared.state.State.{State}
-use Rattle.am_board.proofs.lemmas.begin.Causes.{IsTold, cause-closed, planned_err, told}
+use Rattle.am_board.proofs.lemmas.begin.Causes.{IsReturned, cause-closed, planned_err, returned}
 use Rattle.am_board.proofs.lemmas.begin.PlannedFlushes.{members-apart}
 use Rattle.am_board.proofs.lemmas.invariant.GroupNames.{routed_at}
 use Rattle.am_board.proofs.lemmas.invariant.Staying.{stays_itself}
 use Rattle.am_board.proofs.previewed.take_previewed.Goals as goal
 
-pub prepare-requires-clause-place : goal.prepare-requires-clause-place
-prepare-requires-clause-place c = c.in-Some.ensures.chosen.place
+pub prepare-requires-clause-index : goal.prepare-requires-clause-index
+prepare-requires-clause-index c = c.in-Some.ensures.chosen.index
 
 pub prepare-requires-clause-apart : goal.prepare-requires-clause-apart
 prepare-requires-clause-apart c = c.requires.good.consistent.members
@@ -40,10 +40,10 @@ prepare-requires-clause-apart c = c.requires.good.consistent.members
 abbrev IsPreviewed : Config → ℕ → ℕ → ℕ → State → State → Result (Begun × Option Preview) Fault → Type 0
 IsPreviewed config id pass now old new result =
     MatchResult result
-    (λ both. (begin_cause config (vec_len old.history) (state_of old) (moment (state_of old) now) ≡ None)
+    (λ both. (begin_cause config (vec_len old.history) (state_of old) (time (state_of old) now) ≡ None)
     × AppliesCall config id (entry pass (Begin now) (reply_of both.0)) old new
-    × (IsFresh id both.0 × (both.1 ≡ preview_at config (state_of old) (moment (state_of old) now))))
-    (λ fault. IsAnswer (begin_cause config (vec_len old.history) (state_of old) (moment (state_of old) now)) fault × LeavesUnchanged config old new)
+    × (IsFresh id both.0 × (both.1 ≡ preview_at config (state_of old) (time (state_of old) now))))
+    (λ fault. IsAnswer (begin_cause config (vec_len old.history) (state_of old) (time (state_of old) now)) fault × LeavesUnchanged config old new)
 
 pub preview_and_plan-requires-clause-sources : goal.preview_and_plan-requires-clause-sources
 preview_and_plan-requires-clause-sources c = subst (λ (x : State). AreLearnt c.args.config.now.rules x.known.items c.args.sources.now) (sym c.prepare.ensures) c.requires.sources
@@ -52,34 +52,34 @@ pub preview_and_plan-requires-clause-route : goal.preview_and_plan-requires-clau
 preview_and_plan-requires-clause-route c =
     let s = c.prepare.new.state in
     let good = subst (StateInvariant c.args.config.now) (sym c.prepare.ensures) c.requires.good in
-    let within = subst (λ (x : State). c.in-Some.chosen.place < length x.groups.items) (sym c.prepare.ensures) c.in-Some.ensures.chosen.place in
-    routed_at c.args.config.now.routes s.groups.items c.in-Some.chosen.place c.at-group.result.now good.routed within c.at-group.ensures
+    let within = subst (λ (x : State). c.in-Some.chosen.index < length x.groups.items) (sym c.prepare.ensures) c.in-Some.ensures.chosen.index in
+    routed_at c.args.config.now.routes s.groups.items c.in-Some.chosen.index c.at-group.result.now good.routed within c.at-group.ensures
 
 pub preview_and_plan-requires-clause-apart : goal.preview_and_plan-requires-clause-apart
 preview_and_plan-requires-clause-apart c =
     let s = c.prepare.new.state in
     let good = subst (StateInvariant c.args.config.now) (sym c.prepare.ensures) c.requires.good in
-    let within = subst (λ (x : State). c.in-Some.chosen.place < length x.groups.items) (sym c.prepare.ensures) c.in-Some.ensures.chosen.place in
-    members-apart s.groups.items c.in-Some.chosen.place c.at-group.result.now good.consistent.members within c.at-group.ensures
+    let within = subst (λ (x : State). c.in-Some.chosen.index < length x.groups.items) (sym c.prepare.ensures) c.in-Some.ensures.chosen.index in
+    members-apart s.groups.items c.in-Some.chosen.index c.at-group.result.now good.consistent.members within c.at-group.ensures
 
-pub preview_and_plan-requires-clause-moments : goal.preview_and_plan-requires-clause-moments
-preview_and_plan-requires-clause-moments c = subst (λ (x : State). All (λ row. row.moment ≤ MAX_MOMENT) (log_rows x.log)) (sym c.prepare.ensures) c.requires.moments
+pub preview_and_plan-requires-clause-times : goal.preview_and_plan-requires-clause-times
+preview_and_plan-requires-clause-times c = subst (λ (x : State). All (λ row. row.time ≤ MAX_TIME) (log_rows x.log)) (sym c.prepare.ensures) c.requires.times
 
 pub begin_with-requires-clause-good : goal.begin_with-requires-clause-good
 begin_with-requires-clause-good c = subst (StateInvariant c.args.config.now) (sym c.prepare.ensures) c.requires.good
 
-pub begin_with-requires-clause-place : goal.begin_with-requires-clause-place
-begin_with-requires-clause-place c = subst (λ (x : State). c.in-Some.chosen.place < length x.groups.items) (sym c.prepare.ensures) c.in-Some.ensures.chosen.place
+pub begin_with-requires-clause-index : goal.begin_with-requires-clause-index
+begin_with-requires-clause-index c = subst (λ (x : State). c.in-Some.chosen.index < length x.groups.items) (sym c.prepare.ensures) c.in-Some.ensures.chosen.index
 
-pub preview_and_plan-requires-clause-moment : goal.preview_and_plan-requires-clause-moment
-preview_and_plan-requires-clause-moment c = omega (arith, c.requires.good.consistent.clock, c.in-Some.ensures.chosen.moment)
+pub preview_and_plan-requires-clause-time : goal.preview_and_plan-requires-clause-time
+preview_and_plan-requires-clause-time c = omega (arith, c.requires.good.consistent.clock, c.in-Some.ensures.chosen.time)
 
 pub begin_with-requires-clause-found : goal.begin_with-requires-clause-found
 begin_with-requires-clause-found c d =
     let s = c.prepare.new.state in
-    let within = subst (λ (x : State). c.in-Some.chosen.place < length x.groups.items) (sym c.prepare.ensures) c.in-Some.ensures.chosen.place in
+    let within = subst (λ (x : State). c.in-Some.chosen.index < length x.groups.items) (sym c.prepare.ensures) c.in-Some.ensures.chosen.index in
     subst (λ (x : Group). IsPreviewedPlan c.args.config.now c.args.id (vec_len s.flushes) (state_of s) c.in-Some.chosen.t (group_state x) (Ok c.in_ok-found.found))
-    (c.at-group.ensures ∙ sym (get_or_default s.groups.items c.in-Some.chosen.place d c.at-group.result.now within)) c.in_ok-found.ensures
+    (c.at-group.ensures ∙ sym (get_or_default s.groups.items c.in-Some.chosen.index d c.at-group.result.now within)) c.in_ok-found.ensures
 
 pub returns : goal.returns
 returns c =
@@ -102,30 +102,30 @@ returns-in-Ok c =
     let config = c.args.config.now in
     let s = c.args.state.now in
     let st = state_of s in
-    let t = c.moment-t.result in
-    let none : taken st t ≡ None = subst (λ n. taken st n ≡ None) (sym c.moment-t.ensures) c.in_default.ensures in
-    let cause = cause-closed config s c.args.now t c.moment-t.ensures (c.has_room.ensures.0 c.if-not-has_room.false) (ap (λ o. opens_by config st t o) none) in
-    let all = told config c.args.id c.args.pass c.args.now s c.begin_nothing.new.state (begin_cause config (vec_len s.history) st (moment st c.args.now)) c.begin_nothing.result cause
-    (c.begin_nothing.ensures config c.args.id c.requires.good c.moment-t.ensures none) in
-    let is = subst (λ (r : Result Begun Fault). IsTold config c.args.id c.args.pass c.args.now s c.begin_nothing.new.state (begin_cause config (vec_len s.history) st (moment st c.args.now)) r) c.in-Ok.is all in
-    (is.0, is.1, (is.2, sym (ap (option_map (preview_on config st (moment st c.args.now) (reason_of config st (moment st c.args.now)))) c.in_default.ensures)))
+    let t = c.time-t.result in
+    let none : taken st t ≡ None = subst (λ n. taken st n ≡ None) (sym c.time-t.ensures) c.in_default.ensures in
+    let cause = cause-closed config s c.args.now t c.time-t.ensures (c.has_room.ensures.0 c.if-not-has_room.false) (ap (λ o. opens_by config st t o) none) in
+    let all = returned config c.args.id c.args.pass c.args.now s c.begin_nothing.new.state (begin_cause config (vec_len s.history) st (time st c.args.now)) c.begin_nothing.result cause
+    (c.begin_nothing.ensures config c.args.id c.requires.good c.time-t.ensures none) in
+    let is = subst (λ (r : Result Begun Fault). IsReturned config c.args.id c.args.pass c.args.now s c.begin_nothing.new.state (begin_cause config (vec_len s.history) st (time st c.args.now)) r) c.in-Ok.is all in
+    (is.0, is.1, (is.2, sym (ap (option_map (preview_on config st (time st c.args.now) (reason_of config st (time st c.args.now)))) c.in_default.ensures)))
 
 pub returns-in-Err : goal.returns-in-Err
 returns-in-Err c =
     let config = c.args.config.now in
     let s = c.args.state.now in
     let st = state_of s in
-    let t = c.moment-t.result in
-    let none : taken st t ≡ None = subst (λ n. taken st n ≡ None) (sym c.moment-t.ensures) c.in_default.ensures in
-    let cause = cause-closed config s c.args.now t c.moment-t.ensures (c.has_room.ensures.0 c.if-not-has_room.false) (ap (λ o. opens_by config st t o) none) in
-    let all = told config c.args.id c.args.pass c.args.now s c.begin_nothing.new.state (begin_cause config (vec_len s.history) st (moment st c.args.now)) c.begin_nothing.result cause
-    (c.begin_nothing.ensures config c.args.id c.requires.good c.moment-t.ensures none) in
-    subst (λ (r : Result Begun Fault). IsTold config c.args.id c.args.pass c.args.now s c.begin_nothing.new.state (begin_cause config (vec_len s.history) st (moment st c.args.now)) r) c.in-Err.is all
+    let t = c.time-t.result in
+    let none : taken st t ≡ None = subst (λ n. taken st n ≡ None) (sym c.time-t.ensures) c.in_default.ensures in
+    let cause = cause-closed config s c.args.now t c.time-t.ensures (c.has_room.ensures.0 c.if-not-has_room.false) (ap (λ o. opens_by config st t o) none) in
+    let all = returned config c.args.id c.args.pass c.args.now s c.begin_nothing.new.state (begin_cause config (vec_len s.history) st (time st c.args.now)) c.begin_nothing.result cause
+    (c.begin_nothing.ensures config c.args.id c.requires.good c.time-t.ensures none) in
+    subst (λ (r : Result Begun Fault). IsReturned config c.args.id c.args.pass c.args.now s c.begin_nothing.new.state (begin_cause config (vec_len s.history) st (time st c.args.now)) r) c.in-Err.is all
 
 -- what the begin works out, of the state before it was put in order
 abbrev Plans : Config → ℕ → ChosenGroup → Fault → State → Type 0
 Plans config id chosen fault s =
-    (d : Group) → IsPlan config id (vec_len s.flushes) (state_of s) chosen.t (group_state (slice_index_or s.groups.items chosen.place d)) (Err fault)
+    (d : Group) → IsPlan config id (vec_len s.flushes) (state_of s) chosen.t (group_state (slice_index_or s.groups.items chosen.index d)) (Err fault)
 
 pub returns-in_err-found : goal.returns-in_err-found
 returns-in_err-found c =
@@ -136,12 +136,12 @@ returns-in_err-found c =
     let takes = c.in-Some.ensures in
     let fault = c.in_err-found.field-0.0 in
     let p = err_from_is_err_and c.from_residual.result c.from_residual.ensures.1 in
-    let within = subst (λ (x : State). chosen.place < length x.groups.items) (sym c.prepare.ensures) takes.chosen.place in
+    let within = subst (λ (x : State). chosen.index < length x.groups.items) (sym c.prepare.ensures) takes.chosen.index in
     let worked : Plans config c.args.id chosen fault new = λ d.
     subst (λ (x : Group). IsPlan config c.args.id (vec_len new.flushes) (state_of new) chosen.t (group_state x) (Err fault))
-    (c.at-group.ensures ∙ sym (get_or_default new.groups.items chosen.place d c.at-group.result.now within)) c.in_err-found.ensures in
+    (c.at-group.ensures ∙ sym (get_or_default new.groups.items chosen.index d c.at-group.result.now within)) c.in_err-found.ensures in
     rw (p.1, p.2) (
-      subst (λ n. IsAnswer (begin_cause config (vec_len s.history) (state_of s) (moment (state_of s) n)) fault) takes.now
+      subst (λ n. IsAnswer (begin_cause config (vec_len s.history) (state_of s) (time (state_of s) n)) fault) takes.now
           (planned_err config c.args.id s chosen takes.group takes.chosen (c.has_room.ensures.0 c.if-not-has_room.false) fault (subst (Plans config c.args.id chosen fault) c.prepare.ensures worked)),
       subst (LeavesUnchanged config s) (sym c.prepare.ensures) (stays_itself config s c.requires.good),
     )

@@ -2,7 +2,7 @@ use Rattle.std.proofs.Common.{ap, ◌∙◌, rules}
 use Rattle.std.specs.List.{filter_map}
 use Rattle.am_board.specs.Walk.{alert_there}
 use Rattle.std.proofs.lemmas.Result.{IfOk-weaker}
-use Rattle.am_board.proofs.lemmas.begin.MutedPlaces.{sorted_listed}
+use Rattle.am_board.proofs.lemmas.begin.MutedIndexes.{sorted_listed}
 use Rattle.am_board.proofs.walk.in_group_order.Goals as goal
 
 pub returns : goal.returns

@@ -5,7 +5,7 @@ use Rattle.std.proofs.lemmas.List.{append-nil}
 use Rattle.am_model.specs.declared.preview.MutedAlert.{MutedAlert}
 use Rattle.am_board.specs.Walk.{alert_there}
 use Rattle.am_board.specs.declared.group.Member.{Member}
-use Rattle.am_board.proofs.lemmas.begin.MutedPlaces.{listed-more}
+use Rattle.am_board.proofs.lemmas.begin.MutedIndexes.{listed-more}
 use Rattle.am_board.proofs.walk.listed.Goals as goal
 use Rattle.am_board.proofs.walk.listed.Goals.{in-Some+in_ok-copy+in_ok-copy_cause+in_ok-push, in_default}
 

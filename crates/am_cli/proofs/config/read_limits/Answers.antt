@@ -6,7 +6,7 @@ use Rattle.am_model.specs.Config.{greatest_limits}
 use Rattle.am_model.specs.declared.config.Limits.{Limits}
 use Rattle.am_cli.specs.Configured.{DecodesToLimits}
 use Rattle.am_cli.specs.Decoding.{HasOr}
-use Rattle.am_cli.specs.declared.reader.Dialect.{Dialect}
+use Rattle.am_cli.specs.declared.reader.Mode.{Mode}
 use Rattle.am_cli.proofs.Decoding.{found, narrowed, sure}
 use Rattle.am_cli.proofs.config.read_limits.Goals as goal
 
@@ -16,10 +16,10 @@ returns-in-Some-clause-refused c =
     let member = c.in-Some.member in
     let value = view member.value in
     let members = members_view o.members in
-    narrowed (λ (l : Limits). DecodesToLimits member.dialect value l × IsTrue true) (HasOr (DecodesToLimits o.dialect) greatest_limits (codes "limits") members)
-    (λ l told. (
-      subst (λ (d : Dialect). DecodesToLimits d value l) (sym c.in-Some.ensures.dialect)
-          (found (l ≡ greatest_limits) (λ v. DecodesToLimits o.dialect v l) value (get_member (codes "limits") members) c.in-Some.ensures.value told),
+    narrowed (λ (l : Limits). DecodesToLimits member.mode value l × IsTrue true) (HasOr (DecodesToLimits o.mode) greatest_limits (codes "limits") members)
+    (λ l decoded. (
+      subst (λ (d : Mode). DecodesToLimits d value l) (sym c.in-Some.ensures.mode)
+          (found (l ≡ greatest_limits) (λ v. DecodesToLimits o.mode v l) value (get_member (codes "limits") members) c.in-Some.ensures.value decoded),
       sure,
     ))
     c.read.result c.read.ensures.refused

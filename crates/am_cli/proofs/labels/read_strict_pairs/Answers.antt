@@ -4,7 +4,7 @@ use Rattle.std.specs.Prelude.{IsTrue}
 use Rattle.serde_json.specs.View.{members_view, view}
 use Rattle.am_cli.specs.Configured.{DecodesToPairs, IsPair, text_members}
 use Rattle.am_cli.specs.Decoding.{IsList}
-use Rattle.am_cli.specs.declared.reader.Dialect.TheVariants.{Strict}
+use Rattle.am_cli.specs.declared.reader.Mode.TheVariants.{Strict}
 use Rattle.am_cli.proofs.Decoding.{all_sure, handed_on, narrowed}
 use Rattle.am_cli.proofs.Once.{array_pairs, no_object, object_pairs}
 use Rattle.am_cli.proofs.labels.read_strict_pairs.Goals as goal
@@ -13,7 +13,7 @@ pub returns-in_err-object-clause-refused : goal.returns-in_err-object-clause-ref
 returns-in_err-object-clause-refused c =
     let value = view c.args.reader.now.value in
     handed_on (DecodesToPairs Strict value) c.from_residual.result c.in_err-object.field-0.0 c.from_residual.ensures.1
-    (λ refusal ps told. no_object value c.in_err-object.ensures.members (sym c.is_object.ensures ∙ c.if-is_object.true))
+    (λ refusal ps decoded. no_object value c.in_err-object.ensures.members (sym c.is_object.ensures ∙ c.if-is_object.true))
 
 -- an object of which a member is no text
 pub returns-then-is_object-clause-refused : goal.returns-then-is_object-clause-refused
@@ -21,11 +21,11 @@ returns-then-is_object-clause-refused c =
     let value = view c.args.reader.now.value in
     let members = members_view c.in_ok-object.field-0.members in
     narrowed (λ (ps : List (Bor (List ℕ) × Bor (List ℕ))). members ≡ text_members ps) (DecodesToPairs Strict value)
-    (λ ps told. object_pairs value members ps c.in_ok-object.ensures.members told) c.texts.result c.texts.ensures.refused
+    (λ ps decoded. object_pairs value members ps c.in_ok-object.ensures.members decoded) c.texts.result c.texts.ensures.refused
 
 -- no object, and no array of pairs
 pub returns-clause-refused : goal.returns-clause-refused
 returns-clause-refused c =
     let value = view c.args.reader.now.value in
     narrowed (λ (ps : List (Bor (List ℕ) × Bor (List ℕ))). IsList IsPair value ps × IsTrue (list_all (λ p. true) ps)) (DecodesToPairs Strict value)
-    (λ ps told. (array_pairs value ps (sym c.is_object.ensures ∙ c.if-is_object.false) told, all_sure ps)) c.list.result c.list.ensures.refused
+    (λ ps decoded. (array_pairs value ps (sym c.is_object.ensures ∙ c.if-is_object.false) decoded, all_sure ps)) c.list.result c.list.ensures.refused

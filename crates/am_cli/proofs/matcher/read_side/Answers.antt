@@ -10,48 +10,48 @@ use Rattle.am_alerts.specs.declared.matcher.MatcherParts.{MatcherParts}
 use Rattle.am_cli.specs.Configured.{DecodesToMatcher}
 use Rattle.am_cli.specs.Decoding.{HasOr, IsList}
 use Rattle.am_cli.specs.Read.{ObjectData}
-use Rattle.am_cli.specs.declared.reader.Dialect.{Dialect}
+use Rattle.am_cli.specs.declared.reader.Mode.{Mode}
 use Rattle.am_cli.proofs.Decoding.{found, narrowed}
-use Rattle.am_cli.proofs.Members.{told_values}
+use Rattle.am_cli.proofs.Members.{decoded_values}
 use Rattle.am_cli.proofs.matcher.read_side.Goals as goal
 
 -- what is never refused
-abbrev Tells : ObjectData → List ℕ → List MatcherParts → Type 0
-Tells rule name ms = HasOr (IsList (DecodesToMatcher rule.dialect)) [] name (members_view rule.members) ms × IsTrue (compare_texts ms) × (length ms ≤ MAX_MATCHERS)
+abbrev Decodes : ObjectData → List ℕ → List MatcherParts → Type 0
+Decodes rule name ms = HasOr (IsList (DecodesToMatcher rule.mode)) [] name (members_view rule.members) ms × IsTrue (compare_texts ms) × (length ms ≤ MAX_MATCHERS)
 
--- what the member tells that is there
+-- what the member says that is there
 there : (rule : ObjectData) (name : List ℕ) (value : Data) (ms : List MatcherParts) → Some value ≡ get_member name (members_view rule.members)
-    → Tells rule name ms → IsList (DecodesToMatcher rule.dialect) value ms
-there rule name value ms is told = found (ms ≡ []) (λ v. IsList (DecodesToMatcher rule.dialect) v ms) value (get_member name (members_view rule.members)) is told.0
+    → Decodes rule name ms → IsList (DecodesToMatcher rule.mode) value ms
+there rule name value ms is decoded = found (ms ≡ []) (λ v. IsList (DecodesToMatcher rule.mode) v ms) value (get_member name (members_view rule.members)) is decoded.0
 
--- a list that tells too many matchers
+-- a list that says too many matchers
 pub returns-then-branch-gt-MAX_MATCHERS-clause-refused : goal.returns-then-branch-gt-MAX_MATCHERS-clause-refused
-returns-then-branch-gt-MAX_MATCHERS-clause-refused c refusal ms told =
+returns-then-branch-gt-MAX_MATCHERS-clause-refused c refusal ms decoded =
     let rule = c.args.rule.now in
     let value = view c.in-Some.member.value in
-    let count = told_values (DecodesToMatcher rule.dialect) (as_array value) c.in_ok-array.field-0.now ms c.in_ok-array.ensures.items
-    (there rule c.args.name.now value ms c.in-Some.ensures.value told) in
-    absurd (omega (arith, count, told.2))
+    let count = decoded_values (DecodesToMatcher rule.mode) (as_array value) c.in_ok-array.field-0.now ms c.in_ok-array.ensures.items
+    (there rule c.args.name.now value ms c.in-Some.ensures.value decoded) in
+    absurd (omega (arith, count, decoded.2))
 
 pub returns-clause-refused : goal.returns-clause-refused
 returns-clause-refused c =
     let rule = c.args.rule.now in
     let name = c.args.name.now in
     let member = c.in-Some.member in
-    let There = λ (ms : List MatcherParts). IsList (DecodesToMatcher member.dialect) (view member.value) ms × IsTrue (compare_texts ms) in
-    narrowed There (Tells rule name)
-    (λ ms told. (
-      subst (λ (dialect : Dialect). IsList (DecodesToMatcher dialect) (view member.value) ms) (sym c.in-Some.ensures.dialect)
-          (there rule name (view member.value) ms c.in-Some.ensures.value told),
-      told.1,
+    let There = λ (ms : List MatcherParts). IsList (DecodesToMatcher member.mode) (view member.value) ms × IsTrue (compare_texts ms) in
+    narrowed There (Decodes rule name)
+    (λ ms decoded. (
+      subst (λ (mode : Mode). IsList (DecodesToMatcher mode) (view member.value) ms) (sym c.in-Some.ensures.mode)
+          (there rule name (view member.value) ms c.in-Some.ensures.value decoded),
+      decoded.1,
     ))
     c.list.result c.list.ensures.refused
 
-pub returns-clause-told : goal.returns-clause-told
-returns-clause-told c =
+pub returns-clause-decoded : goal.returns-clause-decoded
+returns-clause-decoded c =
     let rule = c.args.rule.now in
     let member = c.in-Some.member in
     IfOk-weaker c.list.result _ _
-    (λ ms told. subst (λ (o : Option Data). MatchOption o (ms.items ≡ []) (λ v. IsList (DecodesToMatcher rule.dialect) v ms.items)) c.in-Some.ensures.value
-    (subst (λ (dialect : Dialect). IsList (DecodesToMatcher dialect) (view member.value) ms.items) c.in-Some.ensures.dialect told))
-    c.list.ensures.told
+    (λ ms decoded. subst (λ (o : Option Data). MatchOption o (ms.items ≡ []) (λ v. IsList (DecodesToMatcher rule.mode) v ms.items)) c.in-Some.ensures.value
+    (subst (λ (mode : Mode). IsList (DecodesToMatcher mode) (view member.value) ms.items) c.in-Some.ensures.mode decoded))
+    c.list.ensures.decoded

@@ -27,5 +27,5 @@ returns-in_default-2 c m is =
     let same : is.inner ≡ inner =
     one_unquoted c.trim_ascii.result.now is.inner inner (subst (λ (l : List ℕ). IsUnquoted l is.inner) trimmed is.unquoted) c.in-Some-without_quotes.ensures in
     let none : unescaped false inner ≡ None = sym c.in_ok-value.ensures ∙ ap (option_map string_bytes) c.in_default-2.is in
-    let some : unescaped false inner ≡ Some m.value = ap (unescaped false) (sym same) ∙ is.stands in
+    let some : unescaped false inner ≡ Some m.value = ap (unescaped false) (sym same) ∙ is.holds in
     absurd (cc (none, some))

@@ -5,8 +5,8 @@ use Rattle.std.specs.Prelude.{None}
 use Rattle.am_cli.proofs.MatcherTexts.{unescaped_other}
 use Rattle.am_cli.proofs.matcher_text.push_escaped.Goals as goal
 
-pub returns-in-None-clause-stands : goal.returns-in-None-clause-stands
-returns-in-None-clause-stands c =
+pub returns-in-None-clause-holds : goal.returns-in-None-clause-holds
+returns-in-None-clause-holds c =
     let behind = c.args.behind.now in (
       92 ∷ [],
       c.in_ok-push-3.ensures.bytes ∙ ap (λ l. string_bytes c.args.value.now ++ l) (encode_ascii 92 (omega arith)),

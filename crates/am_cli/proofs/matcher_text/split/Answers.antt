@@ -10,8 +10,8 @@ use Rattle.am_cli.proofs.matcher_text.split.Goals as goal
 pub split_at-requires : goal.split_at-requires
 split_at-requires c =
     let text = c.args.text.now in
-    let i = c.in_ok-operator_place.field-0 in
-    let at = position-Some begins_operator text i 0 (sym c.in_ok-operator_place.ensures) in
+    let i = c.in_ok-operator_index.field-0 in
+    let at = position-Some begins_operator text i 0 (sym c.in_ok-operator_index.ensures) in
     IsCharBoundary-before_ascii text i at.0 (operator_ascii (get_or text i 0) at.1)
 
 -- no operator where the first one would begin
@@ -20,10 +20,10 @@ returns-in_err-op-clause-none c none name value op is begins =
     let text = c.args.text.now in
     let front = c.split_at.result.0.now in
     let rest = c.split_at.result.1.now in
-    let at = c.in_ok-operator_place.field-0 in
-    let place : at ≡ length name = cc (c.in_ok-operator_place.ensures, begins) in
+    let at = c.in_ok-operator_index.field-0 in
+    let pointer : at ≡ length name = cc (c.in_ok-operator_index.ensures, begins) in
     let parts = c.split_at.ensures in
     let whole : front ++ rest ≡ name ++ (operator_text op ++ value) =
     (λ i. parts.front i ++ parts.back i) ∙ take-append-drop at text ∙ is in
-    let cut = front_is front rest name (operator_text op ++ value) whole (parts.front_len ∙ place) in
+    let cut = front_is front rest name (operator_text op ++ value) whole (parts.front_len ∙ pointer) in
     c.in_err-op.ensures.none refl value op cut.1

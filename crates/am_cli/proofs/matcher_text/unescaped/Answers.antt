@@ -9,7 +9,7 @@ use Rattle.am_cli.proofs.matcher_text.unescaped.Goals as goal
 
 pub loop-plain-init : goal.loop-plain-init
 loop-plain-init c = record {
-  stands = unescaped_first (string_bytes c.new-value.result) (unescaped false c.args.written.now) c.new-value.ensures.bytes;
+  holds = unescaped_first (string_bytes c.new-value.result) (unescaped false c.args.written.now) c.new-value.ensures.bytes;
   text = search rules;
 }
 
@@ -21,12 +21,12 @@ loop-plain-preserved c =
     let parts = split_parts 92 l.rest.now (Some (c.in-Some.plain, c.in-Some.behind)) c.in-Some.ensures.cases (omega arith) in
     let quote : Lacks 34 plain =
     lacks_from 34 plain c.contains.result (contains_char 34 plain c.contains.result c.contains.ensures.cases (omega arith)).1 c.if-contains.false in
-    let added = c.in_ok-rest.ensures.stands in
+    let added = c.in_ok-rest.ensures.holds in
     let bytes : string_bytes c.push_escaped.new.value ≡ (string_bytes l.value ++ plain) ++ added.0 =
     added.1 ∙ ap (λ v. v ++ added.0) c.in_ok-push_str.ensures.bytes in
     record {
-      stands =
-          l.invariant.stands
+      holds =
+          l.invariant.holds
           ∙ unescaped_step (string_bytes l.value) plain added.0 l.rest.now c.in-Some.behind.now left parts.0 parts.1 quote added.2
           ∙ ap (λ v. option_map (λ r. v ++ r) (unescaped false left)) (sym bytes);
       text = search rules;
@@ -40,7 +40,7 @@ returns-then-contains c =
     let found = (contains_char 34 plain c.contains.result c.contains.ensures.cases (omega arith)).0 c.if-contains.true in
     let none : unescaped false l.rest.now ≡ None =
     ap (unescaped false) parts.0 ∙ unescaped_quote plain (92 ∷ c.in-Some.behind.now) found.0 parts.1 found.1 found.2 in
-    sym (l.invariant.stands ∙ ap (option_map (λ r. string_bytes l.value ++ r)) none)
+    sym (l.invariant.holds ∙ ap (option_map (λ r. string_bytes l.value ++ r)) none)
 
 pub returns-then-is_empty : goal.returns-then-is_empty
 returns-then-is_empty c =
@@ -52,7 +52,7 @@ returns-then-is_empty c =
     lacks_from 34 plain c.contains.result (contains_char 34 plain c.contains.result c.contains.ensures.cases (omega arith)).1 c.if-contains.false in
     let empty : length behind ≡ 0 = eqb-true (length behind) 0 (sym c.is_empty.ensures ∙ c.if-is_empty.true) in
     let none : unescaped false l.rest.now ≡ None = ap (unescaped false) parts.0 ∙ unescaped_end plain behind empty parts.1 quote in
-    sym (l.invariant.stands ∙ ap (option_map (λ r. string_bytes l.value ++ r)) none)
+    sym (l.invariant.holds ∙ ap (option_map (λ r. string_bytes l.value ++ r)) none)
 
 pub returns-then-contains-2 : goal.returns-then-contains-2
 returns-then-contains-2 c =
@@ -61,7 +61,7 @@ returns-then-contains-2 c =
     let slash : Lacks 92 rest = split_parts 92 rest None c.in_default.ensures.cases (omega arith) in
     let found = (contains_char 34 rest c.contains-2.result c.contains-2.ensures.cases (omega arith)).0 c.if-contains-2.true in
     let none : unescaped false rest ≡ None = ap (unescaped false) (sym (append-nil rest)) ∙ unescaped_quote rest [] found.0 slash found.1 found.2 in
-    sym (l.invariant.stands ∙ ap (option_map (λ r. string_bytes l.value ++ r)) none)
+    sym (l.invariant.holds ∙ ap (option_map (λ r. string_bytes l.value ++ r)) none)
 
 pub returns : goal.returns
 returns c =
@@ -70,4 +70,4 @@ returns c =
     let slash : Lacks 92 rest = split_parts 92 rest None c.in_default.ensures.cases (omega arith) in
     let quote : Lacks 34 rest =
     lacks_from 34 rest c.contains-2.result (contains_char 34 rest c.contains-2.result c.contains-2.ensures.cases (omega arith)).1 c.if-contains-2.false in
-    ap Some c.in_ok-push_str-2.ensures.bytes ∙ sym (l.invariant.stands ∙ unescaped_last (string_bytes l.value) rest slash quote)
+    ap Some c.in_ok-push_str-2.ensures.bytes ∙ sym (l.invariant.holds ∙ unescaped_last (string_bytes l.value) rest slash quote)

@@ -4,10 +4,10 @@ use Rattle.std.proofs.Common.{◌≡◌, ◌++◌, false, length, option_map, st
 use Rattle.am_cli.specs.MatcherText.{unescaped}
 use Rattle.am_cli.proofs.matcher_text.unescaped.Given as goal
 
--- what was read so far stands before what the rest stands for
+-- what was read so far is before what the rest represents
 abbrev pub invariant-loop-plain : goal.invariant-loop-plain
 invariant-loop-plain l = record {
-  stands : unescaped false l.fn.written ≡ option_map (λ r. string_bytes l.value ++ r) (unescaped false l.rest);
+  holds : unescaped false l.fn.written ≡ option_map (λ r. string_bytes l.value ++ r) (unescaped false l.rest);
   text : shadow (Utf8 l.rest);
 }
 

@@ -12,5 +12,5 @@ returns-in-Some-clause-refused c =
     let members = members_view c.args.route.now.members in
     let value = view c.in-Some.member.value in
     narrowed (IsGroupBy value) (HasOr IsGroupBy (Names []) (codes "group_by") members)
-    (λ g told. found (g ≡ Names []) (λ v. IsGroupBy v g) value (get_member (codes "group_by") members) c.in-Some.ensures.value told)
+    (λ g decoded. found (g ≡ Names []) (λ v. IsGroupBy v g) value (get_member (codes "group_by") members) c.in-Some.ensures.value decoded)
     c.read_names.result c.read_names.ensures.refused

@@ -8,7 +8,7 @@ invariant-loop-given g l =
     × (g.S.Source.given l.source ≡ g.S.Source.given l.fn.source ++ l.input.items)
     × (g.S.Source.failed l.source ≡ g.S.Source.failed l.fn.source)
     × (g.S.Source.ended l.source ≡ g.S.Source.ended l.fn.source)
-    × (g.S.Source.asked l.source ≤ g.S.Source.asked l.fn.source + vec_len l.input)
+    × (g.S.Source.reads l.source ≤ g.S.Source.reads l.fn.source + vec_len l.input)
 
 abbrev pub decreases-loop-given : goal.decreases-loop-given
 decreases-loop-given g l = 16777217 - vec_len l.input

@@ -10,7 +10,7 @@ use Rattle.am_dispatch.proofs.serve.answer_first.Goals as goal
 pub returns-in-Ok-clause-broken : goal.returns-in-Ok-clause-broken
 returns-in-Ok-clause-broken g c = λ text is. (
   Some c.in-Ok.session,
-  breaks_as _ _ (λ t same. Done (subst (λ (u : List ℕ). Opened text u c.in-Ok.session) (sym (same ∙ c.as_slice.ensures.value)) (c.in-Ok.ensures.told text is)))
+  breaks_as _ _ (λ t same. Done (subst (λ (u : List ℕ). Opened text u c.in-Ok.session) (sym (same ∙ c.as_slice.ensures.value)) (c.in-Ok.ensures.answered text is)))
       c.in-Err-write_all.ensures.part,
 )
 
@@ -35,5 +35,5 @@ returns-clause-answered g c = λ text is.
 
 pub returns-in-Ok-write_all-clause-answered : goal.returns-in-Ok-write_all-clause-answered
 returns-in-Ok-write_all-clause-answered g c = λ text is.
-    sends_as _ _ (λ t same. Done (subst (λ (u : List ℕ). Opened text u c.in-Ok.session) (sym (same ∙ c.as_slice.ensures.value)) (c.in-Ok.ensures.told text is)))
+    sends_as _ _ (λ t same. Done (subst (λ (u : List ℕ). Opened text u c.in-Ok.session) (sym (same ∙ c.as_slice.ensures.value)) (c.in-Ok.ensures.answered text is)))
     (sends_it _ _ _ c.in-Ok-write_all.ensures.whole)

@@ -5,7 +5,7 @@ use Rattle.am_lines.specs.Record.{report_tokens}
 use Rattle.am_dispatch.proofs.ticket.add_reports.Given as goal
 
 -- the reports so far were added
-abbrev pub invariant-loop-place : goal.invariant-loop-place
-invariant-loop-place l =
+abbrev pub invariant-loop-index : goal.invariant-loop-index
+invariant-loop-index l =
     l.answer
-    ≡ l.fn.answer ++ flat_map (λ n. report_tokens n.integration (outcome_of l.ticket.outcomes n.integration)) (take l.place l.ticket.notices)
+    ≡ l.fn.answer ++ flat_map (λ n. report_tokens n.integration (outcome_of l.ticket.outcomes n.integration)) (take l.index l.ticket.notices)

@@ -11,9 +11,9 @@ returns-clause-ok c =
     let was = c.args.tickets.now.items in
     let own : TicketData = c.index_mut.result.now in
     let report = report_on own c.args.integration c.args.outcome in
-    on_ok_weaker {Q = IsRecordedAt was c.args.place c.args.integration c.args.outcome (slice_set was c.args.place c.record.new.own)} c.record.result
+    on_ok_weaker {Q = IsRecordedAt was c.args.index c.args.integration c.args.outcome (slice_set was c.args.index c.record.new.own)} c.record.result
     (λ (is : (report_fault own report ≡ None) × (c.record.new.own ≡ recorded own report)).
-    (own, slice_get_read was _ c.args.place own c.args.tickets.now.ok.0 c.requires c.index_mut.ensures.value, is.0, ap (slice_set was c.args.place) is.1))
+    (own, slice_get_read was _ c.args.index own c.args.tickets.now.ok.0 c.requires c.index_mut.ensures.value, is.0, ap (slice_set was c.args.index) is.1))
     c.record.ensures.ok
 
 pub returns-clause-fault : goal.returns-clause-fault
@@ -21,5 +21,5 @@ returns-clause-fault c =
     let was = c.args.tickets.now.items in
     let own : TicketData = c.index_mut.result.now in
     let report = report_on own c.args.integration c.args.outcome in
-    if_err_weaker (λ fault. report_fault own report ≡ Some fault) (HasFaultAt was c.args.place c.args.integration c.args.outcome) c.record.result
-    (λ fault is. (own, slice_get_read was _ c.args.place own c.args.tickets.now.ok.0 c.requires c.index_mut.ensures.value, is)) c.record.ensures.fault
+    if_err_weaker (λ fault. report_fault own report ≡ Some fault) (HasFaultAt was c.args.index c.args.integration c.args.outcome) c.record.result
+    (λ fault is. (own, slice_get_read was _ c.args.index own c.args.tickets.now.ok.0 c.requires c.index_mut.ensures.value, is)) c.record.ensures.fault

@@ -5,7 +5,7 @@ use Rattle.jiff.specs.Words.{next_at, plain_zone}
 use Rattle.am_hours.specs.Clocks.{IsNoPiece, left_in_month, stays, until_next}
 use Rattle.am_hours.specs.Showing.{Shows}
 use Rattle.am_hours.specs.declared.clock.ClockFault.TheVariants.{OutOfRange}
-use Rattle.am_hours.proofs.Seconds.{refused_by, told_at}
+use Rattle.am_hours.proofs.Seconds.{refused_by, days_counted_at}
 use Rattle.am_hours.proofs.clock.piece_from.Goals as goal
 
 pub returns-in_err-shown-clause-refused : goal.returns-in_err-shown-clause-refused
@@ -18,20 +18,20 @@ returns-in_err-shown-clause-refused c =
     refused_by c.from_residual-in_err-shown.result OutOfRange (IsNoPiece zone n) (p.1 ∙ ap Err (p.2 ∙ c.in_err-shown.ensures.refused))
     (inr (dt, subst (λ (x : ℤ). Shows zone x dt) at c.to_datetime-civil.ensures, inl c.in_err-shown.ensures.early))
 
-pub returns-in_err-days_told-clause-refused : goal.returns-in_err-days_told-clause-refused
-returns-in_err-days_told-clause-refused c =
+pub returns-in_err-days_of_month_at-clause-refused : goal.returns-in_err-days_of_month_at-clause-refused
+returns-in_err-days_of_month_at-clause-refused c =
     let zone = plain_zone c.args.zone in
     let n = (c.args.origin +ℤ pos c.args.at) *ℤ pos 1000000 in
     let dt = c.to_datetime-civil.result in
     let local = c.in_ok-shown.ensures.shown in
     let at : c.in_ok-now.now.nanosecond ≡ n = omega (arith, ints, c.in_ok-now.ensures.value, c.ranges.origin.sfits) in
-    let p = err_from_is_err_and c.from_residual-in_err-days_told.result c.from_residual-in_err-days_told.ensures.1 in
-    let why = c.in_err-days_told.ensures.refused in
-    refused_by c.from_residual-in_err-days_told.result OutOfRange (IsNoPiece zone n) (p.1 ∙ ap Err (p.2 ∙ why))
+    let p = err_from_is_err_and c.from_residual-in_err-days_of_month_at.result c.from_residual-in_err-days_of_month_at.ensures.1 in
+    let why = c.in_err-days_of_month_at.ensures.refused in
+    refused_by c.from_residual-in_err-days_of_month_at.result OutOfRange (IsNoPiece zone n) (p.1 ∙ ap Err (p.2 ∙ why))
     (inr (
       dt,
       subst (λ (x : ℤ). Shows zone x dt) at c.to_datetime-civil.ensures,
-      inr (told_at zone _ dt.date.year _ dt.date.month _ (Err OutOfRange) local.year local.month (ap Err why) c.in_err-days_told.ensures.told),
+      inr (days_counted_at zone _ dt.date.year _ dt.date.month _ (Err OutOfRange) local.year local.month (ap Err why) c.in_err-days_of_month_at.ensures.counted),
     ))
 
 pub returns-clause-shown : goal.returns-clause-shown
@@ -62,5 +62,5 @@ returns-clause-piece c =
       change = change;
       changes = sym (c.in_ok-until_change.ensures.value ∙ ap (λ (x : ℤ). until_next (next_at zone x) x) at);
       ends = c.min.ensures ∙ ap (λ (s : ℕ). min c.args.horizon (c.args.at + s)) stay;
-      told = told_at zone _ dt.date.year _ dt.date.month _ _ local.year local.month refl c.in_ok-days_told.ensures.told;
+      counted = days_counted_at zone _ dt.date.year _ dt.date.month _ _ local.year local.month refl c.in_ok-days_of_month_at.ensures.counted;
     }

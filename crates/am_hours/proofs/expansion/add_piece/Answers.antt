@@ -14,21 +14,21 @@ loop-day-preserved c =
     let k = c.loop-day.day in
     let old = c.args.spans.now.items in
     let before = c.loop-day.invariant in
-    let told : is_on_date i (shown_on p k 0) ≡ c.is_on.result =
+    let counted : is_on_date i (shown_on p k 0) ≡ c.is_on.result =
     ap (λ (m : Shown). is_on_date i m) (sym c.shown_on.ensures) ∙ sym c.is_on.ensures in
     elim c.if-is_on.branch [
       | then-is_on+in_ok-add_day w ↦
           let added = w.in_ok-add_day.ensures in
           rw w.spans-is (record {
             held = λ t. piece-step-on i p c.args.minutes.now old c.loop-day.spans.items w.add_day.new.spans.items k t
-                c.requires.minutes (told ∙ w.if-is_on.true) (before.held t) (added.held t);
+                c.requires.minutes (counted ∙ w.if-is_on.true) (before.held t) (added.held t);
             apart = added.apart;
             few = added.few;
             count = omega (arith, added.count, before.count);
           })
       | else-is_on w ↦
           rw w.spans-is (record {
-            held = λ t. piece-step-off i p old c.loop-day.spans.items k t (told ∙ w.if-is_on.false) (before.held t);
+            held = λ t. piece-step-off i p old c.loop-day.spans.items k t (counted ∙ w.if-is_on.false) (before.held t);
             apart = before.apart;
             few = before.few;
             count = omega (arith, before.count);

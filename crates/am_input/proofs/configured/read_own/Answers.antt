@@ -5,5 +5,5 @@ use Rattle.am_input.proofs.configured.read_own.Goals as goal
 
 pub returns-in_err-read_config-clause-refused : goal.returns-in_err-read_config-clause-refused
 returns-in_err-read_config-clause-refused c =
-    handed_on (DecodesWithoutRegexes c.args.reader.now.dialect (view c.args.reader.now.value))
+    handed_on (DecodesWithoutRegexes c.args.reader.now.mode (view c.args.reader.now.value))
     c.from_residual.result c.in_err-read_config.field-0.0 c.from_residual.ensures.1 c.in_err-read_config.ensures.refused

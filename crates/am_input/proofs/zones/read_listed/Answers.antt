@@ -18,16 +18,16 @@ loop-name-preserved c =
     let all : c.args.listed.now.members ≡ done ++ e ∷ left = l.invariant.1 ∙ ap (λ es. done ++ es) c.in-Some.ensures.steps in (
       done ++ e ∷ [],
       all ∙ sym (append_assoc done (e ∷ []) left),
-      zones_more done e l.invariant.2 (subst (λ (v : Value). IsZone (view v)) c.member-rule.ensures.value c.in_ok-zone.ensures.told),
+      zones_more done e l.invariant.2 (subst (λ (v : Value). IsZone (view v)) c.member-rule.ensures.value c.in_ok-zone.ensures.decoded),
     )
 
-pub returns-clause-told : goal.returns-clause-told
-returns-clause-told c =
+pub returns-clause-decoded : goal.returns-clause-decoded
+returns-clause-decoded c =
     let l = c.loop-name in
     let done = l.invariant.0 in
     subst (λ (es : List Entry). AreZones (members_view es)) (sym (l.invariant.1 ∙ ap (λ es. done ++ es) c.in-None.ensures.steps.0 ∙ append-nil done)) l.invariant.2
 
--- a member that tells no zone
+-- a member that says no zone
 pub returns-in_err-zone-clause-refused : goal.returns-in_err-zone-clause-refused
 returns-in_err-zone-clause-refused c =
     let l = c.loop-name in
@@ -36,8 +36,8 @@ returns-in_err-zone-clause-refused c =
     let left = c.next.new.self in
     let all : c.args.listed.now.members ≡ done ++ e ∷ left = l.invariant.1 ∙ ap (λ es. done ++ es) c.in-Some.ensures.steps in
     handed_on (λ (u : ⊤). AreZones (members_view c.args.listed.now.members)) c.from_residual.result c.in_err-zone.field-0.0 c.from_residual.ensures.1
-    (λ refusal u told. c.in_err-zone.ensures.refused refusal u (subst (λ (v : Value). IsZone (view v)) (sym c.member-rule.ensures.value)
-    (zone_at done e left (subst (λ (es : List Entry). AreZones (members_view es)) all told))))
+    (λ refusal u decoded. c.in_err-zone.ensures.refused refusal u (subst (λ (v : Value). IsZone (view v)) (sym c.member-rule.ensures.value)
+    (zone_at done e left (subst (λ (es : List Entry). AreZones (members_view es)) all decoded))))
 
 pub returns-in_err-name-clause-refused : goal.returns-in_err-name-clause-refused
 returns-in_err-name-clause-refused c =

@@ -2,8 +2,8 @@ use Rattle.am_model.proofs.looking_back.reasons.ReasonsAreExact.{begins_have_rea
 use Rattle.am_model.proofs.looking_back.reasons.ReasonsSay.{reasons_are_so}
 use Rattle.am_model.proofs.law.reasons_are_exact.Goals as goal
 
-pub returns-clause-asked : goal.returns-clause-asked
-returns-clause-asked c = begins_have_reasons
+pub returns-clause-notified : goal.returns-clause-notified
+returns-clause-notified c = begins_have_reasons
 
 pub returns-clause-so : goal.returns-clause-so
 returns-clause-so c = reasons_are_so

@@ -23,7 +23,7 @@ use Rattle.am_model.specs.look_back.Entry.{latest_first, alert_in, known_in, sil
 use Rattle.am_model.specs.Insert.{same_alert, same_member}
 use Rattle.am_model.specs.Lists.{without, unless, in_order}
 use Rattle.am_model.specs.look_back.Laws.{member_with}
-use Rattle.am_model.specs.look_back.Presence.{goes_to, inserts, inserted_by, stamp_told, last_insert, has_left, unless_left, presence}
+use Rattle.am_model.specs.look_back.Presence.{goes_to, inserts, inserted_by, stamp_returned, last_insert, has_left, unless_left, presence}
 use Rattle.am_model.specs.State.{MemberState, GroupState, State}
 use Rattle.am_model.proofs.lists.Distinct.{IsDistinct-nil}
 use Rattle.am_model.proofs.lists.Exchanges.{filter-permutation, without-permutation, count_by-permutation}
@@ -47,7 +47,7 @@ known-distinct (r ∷ past) = by (alert_in r.call) (known-distinct past)
 -- those whose label sets were inserted
 pub known-inserted : (labels : List Label) (past : List Record) → list_any (λ a. same_label_set labels a.labels) (known_in past) ≡ is_some (last_insert labels past)
 known-inserted labels [] = refl
-known-inserted labels (r ∷ past) = by (stamp_told r.reply) r.call (known-inserted labels past)
+known-inserted labels (r ∷ past) = by (stamp_returned r.reply) r.call (known-inserted labels past)
   where
     by : (stamp : ℕ) (c : Call) → list_any (λ a. same_label_set labels a.labels) (known_in past) ≡ is_some (last_insert labels past)
         → list_any (λ a. same_label_set labels a.labels) (latest_first same_alert (alert_in c) (known_in past)) ≡ is_some (cond (inserts labels c) (inserted_by stamp c) (last_insert labels past))
@@ -276,27 +276,27 @@ module _ (config : Config) (s : State) (past : List Record) (t : ℕ)
     abbrev copy_then : List AlertData
     copy_then = heard t hushed (map (λ m. copied t m.alert) (present_in config g.name past))
 
-    abbrev shut : Option ℕ
-    shut = route_muted config g.name t
+    abbrev muted : Option ℕ
+    muted = route_muted config g.name t
 
-    copy-moved : IsPermutation (copy_of config s t g) (unless shut copy_then)
+    copy-moved : IsPermutation (copy_of config s t g) (unless muted copy_then)
     copy-moved =
-        unless-permutation shut (copy_under (rules_of config) s t g) copy_then
+        unless-permutation muted (copy_under (rules_of config) s t g) copy_then
         (without-permutation (λ a. hushed a.labels) (map (λ m. copied t m.alert) g.members) (map (λ m. copied t m.alert) (present_in config g.name past))
         (IsPermutation-map (λ m. copied t m.alert) g.members (present_in config g.name past) moved))
 
     -- the alerts that a begin of the group lists as firing, and those that it lists as resolved
     pub firing-same : firing_of config s t g ≡ firing_alerts_in config g.name t past
     firing-same =
-        in_order-alerts (unresolved t (copy_of config s t g)) (unresolved t (unless shut copy_then)) (without-permutation (λ a. is_resolved a t) (copy_of config s t g) (unless shut copy_then) copy-moved) (IsDistinct-firing config s t g apart)
-        ∙ (λ j. in_order alert_cmp (unresolved t (unless shut (without (λ a. muted-found a.labels j) (map (λ m. copied t m.alert) (present_in config g.name past))))))
-        ∙ ap (in_order alert_cmp) (unless-firing t shut _ _ (copied-firing t hushed_then (present_in config g.name past)))
+        in_order-alerts (unresolved t (copy_of config s t g)) (unresolved t (unless muted copy_then)) (without-permutation (λ a. is_resolved a t) (copy_of config s t g) (unless muted copy_then) copy-moved) (IsDistinct-firing config s t g apart)
+        ∙ (λ j. in_order alert_cmp (unresolved t (unless muted (without (λ a. muted-found a.labels j) (map (λ m. copied t m.alert) (present_in config g.name past))))))
+        ∙ ap (in_order alert_cmp) (unless-firing t muted _ _ (copied-firing t hushed_then (present_in config g.name past)))
 
     pub resolved-same : resolved_of config s t g ≡ resolved_alerts_in config g.name t past
     resolved-same =
-        in_order-alerts (resolved t (copy_of config s t g)) (resolved t (unless shut copy_then)) (filter-permutation (λ a. is_resolved a t) (copy_of config s t g) (unless shut copy_then) copy-moved) (IsDistinct-resolved config s t g apart)
-        ∙ (λ j. in_order alert_cmp (resolved t (unless shut (without (λ a. muted-found a.labels j) (map (λ m. copied t m.alert) (present_in config g.name past))))))
-        ∙ ap (in_order alert_cmp) (unless-resolved t shut _ _ (copied-resolved t hushed_then (present_in config g.name past)))
+        in_order-alerts (resolved t (copy_of config s t g)) (resolved t (unless muted copy_then)) (filter-permutation (λ a. is_resolved a t) (copy_of config s t g) (unless muted copy_then) copy-moved) (IsDistinct-resolved config s t g apart)
+        ∙ (λ j. in_order alert_cmp (resolved t (unless muted (without (λ a. muted-found a.labels j) (map (λ m. copied t m.alert) (present_in config g.name past))))))
+        ∙ ap (in_order alert_cmp) (unless-resolved t muted _ _ (copied-resolved t hushed_then (present_in config g.name past)))
 
     -- and their label sets
     pub firing-found : label_sets (firing_of config s t g) ≡ firing_in config g.name t past

@@ -10,7 +10,7 @@ use Rattle.am_model.specs.declared.record.Call.TheVariants.{Silence, Begin, Forg
 use Rattle.am_model.specs.declared.record.Record.{Record}
 use Rattle.am_model.specs.declared.record.Reply.{Reply}
 use Rattle.am_model.specs.declared.record.Reply.TheVariants as reply_is
-use Rattle.am_model.specs.Begin.{after_asking, reply_asking}
+use Rattle.am_model.specs.Begin.{after_notifying, reply_notifying}
 use Rattle.am_model.specs.Forget.{forgotten, after_forget}
 use Rattle.am_model.specs.Load.{loaded, after_load}
 use Rattle.am_model.specs.Records.{entry}
@@ -18,8 +18,8 @@ use Rattle.am_model.specs.look_back.Laws.{member_with, EveryLegalHistory, Alerts
 use Rattle.am_model.specs.look_back.Past.{past_of}
 use Rattle.am_model.specs.look_back.Presence.{goes_to, presence}
 use Rattle.am_model.specs.Replay.{replay}
-use Rattle.am_model.specs.State.{MemberState, GroupState, State, opening_state, at_moment, moment, members_in}
-use Rattle.am_model.specs.Upkeep.{silenced, after_silence}
+use Rattle.am_model.specs.State.{MemberState, GroupState, State, opening_state, at_time, time, members_in}
+use Rattle.am_model.specs.Maintenance.{silenced, after_silence}
 use Rattle.am_model.proofs.legal.Consistent.{consistent_replay}
 use Rattle.am_model.proofs.legal.ConsistentBegin.{IsTaken, taken-is}
 use Rattle.am_model.proofs.legal.ConsistentGroups.{members_of-in}
@@ -30,31 +30,31 @@ use Rattle.am_model.proofs.looking_back.flushes.Opened.{Finds}
 use Rattle.am_model.proofs.looking_back.Pasts.{state_after, IsLegalPast, replay_of_past, legal_past, replay_is_past}
 
 module _ (config : Config) (id : ℕ) (s : State) (past : List Record) (pass : ℕ) (steady : IsSteady s) (k : Finds config s past) where
-  -- what is found after a call that leads to a state and was told a reply
+  -- what is found after a call that leads to a state and returned a reply
   abbrev After : Call → State → Reply → Type 0
   After c new p = Finds config new (entry pass c p ∷ past)
 
-  asking : (now : ℕ) (g : GroupState) → IsTaken s g → (asked : List (ℕ × Integration)) → After (Begin now) (after_asking config s (moment s now) g asked) (reply_asking config id s (moment s now) g asked)
-  asking now g is [] = finds-quiet config s past k pass now g steady
-  asking now g is (i ∷ more) = finds-flush config s past k id pass now g (i ∷ more) steady is
+  notifying : (now : ℕ) (g : GroupState) → IsTaken s g → (notified : List (ℕ × Integration)) → After (Begin now) (after_notifying config s (time s now) g notified) (reply_notifying config id s (time s now) g notified)
+  notifying now g is [] = finds-quiet config s past k pass now g steady
+  notifying now g is (i ∷ more) = finds-flush config s past k id pass now g (i ∷ more) steady is
 
   each : HoldsOfEach config id s After
   each =
       record {
         insert = λ now a. finds-insert config s past k pass now a steady;
         silence = λ now number matchers start end.
-            finds-still config s past k (after_silence s (moment s now) (silence_of number matchers start end)) (entry pass (Silence now number matchers start end) (reply_is.Silenced (silenced s (silence_of number matchers start end)))) now refl refl refl refl refl refl
+            finds-still config s past k (after_silence s (time s now) (silence_of number matchers start end)) (entry pass (Silence now number matchers start end) (reply_is.Silenced (silenced s (silence_of number matchers start end)))) now refl refl refl refl refl refl
             (λ labels. refl) (λ name m. refl) (λ n. refl) (λ n i. refl);
         nothing = λ now none.
-            finds-still config s past k (at_moment s (moment s now)) (entry pass (Begin now) reply_is.NothingDue) now refl refl refl refl refl refl (λ labels. refl) (λ name m. refl) (λ number. refl) (λ number i. refl);
-        begin = λ now g is asked are. asking now g (taken-is s (moment s now) g steady.groups is) asked;
+            finds-still config s past k (at_time s (time s now)) (entry pass (Begin now) reply_is.NothingDue) now refl refl refl refl refl refl (λ labels. refl) (λ name m. refl) (λ number. refl) (λ number i. refl);
+        begin = λ now g is notified are. notifying now g (taken-is s (time s now) g steady.groups is) notified;
         finish = λ now number outcomes f is. finds-finish config s past k pass now number outcomes f steady is;
         maintain = λ now. finds-maintain config s past k pass now steady;
         forget = λ now.
-            finds-still config s past k (after_forget s (moment s now)) (entry pass (Forget now) (reply_is.Forgotten (forgotten s (moment s now)))) now refl refl refl refl refl refl
+            finds-still config s past k (after_forget s (time s now)) (entry pass (Forget now) (reply_is.Forgotten (forgotten s (time s now)))) now refl refl refl refl refl refl
             (λ labels. refl) (λ name m. refl) (λ n. refl) (λ n i. refl);
         load = λ now row may.
-            finds-still config s past k (after_load config s (moment s now) row) (entry pass (Load now row) (reply_is.Loaded (loaded s.rows (moment s now) row))) now refl refl refl refl refl refl
+            finds-still config s past k (after_load config s (time s now) row) (entry pass (Load now row) (reply_is.Loaded (loaded s.rows (time s now) row))) now refl refl refl refl refl refl
             (λ labels. refl) (λ name m. refl) (λ n. refl) (λ n i. refl);
         note = λ now number integration outcome f is may. finds-note config s past k pass now number integration outcome f steady is;
       }

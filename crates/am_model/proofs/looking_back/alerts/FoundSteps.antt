@@ -9,7 +9,7 @@ use Rattle.am_alerts.specs.AlertData.{AlertData, is_resolved}
 use Rattle.am_alerts.specs.Labels.{same_label_set}
 use Rattle.am_alerts.specs.LabelOrder.{same_label_set-decides}
 use Rattle.am_alerts.specs.declared.labels.Label.{Label}
-use Rattle.am_alerts.specs.declared.limits.TheConstants.{MAX_MOMENT}
+use Rattle.am_alerts.specs.declared.limits.TheConstants.{MAX_TIME}
 use Rattle.am_nflog.specs.Members.{is_empty}
 use Rattle.am_retry.specs.declared.outcome.Outcome.{Outcome}
 use Rattle.am_model.specs.declared.config.Config.{Config}
@@ -18,7 +18,7 @@ use Rattle.am_model.specs.declared.group.GroupName.{GroupName}
 use Rattle.am_model.specs.declared.record.Call.TheVariants as call
 use Rattle.am_model.specs.declared.record.Record.{Record}
 use Rattle.am_model.specs.declared.record.Reply.TheVariants as reply_is
-use Rattle.am_model.specs.Begin.{begun_group, without_resolved, count_resolved, leaving_of, firing_of, resolved_of, sent, asked_state, notice_for, deadline_of, flush_asking, after_asking}
+use Rattle.am_model.specs.Begin.{begun_group, without_resolved, count_resolved, leaving_of, firing_of, resolved_of, sent, notified_state, notice_for, deadline_of, flush_notifying, after_notifying}
 use Rattle.am_model.specs.Note.{as_noted, with_note, after_note}
 use Rattle.am_model.specs.Finish.{leaves_by, finished_group, all_succeeded, is_leaving, finished, after_finish}
 use Rattle.am_model.specs.Notice.{NoticeData}
@@ -26,15 +26,15 @@ use Rattle.am_model.specs.Records.{entry, flush_reply, now_of}
 use Rattle.am_model.specs.Insert.{names_for, next_stamp, new_group, group_or_new, group_with, put_into_group, inserted, after_insert, same_member}
 use Rattle.am_model.specs.Lists.{upsert, without, changed_where}
 use Rattle.am_model.specs.look_back.Laws.{member_with}
-use Rattle.am_model.specs.look_back.Past.{moment_at, is_flush, is_note, begin_of, was_noted}
+use Rattle.am_model.specs.look_back.Past.{time_at, is_flush, is_note, begin_of, was_noted}
 use Rattle.am_model.specs.look_back.Presence.{goes_to, inserts, begin_since, resolved_at_begin, all_succeeded_at, last_insert, unless_left, removes, presence}
-use Rattle.am_model.specs.State.{MemberState, GroupState, FlushState, State, moment, same_name, is_named, flush_numbered}
-use Rattle.am_model.specs.Upkeep.{after_maintain, maintained}
+use Rattle.am_model.specs.State.{MemberState, GroupState, FlushState, State, time, same_name, is_named, flush_numbered}
+use Rattle.am_model.specs.Maintenance.{after_maintain, maintained}
 use Rattle.am_model.proofs.legal.ConsistentBegin.{IsTaken}
 use Rattle.am_model.proofs.legal.ConsistentGroups.{members_of, members_of-kept}
 use Rattle.am_model.proofs.lists.Distinct.{all-find, all-filter, all-map, all-push, all-weaker, all-both, find-passes}
 use Rattle.am_model.proofs.legal.ConsistentState.{IsOpen, IsSteady}
-use Rattle.am_model.proofs.looking_back.flushes.Opened.{notices_at, asked_noted, asked_as, IsOpened, Finds, open-step, success-found, leaving-older, members-tidy}
+use Rattle.am_model.proofs.looking_back.flushes.Opened.{notices_at, notified_noted, notified_as, IsOpened, Finds, open-step, success-found, leaving-older, members-tidy}
 use Rattle.am_model.proofs.looking_back.Pasts.{presence-step, presence-insert, unless-some}
 use Rattle.am_model.proofs.looking_back.PastWords.{unless, has_labels, member-put, member-without, member-labels, members_of-put, members_of-changed_own, members_of-kept_some, leaving-found}
 use Rattle.am_model.proofs.states.Alike.{same_name-is}
@@ -95,8 +95,8 @@ module _ (config : Config) (t : ℕ) (m : MemberState) (labels : List Label) (na
 
 module _ (config : Config) (s : State) (past : List Record) (k : Finds config s past) where
   -- the clock
-  pub clock-step : (now : ℕ) (r : Record) → now_of r.call ≡ now → moment s now ≡ moment_at (r ∷ past)
-  clock-step now r e = ap (λ c. max c (min now MAX_MOMENT)) k.clock ∙ sym (ap (λ n. max (moment_at past) (min n MAX_MOMENT)) e)
+  pub clock-step : (now : ℕ) (r : Record) → now_of r.call ≡ now → time s now ≡ time_at (r ∷ past)
+  clock-step now r e = ap (λ c. max c (min now MAX_TIME)) k.clock ∙ sym (ap (λ n. max (time_at past) (min n MAX_TIME)) e)
 
   -- a record that takes nothing out and inserts nothing
   pub same-step : (name : GroupName) (labels : List Label) (r : Record) → inserts labels r.call ≡ false → ((m : MemberState) → removes name m.alert r past ≡ false)
@@ -108,14 +108,14 @@ module _ (config : Config) (s : State) (past : List Record) (k : Finds config s 
       by None = refl
       by (Some m) = ap (λ b. cond b None (Some m)) (none m)
 
-  pub finds-insert : (pass now : ℕ) (a : AlertData) → IsSteady s → Finds config (after_insert config s (moment s now) a) (entry pass (call.Insert now a) (reply_is.Inserted (inserted config s a)) ∷ past)
+  pub finds-insert : (pass now : ℕ) (a : AlertData) → IsSteady s → Finds config (after_insert config s (time s now) a) (entry pass (call.Insert now a) (reply_is.Inserted (inserted config s a)) ∷ past)
   finds-insert pass now a steady =
       let r = entry pass (call.Insert now a) (reply_is.Inserted (inserted config s a)) in
       let m : MemberState = record { alert = a; stamp = next_stamp s } in
       let names = names_for config a.labels in
       record {
         found = λ name labels.
-            into-each config (moment s now) m labels name names s.groups
+            into-each config (time s now) m labels name names s.groups
             ∙ elim (same_label_set labels a.labels) as (λ b. same_label_set labels a.labels ≡ b → cond (b && list_any (same_name name) names) (Some m) (member_with labels (members_of s.groups name)) ≡ presence config name labels (r ∷ past)) [
               | true ↦ λ e. here name labels a m ((same_label_set-decides labels a.labels).0 e) (goes_to config name labels) refl ∙ sym (presence-insert config name labels pass now a (inserted config s a) past e)
               | false ↦ λ e. same-step name labels r e (λ n. refl)
@@ -145,7 +145,7 @@ module _ (config : Config) (s : State) (past : List Record) (k : Finds config s 
   -- ---- a silence, and a begin where nothing is due
 
   -- the groups and the open flushes stay
-  pub finds-still : (s' : State) (r : Record) (now : ℕ) → s'.groups ≡ s.groups → s'.flushes ≡ s.flushes → s'.inserts ≡ s.inserts → s'.next_number ≡ s.next_number → s'.clock ≡ moment s now → now_of r.call ≡ now
+  pub finds-still : (s' : State) (r : Record) (now : ℕ) → s'.groups ≡ s.groups → s'.flushes ≡ s.flushes → s'.inserts ≡ s.inserts → s'.next_number ≡ s.next_number → s'.clock ≡ time s now → now_of r.call ≡ now
       → ((labels : List Label) → inserts labels r.call ≡ false) → ((name : GroupName) (m : MemberState) → removes name m.alert r past ≡ false)
       → ((number : ℕ) → is_flush number r.reply ≡ false) → ((number i : ℕ) → is_note number i r.call ≡ false)
       → Finds config s' (r ∷ past)
@@ -164,9 +164,9 @@ module _ (config : Config) (s : State) (past : List Record) (k : Finds config s 
 
   -- ---- a maintenance
 
-  pub finds-maintain : (pass now : ℕ) → IsSteady s → Finds config (after_maintain s (moment s now)) (entry pass (call.Maintain now) (reply_is.Maintained (maintained s (moment s now))) ∷ past)
+  pub finds-maintain : (pass now : ℕ) → IsSteady s → Finds config (after_maintain s (time s now)) (entry pass (call.Maintain now) (reply_is.Maintained (maintained s (time s now))) ∷ past)
   finds-maintain pass now steady =
-      let r = entry pass (call.Maintain now) (reply_is.Maintained (maintained s (moment s now))) in
+      let r = entry pass (call.Maintain now) (reply_is.Maintained (maintained s (time s now))) in
       record {
         found = λ name labels. ap (member_with labels) (members_of-kept_some name s.groups steady.groups) ∙ same-step name labels r refl (λ m. refl);
         clock = clock-step now r refl;
@@ -206,9 +206,9 @@ module _ (config : Config) (s : State) (past : List Record) (k : Finds config s 
       by (Some m) is = ap (λ b. cond b None (Some m)) (says m is) ∙ two m (same_name name own) (gone m)
 
   pub finds-quiet : (pass now : ℕ) (g : GroupState) → IsSteady s
-      → Finds config (after_asking config s (moment s now) g []) (entry pass (call.Begin now) (reply_is.Quiet g.name (count_resolved (moment s now) g)) ∷ past)
+      → Finds config (after_notifying config s (time s now) g []) (entry pass (call.Begin now) (reply_is.Quiet g.name (count_resolved (time s now) g)) ∷ past)
   finds-quiet pass now g steady =
-      let t = moment s now in
+      let t = time s now in
       let r = entry pass (call.Begin now) (reply_is.Quiet g.name (count_resolved t g)) in
       let gone : MemberState → Bool = λ m. is_resolved m.alert t in
       record {
@@ -216,7 +216,7 @@ module _ (config : Config) (s : State) (past : List Record) (k : Finds config s 
             gone-step r (changed_where (is_named g.name) (λ h. without_resolved t (begun_group config t h)) s.groups) g.name gone name labels steady
             (members_of-changed_own g.name (λ h. without_resolved t (begun_group config t h)) (λ h. refl) gone (λ h. refl) name s.groups)
             refl
-            (λ m is. or-false (same_name name g.name && is_resolved m.alert (moment_at (r ∷ past))) ∙ ap (λ u. same_name name g.name && is_resolved m.alert u) (sym (clock-step now r refl)));
+            (λ m is. or-false (same_name name g.name && is_resolved m.alert (time_at (r ∷ past))) ∙ ap (λ u. same_name name g.name && is_resolved m.alert u) (sym (clock-step now r refl)));
         clock = clock-step now r refl;
         opened =
             all-weaker (IsOpened config s.inserts past) (IsOpened config s.inserts (r ∷ past))
@@ -225,7 +225,7 @@ module _ (config : Config) (s : State) (past : List Record) (k : Finds config s 
       }
 
   pub finds-finish : (pass now number : ℕ) (outcomes : List (ℕ × Outcome)) (f : FlushState) → IsSteady s → flush_numbered s.flushes number ≡ Some f
-      → Finds config (after_finish config s (moment s now) outcomes f) (entry pass (call.Finish now number outcomes) (reply_is.Finished (finished s outcomes f)) ∷ past)
+      → Finds config (after_finish config s (time s now) outcomes f) (entry pass (call.Finish now number outcomes) (reply_is.Finished (finished s outcomes f)) ∷ past)
   finds-finish pass now number outcomes f steady is_open =
       let r = entry pass (call.Finish now number outcomes) (reply_is.Finished (finished s outcomes f)) in
       let same : f.number ≡ number = eqb-true f.number number (find-passes (λ (h : FlushState). h.number == number) f s.flushes is_open) in
@@ -241,7 +241,7 @@ module _ (config : Config) (s : State) (past : List Record) (k : Finds config s 
             let there : presence config name m.alert.labels past ≡ Some m = subst (λ l. presence config name l past ≡ Some m) own is in
             ap (λ n. resolved_at_begin name m.alert (begin_since m.alert.labels n past) && all_succeeded_at n outcomes past (begin_of n past)) (sym same)
             ∙ ap (λ b. b && all_succeeded_at f.number outcomes past (begin_of f.number past)) (o.leaving name m there)
-            ∙ ap (λ b. (same_name name f.group && is_leaving f.leaving m) && b) (success-found config s.inserts past f o outcomes held.asked)
+            ∙ ap (λ b. (same_name name f.group && is_leaving f.leaving m) && b) (success-found config s.inserts past f o outcomes held.notified)
             ∙ turn (same_name name f.group) (is_leaving f.leaving m) (all_succeeded outcomes f));
         clock = clock-step now r refl;
         opened =
@@ -260,16 +260,16 @@ module _ (config : Config) (s : State) (past : List Record) (k : Finds config s 
 
   -- ---- a begin that opens a flush
 
-  pub finds-flush : (id pass now : ℕ) (g : GroupState) (asked : List (ℕ × Integration)) → IsSteady s → IsTaken s g
+  pub finds-flush : (id pass now : ℕ) (g : GroupState) (notified : List (ℕ × Integration)) → IsSteady s → IsTaken s g
       → Finds config (record s {
-        clock = moment s now;
-        groups = changed_where (is_named g.name) (begun_group config (moment s now)) s.groups;
-        flushes = s.flushes ++ flush_asking config s (moment s now) g asked ∷ [];
+        clock = time s now;
+        groups = changed_where (is_named g.name) (begun_group config (time s now)) s.groups;
+        flushes = s.flushes ++ flush_notifying config s (time s now) g notified ∷ [];
         next_number = s.next_number + 1;
-      }) (entry pass (call.Begin now) (flush_reply s.next_number g.name (deadline_of config (moment s now) g) (map (notice_for config id s (moment s now) g) asked)) ∷ past)
-  finds-flush id pass now g asked steady taken =
-      let t = moment s now in
-      let notices = map (notice_for config id s t g) asked in
+      }) (entry pass (call.Begin now) (flush_reply s.next_number g.name (deadline_of config (time s now) g) (map (notice_for config id s (time s now) g) notified)) ∷ past)
+  finds-flush id pass now g notified steady taken =
+      let t = time s now in
+      let notices = map (notice_for config id s t g) notified in
       let r = entry pass (call.Begin now) (flush_reply s.next_number g.name (deadline_of config t g) notices) in
       let next = s.next_number in
       let tidy = members-tidy s.inserts g.name s.groups steady.tidy in
@@ -279,12 +279,12 @@ module _ (config : Config) (s : State) (past : List Record) (k : Finds config s 
             ∙ same-step name labels r refl (λ m. refl);
         clock = clock-step now r refl;
         opened =
-            all-push (IsOpened config s.inserts (r ∷ past)) s.flushes (flush_asking config s t g asked)
+            all-push (IsOpened config s.inserts (r ∷ past)) s.flushes (flush_notifying config s t g notified)
             (all-both (IsOpened config s.inserts past) (IsOpen next s.groups) (IsOpened config s.inserts (r ∷ past))
             (λ f o held. open-step config r past s.inserts s.inserts f (omega arith) (ne_eqb next f.number (λ e. omega (arith, e, held.number))) (λ i. refl) (λ name m e. absurd (false≢true e)) o)
             s.flushes k.opened steady.opened)
             (record {
-              asked = each id t g asked ∙ sym (ap (λ b. map (asked_as next (r ∷ past)) (notices_at (cond b (r ∷ past) (begin_of next past)))) (nat_eq_equiv.refl next));
+              notified = each id t g notified ∙ sym (ap (λ b. map (notified_as next (r ∷ past)) (notices_at (cond b (r ∷ past) (begin_of next past)))) (nat_eq_equiv.refl next));
               leaving = λ name m is.
                   ap (λ b. resolved_at_begin name m.alert (cond b (r ∷ past) (begin_since m.alert.labels next past))) (nat_eq_equiv.refl next)
                   ∙ ap (λ u. same_name name g.name && is_resolved m.alert u) (sym (clock-step now r refl))
@@ -298,18 +298,18 @@ module _ (config : Config) (s : State) (past : List Record) (k : Finds config s 
       empty [] = refl
       empty (x ∷ xs) = sym (ne_eqb (length (x ∷ xs)) 0 (λ e. omega (arith, e)))
 
-      one : (id t : ℕ) (g : GroupState) (i : ℕ × Integration) → asked_state config s t g i ≡ asked_as s.next_number past (notice_for config id s t g i)
+      one : (id t : ℕ) (g : GroupState) (i : ℕ × Integration) → notified_state config s t g i ≡ notified_as s.next_number past (notice_for config id s t g i)
       one id t g i =
           let firing = empty (firing_of config s t g) in
           let resolved = empty (sent i.1 (resolved_of config s t g)) in
           let unnoted : false ≡ was_noted s.next_number i.0 past = sym (k.fresh s.next_number i.0 (omega arith)) in
           λ j. record { integration = i.0; nothing = firing j && resolved j; noted = unnoted j }
 
-      each : (id t : ℕ) (g : GroupState) (asked : List (ℕ × Integration)) → map (asked_state config s t g) asked ≡ map (asked_as s.next_number past) (map (notice_for config id s t g) asked)
+      each : (id t : ℕ) (g : GroupState) (notified : List (ℕ × Integration)) → map (notified_state config s t g) notified ≡ map (notified_as s.next_number past) (map (notice_for config id s t g) notified)
       each id t g [] = refl
       each id t g (i ∷ is) =
-          ap (λ a. a ∷ map (asked_state config s t g) is) (one id t g i)
-          ∙ ap (λ rest. asked_as s.next_number past (notice_for config id s t g i) ∷ rest) (each id t g is)
+          ap (λ a. a ∷ map (notified_state config s t g) is) (one id t g i)
+          ∙ ap (λ rest. notified_as s.next_number past (notice_for config id s t g i) ∷ rest) (each id t g is)
 
       leaves : (t : ℕ) (name : GroupName) (m : MemberState) → presence config name m.alert.labels past ≡ Some m → (b : Bool) → same_name name g.name ≡ b → (b && is_resolved m.alert t) ≡ (b && is_leaving (leaving_of t g) m)
       leaves t name m is false e = refl
@@ -327,7 +327,7 @@ module _ (config : Config) (s : State) (past : List Record) (k : Finds config s 
   -- ---- a note
 
   pub finds-note : (pass now number i : ℕ) (outcome : Option Outcome) (f : FlushState) → IsSteady s → flush_numbered s.flushes number ≡ Some f
-      → Finds config (after_note config s (moment s now) i f) (entry pass (call.Note now number i outcome) reply_is.Noted ∷ past)
+      → Finds config (after_note config s (time s now) i f) (entry pass (call.Note now number i outcome) reply_is.Noted ∷ past)
   finds-note pass now number i outcome f steady is_open =
       let r = entry pass (call.Note now number i outcome) reply_is.Noted in
       let same : f.number ≡ number = eqb-true f.number number (find-passes (λ (h : FlushState). h.number == number) f s.flushes is_open) in
@@ -342,17 +342,17 @@ module _ (config : Config) (s : State) (past : List Record) (k : Finds config s 
         fresh = λ n j h. ap (λ b. (b && (i == j)) || was_noted n j past) (ne_eqb number n (λ e. omega (arith, e, h, same, held.number))) ∙ k.fresh n j h;
       }
     where
-      one : (i : ℕ) (n : NoticeData) (was c d : Bool) → c ≡ d → cond c (as_noted (asked_noted was n)) (asked_noted was n) ≡ asked_noted (d || was) n
-      one i n was true d e = ap (λ b. asked_noted (b || was) n) e
-      one i n was false d e = ap (λ b. asked_noted (b || was) n) e
+      one : (i : ℕ) (n : NoticeData) (was c d : Bool) → c ≡ d → cond c (as_noted (notified_noted was n)) (notified_noted was n) ≡ notified_noted (d || was) n
+      one i n was true d e = ap (λ b. notified_noted (b || was) n) e
+      one i n was false d e = ap (λ b. notified_noted (b || was) n) e
 
       noted : (number i : ℕ) (r : Record) (ns : List NoticeData) → ((j : ℕ) → is_note number j r.call ≡ (i == j))
-          → changed_where (λ a. a.integration == i) as_noted (map (asked_as number past) ns) ≡ map (asked_as number (r ∷ past)) ns
+          → changed_where (λ a. a.integration == i) as_noted (map (notified_as number past) ns) ≡ map (notified_as number (r ∷ past)) ns
       noted number i r [] h = refl
       noted number i r (n ∷ ns) h =
-          ap (λ a. a ∷ changed_where (λ x. x.integration == i) as_noted (map (asked_as number past) ns))
+          ap (λ a. a ∷ changed_where (λ x. x.integration == i) as_noted (map (notified_as number past) ns))
           (one i n (was_noted number n.integration past) (n.integration == i) (is_note number n.integration r.call) (nat_eq_equiv.symm n.integration i ∙ sym (h n.integration)))
-          ∙ ap (λ rest. asked_as number (r ∷ past) n ∷ rest) (noted number i r ns h)
+          ∙ ap (λ rest. notified_as number (r ∷ past) n ∷ rest) (noted number i r ns h)
 
       noted_or : (pass now number i : ℕ) (outcome : Option Outcome) (h : FlushState) → f.number ≡ number → IsOpened config s.inserts past h → (b : Bool) → (h.number == f.number) ≡ b
           → IsOpened config s.inserts (entry pass (call.Note now number i outcome) reply_is.Noted ∷ past) (cond b (with_note i h) h)
@@ -360,8 +360,8 @@ module _ (config : Config) (s : State) (past : List Record) (k : Finds config s 
           let r = entry pass (call.Note now number i outcome) reply_is.Noted in
           let own : number ≡ h.number = sym (eqb-true h.number f.number e ∙ same) in
           record {
-            asked =
-                ap (λ asked. changed_where (λ a. a.integration == i) as_noted asked) o.asked
+            notified =
+                ap (λ notified. changed_where (λ a. a.integration == i) as_noted notified) o.notified
                 ∙ noted h.number i r (notices_at (begin_of h.number past)) (λ j. ap (λ b. b && (i == j)) (eq-eqb number h.number own));
             leaving = λ name m is. o.leaving name m (unless-some (λ x. false) (presence config name m.alert.labels past) m (sym (presence-step config name m.alert.labels r past refl) ∙ is));
             stamps = o.stamps;

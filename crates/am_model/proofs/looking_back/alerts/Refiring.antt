@@ -14,8 +14,8 @@ use Rattle.am_model.specs.declared.record.Reply.{Reply}
 use Rattle.am_model.specs.declared.record.Reply.TheVariants.{Inserted, Silenced, NothingDue, Quiet, Flush, Finished, Maintained, Forgotten, Loaded, Noted}
 use Rattle.am_model.specs.look_back.Entry.{begins_group}
 use Rattle.am_model.specs.look_back.Laws.{member_with, EveryLegalHistory, number_in, insert_during, KeepsRefiring, IsOneFlushAtATime, RefiringAlertsStay}
-use Rattle.am_model.specs.look_back.Past.{AtEach, past_of, moment_at, is_flush, is_flush_of, is_quiet, is_finish, takes, begin_of, has_finished}
-use Rattle.am_model.specs.look_back.Presence.{goes_to, inserts, inserted_by, stamp_told, last_insert, begin_since, resolved_at_begin, all_succeeded_at, finish_removes, removes, has_left, unless_left, presence}
+use Rattle.am_model.specs.look_back.Past.{AtEach, past_of, time_at, is_flush, is_flush_of, is_quiet, is_finish, takes, begin_of, has_finished}
+use Rattle.am_model.specs.look_back.Presence.{goes_to, inserts, inserted_by, stamp_returned, last_insert, begin_since, resolved_at_begin, all_succeeded_at, finish_removes, removes, has_left, unless_left, presence}
 use Rattle.am_model.specs.State.{MemberState, members_in}
 use Rattle.am_model.proofs.looking_back.flushes.FlushesOnce.{flushes_end_once}
 use Rattle.am_model.proofs.looking_back.alerts.FoundAlerts.{members-found}
@@ -68,12 +68,12 @@ module _ (config : Config) (name : GroupName) (number : ℕ) where
         → resolved_at_begin name m.alert (begin_since m.alert.labels n past) ≡ false
     none-resolved n [] each begun unfinished is = refl
     none-resolved n (r ∷ past) each begun unfinished is =
-        elim (is_flush number r.reply) as (λ b. is_flush number r.reply ≡ b → begins_group name (cond b (r ∷ past) (begin_of number past)) ≡ true → cond b None (cond (inserts labels r.call) (inserted_by (stamp_told r.reply) r.call) (insert_during number labels past)) ≡ Some m → resolved_at_begin name m.alert (begin_since m.alert.labels n (r ∷ past)) ≡ false) [
+        elim (is_flush number r.reply) as (λ b. is_flush number r.reply ≡ b → begins_group name (cond b (r ∷ past) (begin_of number past)) ≡ true → cond b None (cond (inserts labels r.call) (inserted_by (stamp_returned r.reply) r.call) (insert_during number labels past)) ≡ Some m → resolved_at_begin name m.alert (begin_since m.alert.labels n (r ∷ past)) ≡ false) [
           | true ↦ λ e h is. absurd (cc)
           | false ↦ λ e h is.
               let before = (or_parts (is_finish number r.call) (has_finished number past) unfinished).1 in
               let free = or_parts (is_quiet name r.reply) (is_flush_of name r.reply) (not-taken r past each.0 h before) in
-              elim (inserts labels r.call) as (λ b. inserts labels r.call ≡ b → cond b (inserted_by (stamp_told r.reply) r.call) (insert_during number labels past) ≡ Some m → resolved_at_begin name m.alert (begin_since m.alert.labels n (r ∷ past)) ≡ false) [
+              elim (inserts labels r.call) as (λ b. inserts labels r.call ≡ b → cond b (inserted_by (stamp_returned r.reply) r.call) (insert_during number labels past) ≡ Some m → resolved_at_begin name m.alert (begin_since m.alert.labels n (r ∷ past)) ≡ false) [
                 | true ↦ λ e is. ap (λ b. resolved_at_begin name m.alert (cond b [] (cond (is_flush n r.reply) (r ∷ past) (begin_since m.alert.labels n past)))) (subst (λ l. inserts l r.call ≡ true) own e)
                 | false ↦ λ e is.
                     ap (λ b. resolved_at_begin name m.alert (cond b [] (cond (is_flush n r.reply) (r ∷ past) (begin_since m.alert.labels n past)))) (subst (λ l. inserts l r.call ≡ false) own e)
@@ -82,7 +82,7 @@ module _ (config : Config) (name : GroupName) (number : ℕ) where
         ] refl begun is
       where
         either : (b : Bool) → is_flush_of name r.reply ≡ false → resolved_at_begin name m.alert (begin_since m.alert.labels n past) ≡ false → resolved_at_begin name m.alert (cond b (r ∷ past) (begin_since m.alert.labels n past)) ≡ false
-        either true free rest = ap (λ b. b && is_resolved m.alert (moment_at (r ∷ past))) free
+        either true free rest = ap (λ b. b && is_resolved m.alert (time_at (r ∷ past))) free
         either false free rest = rest
 
     -- so that no finish takes the alert out
@@ -101,17 +101,17 @@ module _ (config : Config) (name : GroupName) (number : ℕ) where
         → removes name m.alert r past ≡ false
     stays-one r past one each begun unfinished is =
         let free = or_parts (is_quiet name r.reply) (is_flush_of name r.reply) (not-taken r past one begun unfinished) in
-        ap (λ b. (b && is_resolved m.alert (moment_at (r ∷ past))) || finish_removes name m.alert past r.call) free.0
+        ap (λ b. (b && is_resolved m.alert (time_at (r ∷ past))) || finish_removes name m.alert past r.call) free.0
         ∙ none-removed past r.call (λ n. none-resolved n past each begun unfinished is)
 
     stays : (past : List Record) → AtEach IsOneFlushAtATime past → begins_group name (begin_of number past) ≡ true → has_finished number past ≡ false → insert_during number labels past ≡ Some m → has_left name m.alert past ≡ false
     stays [] each begun unfinished is = refl
     stays (r ∷ past) each begun unfinished is =
-        elim (is_flush number r.reply) as (λ b. is_flush number r.reply ≡ b → begins_group name (cond b (r ∷ past) (begin_of number past)) ≡ true → cond b None (cond (inserts labels r.call) (inserted_by (stamp_told r.reply) r.call) (insert_during number labels past)) ≡ Some m → has_left name m.alert (r ∷ past) ≡ false) [
+        elim (is_flush number r.reply) as (λ b. is_flush number r.reply ≡ b → begins_group name (cond b (r ∷ past) (begin_of number past)) ≡ true → cond b None (cond (inserts labels r.call) (inserted_by (stamp_returned r.reply) r.call) (insert_during number labels past)) ≡ Some m → has_left name m.alert (r ∷ past) ≡ false) [
           | true ↦ λ e h is. absurd (cc)
           | false ↦ λ e h is.
               let before = (or_parts (is_finish number r.call) (has_finished number past) unfinished).1 in
-              elim (inserts labels r.call) as (λ b. inserts labels r.call ≡ b → cond b (inserted_by (stamp_told r.reply) r.call) (insert_during number labels past) ≡ Some m → has_left name m.alert (r ∷ past) ≡ false) [
+              elim (inserts labels r.call) as (λ b. inserts labels r.call ≡ b → cond b (inserted_by (stamp_returned r.reply) r.call) (insert_during number labels past) ≡ Some m → has_left name m.alert (r ∷ past) ≡ false) [
                 | true ↦ λ e is. ap (λ b. cond b false (removes name m.alert r past || has_left name m.alert past)) (subst (λ l. inserts l r.call ≡ true) own e)
                 | false ↦ λ e is.
                     ap (λ b. cond b false (removes name m.alert r past || has_left name m.alert past)) (subst (λ l. inserts l r.call ≡ false) own e)
@@ -125,10 +125,10 @@ module _ (config : Config) (name : GroupName) (number : ℕ) where
 during-last : (number : ℕ) (labels : List Label) (m : MemberState) (past : List Record) → insert_during number labels past ≡ Some m → last_insert labels past ≡ Some m
 during-last number labels m [] is = is
 during-last number labels m (r ∷ past) is =
-    elim (is_flush number r.reply) as (λ b. cond b None (cond (inserts labels r.call) (inserted_by (stamp_told r.reply) r.call) (insert_during number labels past)) ≡ Some m → last_insert labels (r ∷ past) ≡ Some m) [
+    elim (is_flush number r.reply) as (λ b. cond b None (cond (inserts labels r.call) (inserted_by (stamp_returned r.reply) r.call) (insert_during number labels past)) ≡ Some m → last_insert labels (r ∷ past) ≡ Some m) [
       | true ↦ λ is. absurd (cc)
       | false ↦ λ is.
-          elim (inserts labels r.call) as (λ b. cond b (inserted_by (stamp_told r.reply) r.call) (insert_during number labels past) ≡ Some m → cond b (inserted_by (stamp_told r.reply) r.call) (last_insert labels past) ≡ Some m) [
+          elim (inserts labels r.call) as (λ b. cond b (inserted_by (stamp_returned r.reply) r.call) (insert_during number labels past) ≡ Some m → cond b (inserted_by (stamp_returned r.reply) r.call) (last_insert labels past) ≡ Some m) [
             | true ↦ λ is. is
             | false ↦ λ is. during-last number labels m past is
           ] is
@@ -154,7 +154,7 @@ present-after config r past one each number is name begun labels goes m during =
     let own : labels ≡ m.alert.labels = (same_label_set-decides labels m.alert.labels).0 (last_insert-labels labels m past last) in
     let unfinished = one.first_finish number is in
     ap (λ b. cond b (unless_left name (r ∷ past) (last_insert labels (r ∷ past))) None) goes
-    ∙ ap (λ b. unless_left name (r ∷ past) (cond b (inserted_by (stamp_told r.reply) r.call) (last_insert labels past))) (finish-keeps labels number r.call is)
+    ∙ ap (λ b. unless_left name (r ∷ past) (cond b (inserted_by (stamp_returned r.reply) r.call) (last_insert labels past))) (finish-keeps labels number r.call is)
     ∙ ap (unless_left name (r ∷ past)) last
     ∙ ap (λ b. cond (cond b false (removes name m.alert r past || has_left name m.alert past)) None (Some m)) (finish-keeps m.alert.labels number r.call is)
     ∙ ap (λ b. cond (b || has_left name m.alert past) None (Some m)) (stays-one config name number labels m own r past one each begun unfinished during)

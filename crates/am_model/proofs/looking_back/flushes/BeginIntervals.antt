@@ -8,24 +8,24 @@ use Rattle.am_model.specs.declared.record.Record.{Record}
 use Rattle.am_model.specs.Configured.{route_of}
 use Rattle.am_model.specs.look_back.Interval.{found_empty, begun_since, KeepsInterval, BeginsKeepTheInterval}
 use Rattle.am_model.specs.look_back.Laws.{EveryLegalHistory, begun_at}
-use Rattle.am_model.specs.look_back.Past.{AtEach, past_of, moment_at, takes}
+use Rattle.am_model.specs.look_back.Past.{AtEach, past_of, time_at, takes}
 use Rattle.am_model.proofs.looking_back.flushes.FlushesOnce.{IsLater, IsIntervalOver, intervals_are_over}
 use Rattle.am_model.proofs.looking_back.Pasts.{legal_past}
 
--- u is at most a moment, and that is there
+-- u is at most a time, and that is there
 abbrev IsUpTo : ℕ → Option ℕ → Type 0
 IsUpTo u None = ⊥
 IsUpTo u (Some last) = u ≤ last
 
 module _ (config : Config) (name : GroupName) (u : ℕ) where
-  -- no begin is after the moment of the latest record
-  begun-moment : (past : List Record) → begun_since config name u past ≡ true → u ≤ moment_at past
-  begun-moment [] h = absurd (false≢true h)
-  begun-moment (r ∷ past) h =
-      let t = moment_at (r ∷ past) in
+  -- no begin is after the time of the latest record
+  begun-time : (past : List Record) → begun_since config name u past ≡ true → u ≤ time_at past
+  begun-time [] h = absurd (false≢true h)
+  begun-time (r ∷ past) h =
+      let t = time_at (r ∷ past) in
       elim (one (takes name r.reply) (t == u) (not (found_empty config name r past)) (begun_since config name u past) h) as (λ _. u ≤ t) [
         | inl now ↦ let same : t ≡ u = eqb-true t u now in omega (arith, same)
-        | inr before ↦ let up : u ≤ moment_at past = begun-moment past before in omega (arith, up)
+        | inr before ↦ let up : u ≤ time_at past = begun-time past before in omega (arith, up)
       ]
     where
       one : (a b c d : Bool) → ((a && b) || (c && d)) ≡ true → (b ≡ true) ⊎ (d ≡ true)
@@ -39,12 +39,12 @@ module _ (config : Config) (name : GroupName) (u : ℕ) where
   begun-last : (past : List Record) → begun_since config name u past ≡ true → IsUpTo u (begun_at config name past)
   begun-last [] h = absurd (false≢true h)
   begun-last (r ∷ past) h =
-      let t = moment_at (r ∷ past) in
+      let t = time_at (r ∷ past) in
       let empty = found_empty config name r past in
       let since = begun_since config name u past in
       let last = begun_at config name past in
       elim (takes name r.reply) as (λ b. takes name r.reply ≡ b → IsUpTo u (cond b (Some t) (cond empty None last))) [
-        | true ↦ λ e. begun-moment (r ∷ past) h
+        | true ↦ λ e. begun-time (r ∷ past) h
         | false ↦ λ e. earlier last empty since (begun-last past) (subst (λ b. ((b && (t == u)) || (not empty && since)) ≡ true) e h)
       ] refl
     where
@@ -64,7 +64,7 @@ interval_each config (r ∷ past) each = (
   λ name taken u since.
       let interval = (route_of config name).group_interval in
       let last = begun_at config name past in
-      later-all interval (moment_at (r ∷ past)) u last (each.0 name taken) (begun-last config name u past since),
+      later-all interval (time_at (r ∷ past)) u last (each.0 name taken) (begun-last config name u past since),
   interval_each config past each.1,
 )
 

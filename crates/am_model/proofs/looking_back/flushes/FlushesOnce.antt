@@ -24,7 +24,7 @@ use Rattle.am_model.specs.declared.record.Record.{Record}
 use Rattle.am_model.specs.declared.record.Reply.TheVariants as reply_is
 use Rattle.am_model.specs.declared.record.Reply.{Reply}
 use Rattle.am_model.specs.declared.record.Reply.TheVariants.{Inserted, Silenced, NothingDue, Quiet, Flush, Finished, Maintained, Forgotten, Loaded, Noted}
-use Rattle.am_model.specs.Begin.{due_cmp, may_begin, taken, asked_of, after_asking, after_taking, reply_asking, reply_taking, flush_asking}
+use Rattle.am_model.specs.Begin.{due_cmp, may_begin, taken, notified_of, after_notifying, after_taking, reply_notifying, reply_taking, flush_notifying}
 use Rattle.am_model.specs.Begin as begin_is
 use Rattle.am_model.specs.Configured.{route_of}
 use Rattle.am_model.specs.Notice.{NoticeData}
@@ -37,12 +37,12 @@ use Rattle.am_model.specs.Records.{entry}
 use Rattle.am_model.specs.Insert.{inserted}
 use Rattle.am_model.specs.Laws.{last_begin_after, IsBegunAt}
 use Rattle.am_model.specs.look_back.Laws.{member_with, EveryLegalHistory, number_in, has_open, begun_at, IsOneFlushAtATime, FlushesEndOnce}
-use Rattle.am_model.specs.Note.{is_ready, asked_by, may_be_noted, with_note, may_note, after_note, noted}
-use Rattle.am_model.specs.look_back.Past.{AtEach, past_of, moment_at, is_flush, is_flush_of, is_finish, is_note, takes, begin_of, has_begun, has_finished, was_noted}
+use Rattle.am_model.specs.Note.{is_ready, notified_by, may_be_noted, with_note, may_note, after_note, noted}
+use Rattle.am_model.specs.look_back.Past.{AtEach, past_of, time_at, is_flush, is_flush_of, is_finish, is_note, takes, begin_of, has_begun, has_finished, was_noted}
 use Rattle.am_model.specs.Replay.{reply, after, after_call}
-use Rattle.am_model.specs.State.{MemberState, GroupState, AskedState, FlushState, State, moment, same_name, is_flushing, members_in, flush_numbered}
-use Rattle.am_model.specs.Upkeep.{silenced, maintained}
-use Rattle.am_model.proofs.legal.Begins.{Keeps, keeps-call, opening_keeps}
+use Rattle.am_model.specs.State.{MemberState, GroupState, NotifiedState, FlushState, State, time, same_name, is_flushing, members_in, flush_numbered}
+use Rattle.am_model.specs.Maintenance.{silenced, maintained}
+use Rattle.am_model.proofs.legal.Begins.{RespectsIntervals, keeps-call, opening_keeps}
 use Rattle.am_model.proofs.legal.ConsistentBegin.{taken-is}
 use Rattle.am_model.proofs.legal.ConsistentGroups.{members_of, members_of-in}
 use Rattle.am_model.proofs.lists.Distinct.{all-find, all-filter, all-least, all-passes, all-both, find-passes}
@@ -50,7 +50,7 @@ use Rattle.am_model.proofs.legal.ConsistentState.{IsOpen, IsSteady}
 use Rattle.am_model.proofs.legal.EachCall.{HoldsOfEach, each_call}
 use Rattle.am_model.proofs.looking_back.alerts.FoundAlerts.{steady_past, finds_past}
 use Rattle.am_model.proofs.looking_back.alerts.FoundSteps.{clock-step}
-use Rattle.am_model.proofs.looking_back.flushes.Opened.{notices_at, asked_as, IsOpened, Finds}
+use Rattle.am_model.proofs.looking_back.flushes.Opened.{notices_at, notified_as, IsOpened, Finds}
 use Rattle.am_model.proofs.looking_back.Pasts.{state_after, IsLegalPast, at_each, legal_past}
 use Rattle.am_model.proofs.looking_back.PastWords.{has_labels}
 use Rattle.am_model.proofs.lists.Sets.{any-failing, any-find, any-filter, any-alike, any-and, any-map, passes}
@@ -79,7 +79,7 @@ pub record Counts (config : Config) (s : State) (past : List Record) : Type 0 wh
   pub opens : (test : GroupName → ℕ → Bool) → list_any (is_open_in test past) past ≡ list_any (λ f. test f.group f.number) s.flushes
   pub begun : (n : ℕ) → s.next_number ≤ n → has_begun n past ≡ false
   pub ended : (n : ℕ) → s.next_number ≤ n → has_finished n past ≡ false
-  pub keeps : Keeps config s.groups (λ name. begun_at config name past)
+  pub keeps : RespectsIntervals config s.groups (λ name. begun_at config name past)
 
 -- t is at least an interval after the last begin, if there was one
 abbrev pub IsLater : ℕ → ℕ → Option ℕ → Type 0
@@ -89,7 +89,7 @@ IsLater interval t (Some last) = last + interval ≤ t
 -- a record takes only a group that was begun at least an interval ago, unless a maintenance since then found it without alerts
 abbrev pub IsIntervalOver : Config → Record → List Record → Type 0
 IsIntervalOver config r past =
-    (name : GroupName) → takes name r.reply ≡ true → IsLater (route_of config name).group_interval (moment_at (r ∷ past)) (begun_at config name past)
+    (name : GroupName) → takes name r.reply ≡ true → IsLater (route_of config name).group_interval (time_at (r ∷ past)) (begun_at config name past)
 
 -- ---- words
 
@@ -98,25 +98,25 @@ two true true h = absurd (false≢true h)
 two true false h = (refl, refl)
 two false b h = absurd (false≢true h)
 
--- an integration is noted in an open flush exactly if a note stands in the past
-noted_past : (number i : ℕ) (past : List Record) (a : AskedState) (ns : List NoticeData) → find (λ (x : AskedState). x.integration == i) (map (asked_as number past) ns) ≡ Some a → was_noted number i past ≡ a.noted
+-- an integration is noted in an open flush exactly if a note is in the past
+noted_past : (number i : ℕ) (past : List Record) (a : NotifiedState) (ns : List NoticeData) → find (λ (x : NotifiedState). x.integration == i) (map (notified_as number past) ns) ≡ Some a → was_noted number i past ≡ a.noted
 noted_past number i past a [] found = absurd (cc)
 noted_past number i past a (n ∷ ns) found =
-    elim (n.integration == i) as (λ b. (n.integration == i) ≡ b → cond b (Some (asked_as number past n)) (find (λ (x : AskedState). x.integration == i) (map (asked_as number past) ns)) ≡ Some a → was_noted number i past ≡ a.noted) [
+    elim (n.integration == i) as (λ b. (n.integration == i) ≡ b → cond b (Some (notified_as number past n)) (find (λ (x : NotifiedState). x.integration == i) (map (notified_as number past) ns)) ≡ Some a → was_noted number i past ≡ a.noted) [
       | true ↦ λ same e.
-          let own : asked_as number past n ≡ a = cc in
-          ap (λ m. was_noted number m past) (sym (eqb-true n.integration i same)) ∙ ap (λ (x : AskedState). x.noted) own
+          let own : notified_as number past n ≡ a = cc in
+          ap (λ m. was_noted number m past) (sym (eqb-true n.integration i same)) ∙ ap (λ (x : NotifiedState). x.noted) own
       | false ↦ λ other e. noted_past number i past a ns e
     ] refl found
 
 -- one that may be noted wasn't noted
 unnoted_past : (config : Config) (inserts i : ℕ) (outcome : Option Outcome) (past : List Record) (f : FlushState) → IsOpened config inserts past f → may_note i outcome f ≡ true → was_noted f.number i past ≡ false
-unnoted_past config inserts i outcome past f o may = by (asked_by f i) refl may
+unnoted_past config inserts i outcome past f o may = by (notified_by f i) refl may
   where
-    by : (a : Option AskedState) → asked_by f i ≡ a → may_be_noted outcome a ≡ true → was_noted f.number i past ≡ false
+    by : (a : Option NotifiedState) → notified_by f i ≡ a → may_be_noted outcome a ≡ true → was_noted f.number i past ≡ false
     by None found e = absurd (false≢true e)
     by (Some a) found e =
-        noted_past f.number i past a (notices_at (begin_of f.number past)) (sym (ap (find (λ (x : AskedState). x.integration == i)) o.asked) ∙ found)
+        noted_past f.number i past a (notices_at (begin_of f.number past)) (sym (ap (find (λ (x : NotifiedState). x.integration == i)) o.notified) ∙ found)
         ∙ (two (is_ready outcome a) a.noted e).1
 
 -- a flush of a number, and one of a group
@@ -215,8 +215,8 @@ module _ (config : Config) (id : ℕ) (s : State) (past : List Record) (pass : �
   abbrev Holds : Call → State → Reply → Type 0
   Holds c new p = IsOneFlushAtATime (entry pass c p) past × Counts config new (entry pass c p ∷ past)
 
-  keeps-after : (c : Call) (p : Reply) → reply config id s c ≡ Some p → Begins c p → Keeps config (after_call config s c).groups (λ name. begun_at config name (entry pass c p ∷ past))
-  keeps-after c p e same = subst (Keeps config (after_call config s c).groups) (λ j name. same name j) (keeps-call config id s (λ name. begun_at config name past) n.keeps c p e)
+  keeps-after : (c : Call) (p : Reply) → reply config id s c ≡ Some p → Begins c p → RespectsIntervals config (after_call config s c).groups (λ name. begun_at config name (entry pass c p ∷ past))
+  keeps-after c p e same = subst (RespectsIntervals config (after_call config s c).groups) (λ j name. same name j) (keeps-call config id s (λ name. begun_at config name past) n.keeps c p e)
 
   -- the group that is taken was begun an interval ago, if it was
   later-taken : (t : ℕ) (g : GroupState) → taken s t ≡ Some g → IsLater (route_of config g.name).group_interval t (begun_at config g.name past)
@@ -258,9 +258,9 @@ module _ (config : Config) (id : ℕ) (s : State) (past : List Record) (pass : �
         record { opens = n.opens; begun = n.begun; ended = n.ended; keeps = keeps-after c p refl (λ name. refl) },
       )
 
-  maintain : (now : ℕ) → Holds (Maintain now) (after_call config s (Maintain now)) (Maintained (maintained s (moment s now)))
+  maintain : (now : ℕ) → Holds (Maintain now) (after_call config s (Maintain now)) (Maintained (maintained s (time s now)))
   maintain now =
-      let p = reply_is.Maintained (maintained s (moment s now)) in (
+      let p = reply_is.Maintained (maintained s (time s now)) in (
         none-begun (Maintain now) p (λ m. refl) (λ m. refl) (λ m i. refl) (λ name. refl),
         record {
           opens = n.opens;
@@ -270,22 +270,22 @@ module _ (config : Config) (id : ℕ) (s : State) (past : List Record) (pass : �
         },
       )
 
-  forget : (now : ℕ) → Holds (Forget now) (after_call config s (Forget now)) (Forgotten (forgotten s (moment s now)))
+  forget : (now : ℕ) → Holds (Forget now) (after_call config s (Forget now)) (Forgotten (forgotten s (time s now)))
   forget now =
-      let p = reply_is.Forgotten (forgotten s (moment s now)) in (
+      let p = reply_is.Forgotten (forgotten s (time s now)) in (
         none-begun (Forget now) p (λ m. refl) (λ m. refl) (λ m i. refl) (λ name. refl),
         record { opens = n.opens; begun = n.begun; ended = n.ended; keeps = keeps-after (Forget now) p refl (λ name. refl) },
       )
 
-  load : (now : ℕ) (row : RowView) → may_load config (moment s now) row ≡ true → Holds (Load now row) (after_call config s (Load now row)) (Loaded (loaded s.rows (moment s now) row))
+  load : (now : ℕ) (row : RowView) → may_load config (time s now) row ≡ true → Holds (Load now row) (after_call config s (Load now row)) (Loaded (loaded s.rows (time s now) row))
   load now row may =
-      let p = reply_is.Loaded (loaded s.rows (moment s now) row) in (
+      let p = reply_is.Loaded (loaded s.rows (time s now) row) in (
         none-begun (Load now row) p (λ m. refl) (λ m. refl) (λ m i. refl) (λ name. refl),
         record { opens = n.opens; begun = n.begun; ended = n.ended; keeps = keeps-after (Load now row) p (ap (λ b. cond b (Some p) None) may) (λ name. refl) },
       )
 
   -- a begin that takes a group
-  taking-one : (now : ℕ) (g : GroupState) (p : Reply) → taken s (moment s now) ≡ Some g → ((number : ℕ) → is_flush number p ≡ true → has_begun number past ≡ false) → ((name : GroupName) → takes name p ≡ same_name name g.name) → IsOneFlushAtATime (entry pass (Begin now) p) past
+  taking-one : (now : ℕ) (g : GroupState) (p : Reply) → taken s (time s now) ≡ Some g → ((number : ℕ) → is_flush number p ≡ true → has_begun number past ≡ false) → ((name : GroupName) → takes name p ≡ same_name name g.name) → IsOneFlushAtATime (entry pass (Begin now) p) past
   taking-one now g p e first is =
       record {
         first_begin = first;
@@ -295,38 +295,38 @@ module _ (config : Config) (id : ℕ) (s : State) (past : List Record) (pass : �
         note_once = λ number i h. absurd (false≢true h);
         none_open = λ name h.
             let own : name ≡ g.name = same_name-is name g.name (sym (is name) ∙ h) in
-            open-group config s past n name ∙ ap (is_flushing s.flushes) own ∙ any-failing (λ f. same_name g.name f.group) s.flushes (taken-is s (moment s now) g steady.groups e).free;
+            open-group config s past n name ∙ ap (is_flushing s.flushes) own ∙ any-failing (λ f. same_name g.name f.group) s.flushes (taken-is s (time s now) g steady.groups e).free;
       }
 
   -- the last begin of a group, after a begin
-  begins-asking : (now : ℕ) (g : GroupState) (asked : List (ℕ × Integration)) (name : GroupName)
-      → last_begin_after name s (after_asking config s (moment s now) g asked).clock (begun_at config name past) (reply_asking config id s (moment s now) g asked) ≡ begun_at config name (entry pass (Begin now) (reply_asking config id s (moment s now) g asked) ∷ past)
-  begins-asking now g [] name =
-      ap (λ t. cond (same_name name g.name) (Some t) (begun_at config name past)) (clock-step config s past k now (entry pass (Begin now) (reply_asking config id s (moment s now) g [])) refl)
-      ∙ ap (λ b. cond b (Some (moment_at (entry pass (Begin now) (reply_asking config id s (moment s now) g []) ∷ past))) (begun_at config name past)) (sym (or-false (same_name name g.name)))
-  begins-asking now g (i ∷ is) name =
-      ap (λ t. cond (same_name name g.name) (Some t) (begun_at config name past)) (clock-step config s past k now (entry pass (Begin now) (reply_asking config id s (moment s now) g (i ∷ is))) refl)
+  begins-notifying : (now : ℕ) (g : GroupState) (notified : List (ℕ × Integration)) (name : GroupName)
+      → last_begin_after name s (after_notifying config s (time s now) g notified).clock (begun_at config name past) (reply_notifying config id s (time s now) g notified) ≡ begun_at config name (entry pass (Begin now) (reply_notifying config id s (time s now) g notified) ∷ past)
+  begins-notifying now g [] name =
+      ap (λ t. cond (same_name name g.name) (Some t) (begun_at config name past)) (clock-step config s past k now (entry pass (Begin now) (reply_notifying config id s (time s now) g [])) refl)
+      ∙ ap (λ b. cond b (Some (time_at (entry pass (Begin now) (reply_notifying config id s (time s now) g []) ∷ past))) (begun_at config name past)) (sym (or-false (same_name name g.name)))
+  begins-notifying now g (i ∷ is) name =
+      ap (λ t. cond (same_name name g.name) (Some t) (begun_at config name past)) (clock-step config s past k now (entry pass (Begin now) (reply_notifying config id s (time s now) g (i ∷ is))) refl)
 
   begins-taking : (now : ℕ) (o : Option GroupState) (name : GroupName)
-      → last_begin_after name s (after_taking config s (moment s now) o).clock (begun_at config name past) (reply_taking config id s (moment s now) o) ≡ begun_at config name (entry pass (Begin now) (reply_taking config id s (moment s now) o) ∷ past)
+      → last_begin_after name s (after_taking config s (time s now) o).clock (begun_at config name past) (reply_taking config id s (time s now) o) ≡ begun_at config name (entry pass (Begin now) (reply_taking config id s (time s now) o) ∷ past)
   begins-taking now None name = refl
-  begins-taking now (Some g) name = begins-asking now g (asked_of config s (moment s now) g) name
+  begins-taking now (Some g) name = begins-notifying now g (notified_of config s (time s now) g) name
 
-  asking : (now : ℕ) (g : GroupState) (asked : List (ℕ × Integration)) → taken s (moment s now) ≡ Some g
-      → Keeps config (after_asking config s (moment s now) g asked).groups (λ name. begun_at config name (entry pass (Begin now) (reply_asking config id s (moment s now) g asked) ∷ past))
-      → Holds (Begin now) (after_asking config s (moment s now) g asked) (reply_asking config id s (moment s now) g asked)
-  asking now g [] e keeps = (
-    taking-one now g (reply_asking config id s (moment s now) g []) e (λ number h. absurd (false≢true h)) (λ name. or-false (same_name name g.name)),
+  notifying : (now : ℕ) (g : GroupState) (notified : List (ℕ × Integration)) → taken s (time s now) ≡ Some g
+      → RespectsIntervals config (after_notifying config s (time s now) g notified).groups (λ name. begun_at config name (entry pass (Begin now) (reply_notifying config id s (time s now) g notified) ∷ past))
+      → Holds (Begin now) (after_notifying config s (time s now) g notified) (reply_notifying config id s (time s now) g notified)
+  notifying now g [] e keeps = (
+    taking-one now g (reply_notifying config id s (time s now) g []) e (λ number h. absurd (false≢true h)) (λ name. or-false (same_name name g.name)),
     record { opens = n.opens; begun = n.begun; ended = n.ended; keeps = keeps },
   )
-  asking now g (i ∷ is) e keeps = (
-    taking-one now g (reply_asking config id s (moment s now) g (i ∷ is)) e (λ number h. let own : s.next_number ≡ number = eqb-true s.next_number number h in n.begun number (omega (arith, own))) (λ name. refl),
+  notifying now g (i ∷ is) e keeps = (
+    taking-one now g (reply_notifying config id s (time s now) g (i ∷ is)) e (λ number h. let own : s.next_number ≡ number = eqb-true s.next_number number h in n.begun number (omega (arith, own))) (λ name. refl),
     record {
       opens = λ test.
           ap (λ b. (test g.name s.next_number && not b) || list_any (is_open_in test past) past) (n.ended s.next_number (omega arith))
           ∙ ap (λ b. (test g.name s.next_number && true) || b) (n.opens test)
           ∙ turn (test g.name s.next_number) (list_any (λ f. test f.group f.number) s.flushes)
-          ∙ sym (list_any-append (λ (f : FlushState). test f.group f.number) s.flushes (flush_asking config s (moment s now) g (i ∷ is) ∷ []));
+          ∙ sym (list_any-append (λ (f : FlushState). test f.group f.number) s.flushes (flush_notifying config s (time s now) g (i ∷ is) ∷ []));
       begun = λ m h. ap (λ b. b || has_begun m past) (ne_eqb s.next_number m (λ own. omega (arith, h, own))) ∙ n.begun m (omega (arith, h));
       ended = λ m h. n.ended m (omega (arith, h));
       keeps = keeps;
@@ -340,27 +340,27 @@ module _ (config : Config) (id : ℕ) (s : State) (past : List Record) (pass : �
       turn false false = refl
 
   -- the last begins after a begin are kept
-  keeps-begin : (now : ℕ) (o : Option GroupState) → taken s (moment s now) ≡ o
-      → Keeps config (after_taking config s (moment s now) o).groups (λ name. begun_at config name (entry pass (Begin now) (reply_taking config id s (moment s now) o) ∷ past))
+  keeps-begin : (now : ℕ) (o : Option GroupState) → taken s (time s now) ≡ o
+      → RespectsIntervals config (after_taking config s (time s now) o).groups (λ name. begun_at config name (entry pass (Begin now) (reply_taking config id s (time s now) o) ∷ past))
   keeps-begin now o e =
-      subst (λ o. Keeps config (after_taking config s (moment s now) o).groups (λ name. begun_at config name (entry pass (Begin now) (reply_taking config id s (moment s now) o) ∷ past))) e
-      (keeps-after (Begin now) (begin_is.begun config id s (moment s now)) refl (begins-taking now (taken s (moment s now))))
+      subst (λ o. RespectsIntervals config (after_taking config s (time s now) o).groups (λ name. begun_at config name (entry pass (Begin now) (reply_taking config id s (time s now) o) ∷ past))) e
+      (keeps-after (Begin now) (begin_is.begun config id s (time s now)) refl (begins-taking now (taken s (time s now))))
 
-  begin : (now : ℕ) (g : GroupState) → taken s (moment s now) ≡ Some g → (asked : List (ℕ × Integration)) → asked_of config s (moment s now) g ≡ asked
-      → Holds (Begin now) (after_asking config s (moment s now) g asked) (reply_asking config id s (moment s now) g asked)
-  begin now g is asked are =
-      asking now g asked is
-      (subst (λ asked. Keeps config (after_asking config s (moment s now) g asked).groups (λ name. begun_at config name (entry pass (Begin now) (reply_asking config id s (moment s now) g asked) ∷ past))) are
+  begin : (now : ℕ) (g : GroupState) → taken s (time s now) ≡ Some g → (notified : List (ℕ × Integration)) → notified_of config s (time s now) g ≡ notified
+      → Holds (Begin now) (after_notifying config s (time s now) g notified) (reply_notifying config id s (time s now) g notified)
+  begin now g is notified are =
+      notifying now g notified is
+      (subst (λ notified. RespectsIntervals config (after_notifying config s (time s now) g notified).groups (λ name. begun_at config name (entry pass (Begin now) (reply_notifying config id s (time s now) g notified) ∷ past))) are
       (keeps-begin now (Some g) is))
 
-  finish : (now m : ℕ) (outcomes : List (ℕ × Outcome)) (f : FlushState) → flush_numbered s.flushes m ≡ Some f → Holds (Finish now m outcomes) (after_finish_of config s (moment s now) outcomes (Some f)) (Finished (finished s outcomes f))
+  finish : (now m : ℕ) (outcomes : List (ℕ × Outcome)) (f : FlushState) → flush_numbered s.flushes m ≡ Some f → Holds (Finish now m outcomes) (after_finish_of config s (time s now) outcomes (Some f)) (Finished (finished s outcomes f))
   finish now m outcomes f is =
       let p = reply_is.Finished (finished s outcomes f) in
       let c = call_is.Finish now m outcomes in
       let same : f.number ≡ m = eqb-true f.number m (find-passes (λ (h : FlushState). h.number == m) f s.flushes is) in
       let held = all-find (IsOpen s.next_number s.groups) (λ h. h.number == m) f s.flushes steady.opened is in
       let is_open : (has_begun m past && not (has_finished m past)) ≡ true = open-number config s past n m ∙ any-find (λ (h : FlushState). h.number == m) s.flushes ∙ ap (λ o. is_some o) is in
-      let told : option_map (λ h. reply_is.Finished (finished s outcomes h)) (flush_numbered s.flushes m) ≡ Some p = ap (option_map (λ h. reply_is.Finished (finished s outcomes h))) is in (
+      let returned : option_map (λ h. reply_is.Finished (finished s outcomes h)) (flush_numbered s.flushes m) ≡ Some p = ap (option_map (λ h. reply_is.Finished (finished s outcomes h))) is in (
         record {
           first_begin = λ number h. absurd (false≢true h);
           begun_before = λ number h. subst (λ x. has_begun x past ≡ true) (eqb-true m number h) (two (has_begun m past) (has_finished m past) is_open).0;
@@ -379,15 +379,15 @@ module _ (config : Config) (id : ℕ) (s : State) (past : List Record) (pass : �
           begun = n.begun;
           ended = λ x h. ap (λ b. b || has_finished x past) (ne_eqb m x (λ own. omega (arith, h, own, same, held.number))) ∙ n.ended x h;
           keeps =
-              subst (λ o. Keeps config (after_finish_of config s (moment s now) outcomes o).groups (λ name. begun_at config name (entry pass c p ∷ past))) is
-              (keeps-after c p told (λ name. refl));
+              subst (λ o. RespectsIntervals config (after_finish_of config s (time s now) outcomes o).groups (λ name. begun_at config name (entry pass c p ∷ past))) is
+              (keeps-after c p returned (λ name. refl));
         },
       )
 
-  note : (now m i : ℕ) (outcome : Option Outcome) (f : FlushState) → flush_numbered s.flushes m ≡ Some f → may_note i outcome f ≡ true → Holds (Note now m i outcome) (after_note config s (moment s now) i f) Noted
+  note : (now m i : ℕ) (outcome : Option Outcome) (f : FlushState) → flush_numbered s.flushes m ≡ Some f → may_note i outcome f ≡ true → Holds (Note now m i outcome) (after_note config s (time s now) i f) Noted
   note now m i outcome f is may =
       let c = call_is.Note now m i outcome in
-      let told : noted i outcome (flush_numbered s.flushes m) ≡ Some reply_is.Noted = ap (noted i outcome) is ∙ ap (λ b. if b then Some reply_is.Noted else None) may in
+      let returned : noted i outcome (flush_numbered s.flushes m) ≡ Some reply_is.Noted = ap (noted i outcome) is ∙ ap (λ b. if b then Some reply_is.Noted else None) may in
       let same : f.number ≡ m = eqb-true f.number m (find-passes (λ (h : FlushState). h.number == m) f s.flushes is) in
       let is_open : (has_begun m past && not (has_finished m past)) ≡ true = open-number config s past n m ∙ any-find (λ (h : FlushState). h.number == m) s.flushes ∙ ap (λ o. is_some o) is in
       let o = all-find (IsOpened config s.inserts past) (λ h. h.number == m) f s.flushes k.opened is in
@@ -419,15 +419,15 @@ module _ (config : Config) (id : ℕ) (s : State) (past : List Record) (pass : �
       kept test h false = refl
 
   -- a begin that takes a group comes at least an interval after the last
-  interval-over : (now : ℕ) (g : GroupState) (p : Reply) → taken s (moment s now) ≡ Some g → ((name : GroupName) → takes name p ≡ same_name name g.name) → IsIntervalOver config (entry pass (Begin now) p) past
+  interval-over : (now : ℕ) (g : GroupState) (p : Reply) → taken s (time s now) ≡ Some g → ((name : GroupName) → takes name p ≡ same_name name g.name) → IsIntervalOver config (entry pass (Begin now) p) past
   interval-over now g p e is name h =
       let own : name ≡ g.name = same_name-is name g.name (sym (is name) ∙ h) in
       subst (λ t. IsLater (route_of config name).group_interval t (begun_at config name past)) (clock-step config s past k now (entry pass (Begin now) p) refl)
-      (subst (λ m. IsLater (route_of config m).group_interval (moment s now) (begun_at config m past)) (sym own) (later-taken (moment s now) g e))
+      (subst (λ m. IsLater (route_of config m).group_interval (time s now) (begun_at config m past)) (sym own) (later-taken (time s now) g e))
 
-  interval-asking : (now : ℕ) (g : GroupState) (asked : List (ℕ × Integration)) → taken s (moment s now) ≡ Some g → IsIntervalOver config (entry pass (Begin now) (reply_asking config id s (moment s now) g asked)) past
-  interval-asking now g [] e = interval-over now g (reply_asking config id s (moment s now) g []) e (λ name. or-false (same_name name g.name))
-  interval-asking now g (i ∷ is) e = interval-over now g (reply_asking config id s (moment s now) g (i ∷ is)) e (λ name. refl)
+  interval-notifying : (now : ℕ) (g : GroupState) (notified : List (ℕ × Integration)) → taken s (time s now) ≡ Some g → IsIntervalOver config (entry pass (Begin now) (reply_notifying config id s (time s now) g notified)) past
+  interval-notifying now g [] e = interval-over now g (reply_notifying config id s (time s now) g []) e (λ name. or-false (same_name name g.name))
+  interval-notifying now g (i ∷ is) e = interval-over now g (reply_notifying config id s (time s now) g (i ∷ is)) e (λ name. refl)
 
   interval-each : HoldsOfEach config id s (λ c new p. IsIntervalOver config (entry pass c p) past)
   interval-each =
@@ -435,7 +435,7 @@ module _ (config : Config) (id : ℕ) (s : State) (past : List Record) (pass : �
         insert = λ now a name e. absurd (false≢true e);
         silence = λ now number matchers start end name e. absurd (false≢true e);
         nothing = λ now none name e. absurd (false≢true e);
-        begin = λ now g is asked are. interval-asking now g asked is;
+        begin = λ now g is notified are. interval-notifying now g notified is;
         finish = λ now number outcomes f is name e. absurd (false≢true e);
         maintain = λ now name e. absurd (false≢true e);
         forget = λ now name e. absurd (false≢true e);
@@ -465,10 +465,10 @@ module _ (config : Config) (id : ℕ) (s : State) (past : List Record) (pass : �
 -- what holds of a record after a legal past, and what is counted after it
 one_record : (config : Config) (id : ℕ) (r : Record) (past : List Record) → IsLegalPast config id past → reply config id (state_after config past) r.call ≡ Some r.reply → Counts config (state_after config past) past
     → IsOneFlushAtATime r past × Counts config (after config (state_after config past) r) (r ∷ past)
-one_record config id r past legal told n =
+one_record config id r past legal returned n =
     let s = state_after config past in
     let holds = each config id s past r.pass (steady_past config past) (finds_past config id past legal) n in
-    each_call config id s (λ c new p. IsOneFlushAtATime (entry r.pass c p) past × Counts config new (entry r.pass c p ∷ past)) holds r.call r.reply told
+    each_call config id s (λ c new p. IsOneFlushAtATime (entry r.pass c p) past × Counts config new (entry r.pass c p ∷ past)) holds r.call r.reply returned
 
 counts_past : (config : Config) (id : ℕ) (past : List Record) → IsLegalPast config id past → Counts config (state_after config past) past
 counts_past config id [] legal =
@@ -477,13 +477,13 @@ counts_past config id (r ∷ past) legal = (one_record config id r past legal.1 
 
 pub flushes_end_once : EveryLegalHistory FlushesEndOnce
 flushes_end_once config id history legal =
-    at_each config id IsOneFlushAtATime (λ r past before told. (one_record config id r past before told (counts_past config id past before)).0)
+    at_each config id IsOneFlushAtATime (λ r past before returned. (one_record config id r past before returned (counts_past config id past before)).0)
     (past_of history) (legal_past config id history legal)
 
 pub intervals_are_over : (config : Config) (id : ℕ) (past : List Record) → IsLegalPast config id past → AtEach (IsIntervalOver config) past
 intervals_are_over config id =
     at_each config id (IsIntervalOver config)
-    (λ r past before told.
+    (λ r past before returned.
     let s = state_after config past in
     let over = interval-each config id s past r.pass (steady_past config past) (finds_past config id past before) (counts_past config id past before) in
-    each_call config id s (λ c new p. IsIntervalOver config (entry r.pass c p) past) over r.call r.reply told)
+    each_call config id s (λ c new p. IsIntervalOver config (entry r.pass c p) past) over r.call r.reply returned)

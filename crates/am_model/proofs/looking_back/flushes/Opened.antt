@@ -14,9 +14,9 @@ use Rattle.am_model.specs.Notice.{NoticeData, is_nothing}
 use Rattle.am_model.specs.Finish.{is_leaving, has_succeeded, all_succeeded}
 use Rattle.am_model.specs.Insert.{same_member}
 use Rattle.am_model.specs.look_back.Laws.{member_with}
-use Rattle.am_model.specs.look_back.Past.{moment_at, is_flush, is_note, notices_in, begin_of, was_noted}
+use Rattle.am_model.specs.look_back.Past.{time_at, is_flush, is_note, notices_in, begin_of, was_noted}
 use Rattle.am_model.specs.look_back.Presence.{inserts, begin_since, resolved_at_begin, all_succeeded_at, removes, presence}
-use Rattle.am_model.specs.State.{MemberState, GroupState, AskedState, Stamped, FlushState, State, same_name, is_named}
+use Rattle.am_model.specs.State.{MemberState, GroupState, NotifiedState, Stamped, FlushState, State, same_name, is_named}
 use Rattle.am_model.proofs.legal.ConsistentGroups.{members_of}
 use Rattle.am_model.proofs.lists.Distinct.{IsDistinct-nil, all-weaker}
 use Rattle.am_model.proofs.legal.ConsistentState.{IsTidy}
@@ -28,15 +28,15 @@ notices_at [] = []
 notices_at (r ∷ past) = notices_in r.reply
 
 -- an integration as a notice asked it, noted or not
-abbrev pub asked_noted : Bool → NoticeData → AskedState
-asked_noted noted n = record { integration = n.integration; nothing = is_nothing n; noted = noted }
+abbrev pub notified_noted : Bool → NoticeData → NotifiedState
+notified_noted noted n = record { integration = n.integration; nothing = is_nothing n; noted = noted }
 
-abbrev pub asked_as : ℕ → List Record → NoticeData → AskedState
-asked_as number past n = asked_noted (was_noted number n.integration past) n
+abbrev pub notified_as : ℕ → List Record → NoticeData → NotifiedState
+notified_as number past n = notified_noted (was_noted number n.integration past) n
 
--- an open flush in the past that led to it: it asked as its begin's notices say, and the alerts that leave by it are those that were resolved at its begin and not inserted since
+-- an open flush in the past that led to it: it notified as its begin's notices say, and the alerts that leave by it are those that were resolved at its begin and not inserted since
 pub record IsOpened (config : Config) (inserts : ℕ) (past : List Record) (f : FlushState) : Type 0 where
-  pub asked : f.asked ≡ map (asked_as f.number past) (notices_at (begin_of f.number past))
+  pub notified : f.notified ≡ map (notified_as f.number past) (notices_at (begin_of f.number past))
   pub leaving : (name : GroupName) (m : MemberState) → presence config name m.alert.labels past ≡ Some m
       → resolved_at_begin name m.alert (begin_since m.alert.labels f.number past) ≡ (same_name name f.group && is_leaving f.leaving m)
   pub stamps : AllByRecursion (λ l. l.stamp ≤ inserts) f.leaving
@@ -44,7 +44,7 @@ pub record IsOpened (config : Config) (inserts : ℕ) (past : List Record) (f : 
 -- what looking back finds is what a state has
 pub record Finds (config : Config) (s : State) (past : List Record) : Type 0 where
   pub found : (name : GroupName) (labels : List Label) → member_with labels (members_of s.groups name) ≡ presence config name labels past
-  pub clock : s.clock ≡ moment_at past
+  pub clock : s.clock ≡ time_at past
   pub opened : AllByRecursion (IsOpened config s.inserts past) s.flushes
   pub fresh : (number integration : ℕ) → s.next_number ≤ number → was_noted number integration past ≡ false
 
@@ -56,7 +56,7 @@ module _ (config : Config) (r : Record) (past : List Record) where
       → IsOpened config n past f → IsOpened config k (r ∷ past) f
   open-step n k f more other unnoted new o =
       record {
-        asked = o.asked ∙ sym (noted ∙ begun);
+        notified = o.notified ∙ sym (noted ∙ begun);
         leaving = λ name m is.
             elim (inserts m.alert.labels r.call) as (λ b. inserts m.alert.labels r.call ≡ b → resolved_at_begin name m.alert (begin_since m.alert.labels f.number (r ∷ past)) ≡ (same_name name f.group && is_leaving f.leaving m)) [
               | true ↦ λ e.
@@ -70,22 +70,22 @@ module _ (config : Config) (r : Record) (past : List Record) where
         stamps = all-weaker (λ (l : Stamped). l.stamp ≤ n) (λ l. l.stamp ≤ k) (λ l h. omega (arith, h, more)) f.leaving o.stamps;
       }
     where
-      noted : map (asked_as f.number (r ∷ past)) (notices_at (begin_of f.number (r ∷ past))) ≡ map (asked_as f.number past) (notices_at (begin_of f.number (r ∷ past)))
-      noted = (λ j. map (λ x. asked_noted (unnoted x.integration j || was_noted f.number x.integration past) x) (notices_at (begin_of f.number (r ∷ past))))
+      noted : map (notified_as f.number (r ∷ past)) (notices_at (begin_of f.number (r ∷ past))) ≡ map (notified_as f.number past) (notices_at (begin_of f.number (r ∷ past)))
+      noted = (λ j. map (λ x. notified_noted (unnoted x.integration j || was_noted f.number x.integration past) x) (notices_at (begin_of f.number (r ∷ past))))
 
-      begun : map (asked_as f.number past) (notices_at (begin_of f.number (r ∷ past))) ≡ map (asked_as f.number past) (notices_at (begin_of f.number past))
-      begun = ap (λ b. map (asked_as f.number past) (notices_at (cond b (r ∷ past) (begin_of f.number past)))) other
+      begun : map (notified_as f.number past) (notices_at (begin_of f.number (r ∷ past))) ≡ map (notified_as f.number past) (notices_at (begin_of f.number past))
+      begun = ap (λ b. map (notified_as f.number past) (notices_at (cond b (r ∷ past) (begin_of f.number past)))) other
 
 -- ---- what an open flush's finish does
 
 module _ (config : Config) (n : ℕ) (past : List Record) (f : FlushState) (o : IsOpened config n past f) where
-  -- all that it asked succeeded, exactly if its notices say so
-  pub success-found : (outcomes : List (ℕ × Outcome)) → is_empty f.asked ≡ false → all_succeeded_at f.number outcomes past (begin_of f.number past) ≡ all_succeeded outcomes f
-  success-found outcomes some = by (begin_of f.number past) o.asked
+  -- all that it notified succeeded, exactly if its notices say so
+  pub success-found : (outcomes : List (ℕ × Outcome)) → is_empty f.notified ≡ false → all_succeeded_at f.number outcomes past (begin_of f.number past) ≡ all_succeeded outcomes f
+  success-found outcomes some = by (begin_of f.number past) o.notified
     where
-      by : (begin : List Record) → f.asked ≡ map (asked_as f.number past) (notices_at begin) → all_succeeded_at f.number outcomes past begin ≡ all_succeeded outcomes f
+      by : (begin : List Record) → f.notified ≡ map (notified_as f.number past) (notices_at begin) → all_succeeded_at f.number outcomes past begin ≡ all_succeeded outcomes f
       by [] e = absurd (false≢true (sym some ∙ ap is_empty e))
-      by (r ∷ before) e = sym (ap (λ asked. list_all (has_succeeded outcomes) asked) e ∙ list_all-map (has_succeeded outcomes) (asked_as f.number past) (notices_in r.reply))
+      by (r ∷ before) e = sym (ap (λ notified. list_all (has_succeeded outcomes) notified) e ∙ list_all-map (has_succeeded outcomes) (notified_as f.number past) (notices_in r.reply))
 
 -- ---- stamps
 

@@ -17,7 +17,7 @@ reason_chain (Some row) firing resolved send_resolved repeat t =
     cond (not (is_subset same_label_set firing row.firing)) NewAlert
     (cond (is_empty firing) (cond (is_empty row.firing) NothingFiring AllResolved)
     (cond (send_resolved && not (is_subset same_label_set resolved row.resolved)) NewlyResolved
-    (cond (nat_lt (row.moment + repeat) t) Repeat (NotYet (row.moment + repeat + 1)))))
+    (cond (nat_lt (row.time + repeat) t) Repeat (NotYet (row.time + repeat + 1)))))
 
 pub reason_by-chain : (entry : Option RowView) (firing resolved : List (List Label)) (send_resolved : Bool) (repeat t : ℕ)
     → reason_by entry firing resolved send_resolved repeat t ≡ reason_chain entry firing resolved send_resolved repeat t
@@ -28,13 +28,13 @@ reason_by-chain None firing resolved send_resolved repeat t = by (is_empty firin
     by false = refl
 reason_by-chain (Some row) firing resolved send_resolved repeat t =
     by (not (is_subset same_label_set firing row.firing)) (is_empty firing) (is_empty row.firing)
-    (send_resolved && not (is_subset same_label_set resolved row.resolved)) (nat_lt (row.moment + repeat) t)
+    (send_resolved && not (is_subset same_label_set resolved row.resolved)) (nat_lt (row.time + repeat) t)
   where
     by : (new none fired ended over : Bool)
         → reason_of_update repeat (cond new update.NewAlert (cond none (cond fired update.NothingFiring update.AllResolved)
-        (cond ended update.NewlyResolved (cond over update.Repeat (update.NotYet row.moment)))))
+        (cond ended update.NewlyResolved (cond over update.Repeat (update.NotYet row.time)))))
         ≡ cond new NewAlert (cond none (cond fired NothingFiring AllResolved)
-        (cond ended NewlyResolved (cond over Repeat (NotYet (row.moment + repeat + 1)))))
+        (cond ended NewlyResolved (cond over Repeat (NotYet (row.time + repeat + 1)))))
     by true none fired ended over = refl
     by false true true ended over = refl
     by false true false ended over = refl

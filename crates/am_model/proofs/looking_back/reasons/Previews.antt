@@ -9,10 +9,10 @@ use Rattle.am_model.specs.look_back.Past.{past_of}
 use Rattle.am_model.specs.look_back.Reasons.{reason_in}
 use Rattle.am_model.specs.Begin.{taken}
 use Rattle.am_model.specs.Replay.{replay}
-use Rattle.am_model.specs.State.{GroupState, State, moment}
-use Rattle.am_model.proofs.looking_back.reasons.AskedRightly.{reasons-found}
+use Rattle.am_model.specs.State.{GroupState, State, time}
+use Rattle.am_model.proofs.looking_back.reasons.NotifiedRightly.{reasons-found}
 use Rattle.am_model.proofs.looking_back.alerts.FoundAlerts.{steady_past, finds_past}
-use Rattle.am_model.proofs.looking_back.rows.FoundRows.{tells_past}
+use Rattle.am_model.proofs.looking_back.rows.FoundRows.{finds_rows_past}
 use Rattle.am_model.proofs.looking_back.Pasts.{state_after, IsLegalPast, legal_past, replay_is_past}
 
 module _ (config : Config) (id : ℕ) (past : List Record) (legal : IsLegalPast config id past) (t : ℕ) (later : (state_after config past).clock ≤ t) where
@@ -23,13 +23,13 @@ module _ (config : Config) (id : ℕ) (past : List Record) (legal : IsLegalPast 
       → option_map (preview_on config state t (reason_of config state t)) o ≡ option_map (preview_on config state t (λ g. reason_in config g.name t past)) o
   by-group None is = refl
   by-group (Some g) is =
-      ap (λ reasons. Some (record { moment = t; group = g.name; muted = muted_of config state t g; reasons = reasons }))
-      (reasons-found config id state past 0 (steady_past config past) (finds_past config id past legal) (tells_past config id past legal) t later g is (integrations_of config g.name))
+      ap (λ reasons. Some (record { time = t; group = g.name; muted = muted_of config state t g; reasons = reasons }))
+      (reasons-found config id state past 0 (steady_past config past) (finds_past config id past legal) (finds_rows_past config id past legal) t later g is (integrations_of config g.name))
 
 -- after each legal history
 pub preview-found : PreviewsAreFound
 preview-found config id history now legal =
     let s = replay config history in
     let is = replay_is_past config history in
-    subst (λ (x : State). preview_at config x (moment x now) ≡ preview_by config x (moment x now) (λ g. reason_in config g.name (moment x now) (past_of history))) (sym is)
-    (by-group config id (past_of history) (legal_past config id history legal) (moment (state_after config (past_of history)) now) (omega arith) (taken (state_after config (past_of history)) (moment (state_after config (past_of history)) now)) refl)
+    subst (λ (x : State). preview_at config x (time x now) ≡ preview_by config x (time x now) (λ g. reason_in config g.name (time x now) (past_of history))) (sym is)
+    (by-group config id (past_of history) (legal_past config id history legal) (time (state_after config (past_of history)) now) (omega arith) (taken (state_after config (past_of history)) (time (state_after config (past_of history)) now)) refl)

@@ -1,4 +1,4 @@
--- A begin asks an integration exactly if there is a reason to.
+-- A begin notifies an integration exactly if there is a reason to.
 use Rattle.std.proofs.Common.{◌≡◌, ℕ, ◌+◌, ◌<◌, ◌≤◌, Bool, true, false, cond, not, ◌&&◌, ◌||◌, Option, Some, None, List, [], ◌∷◌, map, refl, sym, ap, ◌∙◌, arith, if◌then◌else◌}
 use Rattle.std.specs.Prelude.{filter, ◌==◌, nat_lt}
 use Rattle.std.specs.List.{AllByRecursion, enumerate_from, list_any}
@@ -24,23 +24,23 @@ use Rattle.am_model.specs.Begin.{alert_cmp, label_sets, log_row}
 use Rattle.am_model.specs.Lists.{in_order, unless, without}
 use Rattle.am_model.specs.Configured.{rules_of, route_of, route_muted, integrations_of, integrations_named}
 use Rattle.am_model.specs.look_back.Entry.{known_in, silences_in, present_in, without_end, firing_in, resolved_in, entry_in}
-use Rattle.am_model.specs.look_back.Laws.{EveryLegalHistory, asked_after, IsAskedRightly}
-use Rattle.am_model.specs.look_back.Past.{AtEach, past_of, moment_at, notices_in}
-use Rattle.am_model.specs.look_back.Reasons.{asks, reason_by, reason_of_update, reason_about, reason_where, reason_in, is_asked_in, AsksForReasons, BeginsHaveReasons, NotYetEnds}
+use Rattle.am_model.specs.look_back.Laws.{EveryLegalHistory, notified_after, IsNotifiedRightly}
+use Rattle.am_model.specs.look_back.Past.{AtEach, past_of, time_at, notices_in}
+use Rattle.am_model.specs.look_back.Reasons.{notifies, reason_by, reason_of_update, reason_about, reason_where, reason_in, is_notified_in, NotifiesForReasons, BeginsHaveReasons, NotYetEnds}
 use Rattle.am_model.proofs.looking_back.reasons.Chains.{reason_by-chain, reason_chain}
-use Rattle.am_model.proofs.looking_back.reasons.AskedRightly.{begins_notify_exactly_whom_needed}
+use Rattle.am_model.proofs.looking_back.reasons.NotifiedRightly.{begins_notify_exactly_whom_needed}
 use Rattle.am_model.proofs.lists.Distinct.{all_from, all-weaker, all-both}
 use Rattle.am_model.proofs.lists.Sets.{any-map}
 
 -- ---- an update is needed exactly if the reason is one to ask
 
-pub needed-asks : (o : Option RowView) (firing resolved : List (List Label)) (send_resolved : Bool) (repeat t : ℕ)
+pub needed-notifies : (o : Option RowView) (firing resolved : List (List Label)) (send_resolved : Bool) (repeat t : ℕ)
     → needed same_label_set (option_map log_row o) firing resolved send_resolved repeat t
-    ≡ asks (reason_by o firing resolved send_resolved repeat t)
-needed-asks o firing resolved send_resolved repeat t =
+    ≡ notifies (reason_by o firing resolved send_resolved repeat t)
+needed-notifies o firing resolved send_resolved repeat t =
     by (update_reason same_label_set (option_map log_row o) firing resolved send_resolved repeat t)
   where
-    by : (reason : UpdateReason) → is_update reason ≡ asks (reason_of_update repeat reason)
+    by : (reason : UpdateReason) → is_update reason ≡ notifies (reason_of_update repeat reason)
     by update.FirstNotice = refl
     by update.NewAlert = refl
     by update.AllResolved = refl
@@ -69,10 +69,10 @@ module _ (config : Config) (name : GroupName) (t : ℕ) (past : List Record) (fi
   reason_left nothing i = if nothing then NothingLeft else reason_by (its_entry i) firing resolved i.1.send_resolved repeat t
 
   with-reasons : (nothing : Bool) (is : List (ℕ × Integration))
-      → (if nothing then [] else map (λ i. i.0) (filter needs is)) ≡ map (λ i. i.0) (filter (λ i. asks (reason_left nothing i)) is)
+      → (if nothing then [] else map (λ i. i.0) (filter needs is)) ≡ map (λ i. i.0) (filter (λ i. notifies (reason_left nothing i)) is)
   with-reasons true is = ap (map (λ i. i.0)) (sym (filter-none is))
   with-reasons false is =
-      λ j. map (λ i. i.0) (filter (λ (i : ℕ × Integration). needed-asks (its_entry i) firing resolved i.1.send_resolved repeat t j) is)
+      λ j. map (λ i. i.0) (filter (λ (i : ℕ × Integration). needed-notifies (its_entry i) firing resolved i.1.send_resolved repeat t j) is)
 
 -- the same where the route may be muted
 module _ (config : Config) (name : GroupName) (t : ℕ) (past : List Record) where
@@ -87,16 +87,16 @@ module _ (config : Config) (name : GroupName) (t : ℕ) (past : List Record) whe
       without (λ a. is_muted a.labels t (silences_in past) (rules_of config) (known_in past))
       (map (λ m. m.alert) (present_in config name past))
 
-  abbrev asking : Option ℕ → List ℕ
-  asking o =
+  abbrev notifying : Option ℕ → List ℕ
+  notifying o =
       map (λ i. i.0)
-      (filter (λ i. asks (reason_where o (reason_about config name t past firing_then resolved_then i))) (integrations_of config name))
+      (filter (λ i. notifies (reason_where o (reason_about config name t past firing_then resolved_then i))) (integrations_of config name))
 
-  asked-where : (o : Option ℕ) → route_muted config name t ≡ o → asked_after config name t past ≡ asking (route_muted config name t)
-  asked-where None e =
+  notified-where : (o : Option ℕ) → route_muted config name t ≡ o → notified_after config name t past ≡ notifying (route_muted config name t)
+  notified-where None e =
       with-reasons config name t past firing_then resolved_then (is_empty firing_then && is_empty resolved_then) (integrations_of config name)
-      ∙ sym (ap asking e)
-  asked-where (Some until) e =
+      ∙ sym (ap notifying e)
+  notified-where (Some until) e =
       let is = integrations_of config name in
       let none : firing_then ≡ [] =
       ap (λ o. label_sets (in_order alert_cmp (map without_end (without (λ a. is_resolved a t) (unless o unmuted))))) e in
@@ -104,11 +104,11 @@ module _ (config : Config) (name : GroupName) (t : ℕ) (past : List Record) whe
       let needs_now = needs config name t past firing_then resolved_then in
       (λ j. if is_empty (none j) && is_empty (gone j) then [] else map (λ (i : ℕ × Integration). i.0) (filter needs_now is))
       ∙ ap (map (λ i. i.0)) (sym (filter-none is))
-      ∙ sym (ap asking e)
+      ∙ sym (ap notifying e)
 
-asked-reasons : (config : Config) (name : GroupName) (t : ℕ) (past : List Record)
-    → asked_after config name t past ≡ map (λ i. i.0) (filter (λ i. asks (reason_in config name t past i)) (integrations_of config name))
-asked-reasons config name t past = asked-where config name t past (route_muted config name t) refl
+notified-reasons : (config : Config) (name : GroupName) (t : ℕ) (past : List Record)
+    → notified_after config name t past ≡ map (λ i. i.0) (filter (λ i. notifies (reason_in config name t past i)) (integrations_of config name))
+notified-reasons config name t past = notified-where config name t past (route_muted config name t) refl
 
 -- ---- among elements with their positions, one that passes a test is found exactly if it passes
 
@@ -157,22 +157,22 @@ module _ {X : Type 0} (test : ℕ × X → Bool) where
 
 -- ---- each begin
 
-one_record : (config : Config) (r : Record) (past : List Record) → IsAskedRightly config r past → AsksForReasons config r past
-one_record config r past asked =
-    let t = moment_at (r ∷ past) in
+one_record : (config : Config) (r : Record) (past : List Record) → IsNotifiedRightly config r past → NotifiesForReasons config r past
+one_record config r past notified =
+    let t = time_at (r ∷ past) in
     record {
       each = λ name taken.
           let is = integrations_of config name in
-          let test : ℕ × Integration → Bool = λ i. asks (reason_in config name t past i) in
-          let found = asked name taken ∙ asked-reasons config name t past in
-          all_from (λ i. is_asked_in i.0 r.reply ≡ test i) is
-          (all-weaker (λ i. passes_at test i.0 is ≡ test i) (λ i. is_asked_in i.0 r.reply ≡ test i)
+          let test : ℕ × Integration → Bool = λ i. notifies (reason_in config name t past i) in
+          let found = notified name taken ∙ notified-reasons config name t past in
+          all_from (λ i. is_notified_in i.0 r.reply ≡ test i) is
+          (all-weaker (λ i. passes_at test i.0 is ≡ test i) (λ i. is_notified_in i.0 r.reply ≡ test i)
           (λ i h. sym (any-map (λ n. n == i.0) (λ n. n.integration) (notices_in r.reply)) ∙ ap (list_any (λ n. n == i.0)) found ∙ h)
           is (each-passes test 0 (integrations_named (route_of config name).receiver config.receivers)));
-      only = λ name taken. asked name taken ∙ asked-reasons config name t past;
+      only = λ name taken. notified name taken ∙ notified-reasons config name t past;
     }
 
-pub reasons_each : (config : Config) (past : List Record) → AtEach (IsAskedRightly config) past → AtEach (AsksForReasons config) past
+pub reasons_each : (config : Config) (past : List Record) → AtEach (IsNotifiedRightly config) past → AtEach (NotifiesForReasons config) past
 reasons_each config [] each = tt
 reasons_each config (r ∷ past) each = (one_record config r past each.0, reasons_each config past each.1)
 
@@ -181,20 +181,20 @@ begins_have_reasons config id history legal = reasons_each config (past_of histo
 
 -- ---- until when a notice isn't repeated
 
--- the moment that a reason names
-abbrev named_moment : Reason → ℕ
-named_moment FirstNotice = 0
-named_moment NewAlert = 0
-named_moment AllResolved = 0
-named_moment NewlyResolved = 0
-named_moment Repeat = 0
-named_moment NothingLeft = 0
-named_moment NothingFiring = 0
-named_moment (NotYet from) = from
-named_moment (RouteMuted until) = 0
+-- the time that a reason names
+abbrev named_time : Reason → ℕ
+named_time FirstNotice = 0
+named_time NewAlert = 0
+named_time AllResolved = 0
+named_time NewlyResolved = 0
+named_time Repeat = 0
+named_time NothingLeft = 0
+named_time NothingFiring = 0
+named_time (NotYet from) = from
+named_time (RouteMuted until) = 0
 
 module _ (over from : ℕ) where
-  -- a repeat after a moment, and whether the reason stays so until another and is a repeat from then on
+  -- a repeat after a time, and whether the reason stays so until another and is a repeat from then on
   abbrev repeat_at : ℕ → Reason
   repeat_at t = if nat_lt over t then Repeat else NotYet (over + 1)
 
@@ -210,7 +210,7 @@ module _ (over from : ℕ) where
       elim (nat_lt over t) as (λ b. nat_lt over t ≡ b → cond b Repeat (NotYet (over + 1)) ≡ NotYet from → EndsAfter repeat_at t) [
         | true ↦ λ is e. absurd (cc)
         | false ↦ λ is e.
-            let same : over + 1 ≡ from = ap named_moment e in
+            let same : over + 1 ≡ from = ap named_time e in
             let reached : t ≤ over = ltb-false over t is in (
               omega (arith, same, reached),
               λ later. (
@@ -220,7 +220,7 @@ module _ (over from : ℕ) where
             )
       ] refl e
 
-  -- so it is behind cases that don't depend on the moment
+  -- so it is behind cases that don't depend on the time
   case-ends : (b : Bool) (reason : Reason) (reason_at : ℕ → Reason) → (reason ≡ NotYet from → ⊥)
       → Ends reason_at → Ends (λ t. cond b reason (reason_at t))
   case-ends true reason reason_at other ends t e = absurd (other e)
@@ -237,7 +237,7 @@ chain-ends None firing resolved send_resolved repeat t from e = absurd (by (is_e
     by true e = cc
     by false e = cc
 chain-ends (Some row) firing resolved send_resolved repeat t from e =
-    let over = row.moment + repeat in
+    let over = row.time + repeat in
     let new = not (is_subset same_label_set firing row.firing) in
     let ended = send_resolved && not (is_subset same_label_set resolved row.resolved) in
     let last = case-ends over from ended NewlyResolved _ (λ e. cc) (repeat-ends over from) in

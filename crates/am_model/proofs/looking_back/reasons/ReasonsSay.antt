@@ -42,18 +42,18 @@ some-left : (firing resolved : List (List Label)) → (is_empty firing && is_emp
 some-left firing resolved left nil gone = false≢true (sym left ∙ (λ j. is_empty (nil j) && is_empty (gone j)))
 
 module _ (row : RowView) (firing resolved : List (List Label)) (repeat t : ℕ) where
-  abbrev Tells : Bool → Reason → Type 0
-  Tells send_resolved reason = Says reason (Some row) firing resolved send_resolved repeat t
+  abbrev SaysByRow : Bool → Reason → Type 0
+  SaysByRow send_resolved reason = Says reason (Some row) firing resolved send_resolved repeat t
 
   -- the cases, from the last to the first
   abbrev timed : Reason
-  timed = cond (nat_lt (row.moment + repeat) t) Repeat (NotYet (row.moment + repeat + 1))
+  timed = cond (nat_lt (row.time + repeat) t) Repeat (NotYet (row.time + repeat + 1))
 
-  tells-timed : (send_resolved : Bool) → firing ≢ [] → HasAllFiring row firing → HasAllResolved row resolved send_resolved
-      → Tells send_resolved timed
-  tells-timed send_resolved some all ended =
-      let over = row.moment + repeat in
-      elim (nat_lt over t) as (λ b. nat_lt over t ≡ b → Tells send_resolved (cond b Repeat (NotYet (over + 1)))) [
+  says-timed : (send_resolved : Bool) → firing ≢ [] → HasAllFiring row firing → HasAllResolved row resolved send_resolved
+      → SaysByRow send_resolved timed
+  says-timed send_resolved some all ended =
+      let over = row.time + repeat in
+      elim (nat_lt over t) as (λ b. nat_lt over t ≡ b → SaysByRow send_resolved (cond b Repeat (NotYet (over + 1)))) [
         | true ↦ λ e. (row, refl, some, all, ended, ltb-true over t e)
         | false ↦ λ e. let reached = ltb-false over t e in (row, refl, some, all, ended, refl, omega (arith, reached))
       ] refl
@@ -64,19 +64,19 @@ module _ (row : RowView) (firing resolved : List (List Label)) (repeat t : ℕ) 
   abbrev ended_among : Bool
   ended_among = is_subset same_label_set resolved row.resolved
 
-  tells-ended : (send_resolved : Bool) → firing ≢ [] → among ≡ true
-      → Tells send_resolved (cond (send_resolved && not ended_among) NewlyResolved timed)
-  tells-ended true some e =
-      elim ended_among as (λ b. ended_among ≡ b → Tells true (cond (not b) NewlyResolved timed)) [
-        | true ↦ λ is. tells-timed true some e (λ h. is)
+  says-ended : (send_resolved : Bool) → firing ≢ [] → among ≡ true
+      → SaysByRow send_resolved (cond (send_resolved && not ended_among) NewlyResolved timed)
+  says-ended true some e =
+      elim ended_among as (λ b. ended_among ≡ b → SaysByRow true (cond (not b) NewlyResolved timed)) [
+        | true ↦ λ is. says-timed true some e (λ h. is)
         | false ↦ λ is. (row, refl, some, e, refl, has-more resolved row.resolved is)
       ] refl
-  tells-ended false some e = tells-timed false some e (λ h. absurd (false≢true h))
+  says-ended false some e = says-timed false some e (λ h. absurd (false≢true h))
 
-  tells-none : (send_resolved : Bool) → firing ≡ [] → resolved ≢ []
-      → Tells send_resolved (cond (is_empty row.firing) NothingFiring AllResolved)
-  tells-none send_resolved nil left =
-      elim (is_empty row.firing) as (λ b. is_empty row.firing ≡ b → Tells send_resolved (cond b NothingFiring AllResolved)) [
+  says-none : (send_resolved : Bool) → firing ≡ [] → resolved ≢ []
+      → SaysByRow send_resolved (cond (is_empty row.firing) NothingFiring AllResolved)
+  says-none send_resolved nil left =
+      elim (is_empty row.firing) as (λ b. is_empty row.firing ≡ b → SaysByRow send_resolved (cond b NothingFiring AllResolved)) [
         | true ↦ λ e. (
           nil,
           left,
@@ -85,31 +85,31 @@ module _ (row : RowView) (firing resolved : List (List Label)) (repeat t : ℕ) 
         | false ↦ λ e. (row, refl, nil, left, some-there row.firing e)
       ] refl
 
-  tells-row : (send_resolved : Bool) → (is_empty firing && is_empty resolved) ≡ false
-      → Tells send_resolved (reason_chain (Some row) firing resolved send_resolved repeat t)
-  tells-row send_resolved left =
+  says-row : (send_resolved : Bool) → (is_empty firing && is_empty resolved) ≡ false
+      → SaysByRow send_resolved (reason_chain (Some row) firing resolved send_resolved repeat t)
+  says-row send_resolved left =
       let later = cond (send_resolved && not ended_among) NewlyResolved timed in
       let fired = cond (is_empty row.firing) NothingFiring AllResolved in
-      elim among as (λ b. among ≡ b → Tells send_resolved (cond (not b) NewAlert (cond (is_empty firing) fired later))) [
+      elim among as (λ b. among ≡ b → SaysByRow send_resolved (cond (not b) NewAlert (cond (is_empty firing) fired later))) [
         | true ↦ λ e.
-            elim (is_empty firing) as (λ b. is_empty firing ≡ b → Tells send_resolved (cond b fired later)) [
+            elim (is_empty firing) as (λ b. is_empty firing ≡ b → SaysByRow send_resolved (cond b fired later)) [
               | true ↦ λ none.
                   let nil = none-there firing none in
-                  tells-none send_resolved nil (some-left firing resolved left nil)
-              | false ↦ λ some. tells-ended send_resolved (some-there firing some) e
+                  says-none send_resolved nil (some-left firing resolved left nil)
+              | false ↦ λ some. says-ended send_resolved (some-there firing some) e
             ] refl
         | false ↦ λ e. (row, refl, has-more firing row.firing e)
       ] refl
 
-tells-by : (o : Option RowView) (firing resolved : List (List Label)) (send_resolved : Bool) (repeat t : ℕ)
+says-by : (o : Option RowView) (firing resolved : List (List Label)) (send_resolved : Bool) (repeat t : ℕ)
     → (is_empty firing && is_empty resolved) ≡ false
     → Says (reason_chain o firing resolved send_resolved repeat t) o firing resolved send_resolved repeat t
-tells-by None firing resolved send_resolved repeat t left =
+says-by None firing resolved send_resolved repeat t left =
     elim (is_empty firing) as (λ b. is_empty firing ≡ b → Says (cond b NothingFiring FirstNotice) None firing resolved send_resolved repeat t) [
       | true ↦ λ e. let nil = none-there firing e in (nil, some-left firing resolved left nil, λ row is. absurd (cc))
       | false ↦ λ e. (refl, some-there firing e)
     ] refl
-tells-by (Some row) firing resolved send_resolved repeat t left = tells-row row firing resolved repeat t send_resolved left
+says-by (Some row) firing resolved send_resolved repeat t left = says-row row firing resolved repeat t send_resolved left
 
 -- nothing is left where both are empty
 both-none : (xs ys : List (List Label)) → (is_empty xs && is_empty ys) ≡ true → (xs ≡ []) × (ys ≡ [])
@@ -122,14 +122,14 @@ abbrev decided : Option RowView → List (List Label) → List (List Label) → 
 decided o firing resolved send_resolved repeat t =
     cond (is_empty firing && is_empty resolved) NothingLeft (reason_chain o firing resolved send_resolved repeat t)
 
-tells : (o : Option RowView) (firing resolved : List (List Label)) (send_resolved : Bool) (repeat t : ℕ)
+says : (o : Option RowView) (firing resolved : List (List Label)) (send_resolved : Bool) (repeat t : ℕ)
     → Says (decided o firing resolved send_resolved repeat t) o firing resolved send_resolved repeat t
-tells o firing resolved send_resolved repeat t =
+says o firing resolved send_resolved repeat t =
     let nothing = is_empty firing && is_empty resolved in
     let reason = reason_chain o firing resolved send_resolved repeat t in
     elim nothing as (λ b. nothing ≡ b → Says (cond b NothingLeft reason) o firing resolved send_resolved repeat t) [
       | true ↦ λ e. both-none firing resolved e
-      | false ↦ λ e. tells-by o firing resolved send_resolved repeat t e
+      | false ↦ λ e. says-by o firing resolved send_resolved repeat t e
     ] refl
 
 -- ---- where what a reason says is so, it is the reason
@@ -164,8 +164,8 @@ not-among xs ys more =
     ] refl
 
 none-ended : (send_resolved all : Bool) → (send_resolved ≡ true → all ≡ true) → (send_resolved && not all) ≡ false
-none-ended true all told = ap not (told refl)
-none-ended false all told = refl
+none-ended true all ended_listed = ap not (ended_listed refl)
+none-ended false all ended_listed = refl
 
 -- the reason by what the tests of a row answer
 abbrev chosen : Bool → Bool → Bool → Bool → Bool → Bool → ℕ → Reason
@@ -194,7 +194,7 @@ module _ (o : Option RowView) (firing resolved : List (List Label)) (send_resolv
       let filled = has-member more.0 firing more.1 in
       let all = not-among firing row.firing more in
       by-row row NewAlert e (λ j. chosen (filled j && is_empty resolved) (all j) (is_empty firing) (is_empty row.firing)
-      (send_resolved && not (is_subset same_label_set resolved row.resolved)) (nat_lt (row.moment + repeat) t) (row.moment + repeat + 1))
+      (send_resolved && not (is_subset same_label_set resolved row.resolved)) (nat_lt (row.time + repeat) t) (row.time + repeat + 1))
 
   decides-all : Says AllResolved o firing resolved send_resolved repeat t → Decides AllResolved
   decides-all (row, e, nil, left, fired) =
@@ -209,24 +209,24 @@ module _ (o : Option RowView) (firing resolved : List (List Label)) (send_resolv
       let filled = is-filled firing some in
       let ended = not-among resolved row.resolved more in
       by-row row NewlyResolved e (λ j. chosen (filled j && is_empty resolved) (all j) (filled j) (is_empty row.firing)
-      (sent j && not (ended j)) (nat_lt (row.moment + repeat) t) (row.moment + repeat + 1))
+      (sent j && not (ended j)) (nat_lt (row.time + repeat) t) (row.time + repeat + 1))
 
   decides-repeat : Says Repeat o firing resolved send_resolved repeat t → Decides Repeat
-  decides-repeat (row, e, some, all, told, before) =
+  decides-repeat (row, e, some, all, ended_listed, before) =
       let filled = is-filled firing some in
-      let ended = none-ended send_resolved (is_subset same_label_set resolved row.resolved) told in
-      let over = lt-ltb (row.moment + repeat) t before in
+      let ended = none-ended send_resolved (is_subset same_label_set resolved row.resolved) ended_listed in
+      let over = lt-ltb (row.time + repeat) t before in
       by-row row Repeat e (λ j. chosen (filled j && is_empty resolved) (all j) (filled j) (is_empty row.firing)
-      (ended j) (over j) (row.moment + repeat + 1))
+      (ended j) (over j) (row.time + repeat + 1))
 
   decides-left : Says NothingLeft o firing resolved send_resolved repeat t → Decides NothingLeft
   decides-left (nil, gone) = λ j. decided o (nil j) (gone j) send_resolved repeat t
 
   decides-not_yet : (from : ℕ) → Says (NotYet from) o firing resolved send_resolved repeat t → Decides (NotYet from)
-  decides-not_yet from (row, e, some, all, told, is, before) =
+  decides-not_yet from (row, e, some, all, ended_listed, is, before) =
       let filled = is-filled firing some in
-      let ended = none-ended send_resolved (is_subset same_label_set resolved row.resolved) told in
-      let over = le-ltb (row.moment + repeat) t (omega (arith, is, before)) in
+      let ended = none-ended send_resolved (is_subset same_label_set resolved row.resolved) ended_listed in
+      let over = le-ltb (row.time + repeat) t (omega (arith, is, before)) in
       by-row row (NotYet from) e (λ j. chosen (filled j && is_empty resolved) (all j) (filled j) (is_empty row.firing)
       (ended j) (over j) (sym is j))
 
@@ -256,7 +256,7 @@ says-where : (muted : Option ℕ) (reason : Reason) (o : Option RowView) (firing
     × (reason_where muted (decided o firing resolved send_resolved repeat t) ≡ reason → SaysWhere muted reason o firing resolved send_resolved repeat t)
 says-where None reason o firing resolved send_resolved repeat t = (
   decides reason o firing resolved send_resolved repeat t,
-  λ is. subst (λ (x : Reason). Says x o firing resolved send_resolved repeat t) is (tells o firing resolved send_resolved repeat t),
+  λ is. subst (λ (x : Reason). Says x o firing resolved send_resolved repeat t) is (says o firing resolved send_resolved repeat t),
 )
 says-where (Some until) reason o firing resolved send_resolved repeat t = (λ is. sym is, λ is. sym is)
 

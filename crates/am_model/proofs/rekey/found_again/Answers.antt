@@ -7,7 +7,7 @@ use Rattle.am_model.specs.Rekey.{Reload, has_receiver_at, rekeyed, same_routes}
 use Rattle.am_model.specs.RouteKeys.{key_at, positions_with, root_key}
 use Rattle.am_model.specs.declared.views.RowView.{RowView}
 use Rattle.am_model.proofs.configuration.Faultless.{few_integrations}
-use Rattle.am_model.proofs.configuration.FewAsked.{few_named}
+use Rattle.am_model.proofs.configuration.FewNotified.{few_named}
 use Rattle.am_model.proofs.configuration.RouteKeys.{positions-exist}
 use Rattle.am_model.proofs.rekey.found_again.Goals as goal
 
@@ -20,7 +20,7 @@ pub routes_of_receiver-requires : goal.routes_of_receiver-requires
 routes_of_receiver-requires c =
     let routes = c.args.new.now.routes in
     let key = c.key_at-key.result.now in
-    subst (All (λ p. p ≤ last_of routes)) (sym (c.positions_at-positions.ensures ∙ c.requires.places key)) (positions-exist routes key)
+    subst (All (λ p. p ≤ last_of routes)) (sym (c.positions_at-positions.ensures ∙ c.requires.indexes key)) (positions-exist routes key)
 
 pub returns-in_ok-routes-in-Some : goal.returns-in_ok-routes-in-Some
 returns-in_ok-routes-in-Some c =
@@ -37,7 +37,7 @@ returns-in_ok-routes-in-Some c =
     let key : c.key_at-key.result.now ≡ key_at old.routes row.group.route =
     c.key_at-key.ensures ∙ ap (λ (ks : List (List ℕ)). slice_index_or ks row.group.route (slice_index_or ks 0 root_key)) c.requires.keys in
     let positions : c.positions_at-positions.result.now ≡ positions_with new.routes (key_at old.routes row.group.route) =
-    c.positions_at-positions.ensures ∙ c.requires.places c.key_at-key.result.now ∙ ap (positions_with new.routes) key in
+    c.positions_at-positions.ensures ∙ c.requires.indexes c.key_at-key.result.now ∙ ap (positions_with new.routes) key in
     let routes : c.as_slice.result.now ≡ same_routes new receiver (key_at old.routes row.group.route) =
     c.as_slice.ensures.value ∙ c.in_ok-routes-in-Some.ensures ∙ (λ i. filter (has_receiver_at new (own i)) (positions i)) in
     let all : rows_at row (Some c.in-Some.integration) c.as_slice.result.now ≡ rekeyed reload row = λ i. rows_at row (found i) (routes i) in

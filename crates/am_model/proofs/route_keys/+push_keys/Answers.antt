@@ -1,12 +1,12 @@
 use Rattle.std.proofs.Common.{rules, ◌≡◌, ◌∙◌, ◌+◌, ◌-◌, ◌<◌, ◌≤◌, ◌++◌, ◌∷◌, [], ℕ, get_or, length, map, ap, sym, arith}
 use Rattle.am_alerts.specs.Layout.{laid, planted}
-use Rattle.am_alerts.specs.Planted.{part}
+use Rattle.am_alerts.specs.RouteLayouts.{part}
 use Rattle.am_alerts.specs.declared.route.Child.{Child}
 use Rattle.am_model.specs.RouteKeys.{key_below, keys_below}
 use Rattle.am_model.proofs.configuration.RouteKeys.{IsKeyed, keyed_here, length_children, walk_more, walk_all}
 use Rattle.am_model.proofs.route_keys.+push_keys.Goals as goal
 
--- the place before the position behind it
+-- the index before the position behind it
 before : (at : ℕ) → at + 1 - 1 ≡ at
 before at = omega arith
 

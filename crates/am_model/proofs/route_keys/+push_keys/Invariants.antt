@@ -1,6 +1,6 @@
 use Rattle.std.proofs.Common.{◌≡◌, ◌-◌, ◌≤◌, ◌++◌}
 use Rattle.am_alerts.specs.Layout.{laid, planted}
-use Rattle.am_alerts.specs.Planted.{IsLaid, part}
+use Rattle.am_alerts.specs.RouteLayouts.{IsLaid, part}
 use Rattle.am_alerts.specs.RoutingTree.{last_of}
 use Rattle.am_model.specs.RouteKeys.{keys_below}
 use Rattle.am_model.proofs.route_keys.+push_keys.Given as goal

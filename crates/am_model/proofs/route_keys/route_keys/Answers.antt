@@ -1,6 +1,6 @@
 use Rattle.std.proofs.Common.{◌≡◌, ◌∙◌, ◌++◌, ◌∷◌, [], ℕ, length, ap, sym, subst, arith}
 use Rattle.am_alerts.specs.Layout.{laid, planted}
-use Rattle.am_alerts.specs.Planted.{IsLaid, part}
+use Rattle.am_alerts.specs.RouteLayouts.{IsLaid, part}
 use Rattle.am_model.specs.RouteKeys.{keys_below, keys_of, root_key}
 use Rattle.am_model.proofs.configuration.RouteKeys.{length_keys, whole_laid, whole_planted}
 use Rattle.am_model.proofs.route_keys.route_keys.Goals as goal

@@ -8,10 +8,10 @@ use Rattle.am_mute.proofs.Buckets.{left_first}
 use Rattle.am_mute.proofs.sources.first_among.Goals as goal
 use Rattle.am_mute.proofs.sources.first_among.Goals.{In_ok-is_inhibited_by}
 
--- what the target told of the alert
-asked : (c : In_ok-is_inhibited_by) → is_inhibited_by c.args.target.now.rule c.args.target.now.t c.args.target.now.labels
+-- what the target reported of the alert
+holds_required : (c : In_ok-is_inhibited_by) → is_inhibited_by c.args.target.now.rule c.args.target.now.t c.args.target.now.labels
     c.index-alerts-key.result ≡ c.in_ok-is_inhibited_by.field-0
-asked c =
+holds_required c =
     ap (λ (x : TargetData). is_inhibited_by x.rule x.t x.labels c.index-alerts-key.result) (sym c.loop-key.invariant.2)
     ∙ sym c.in_ok-is_inhibited_by.ensures.value
 
@@ -43,7 +43,7 @@ returns-then-branch-clause-value c =
     let at = (goal.at.returns-then-branch-clause-value c).In_ok-is_inhibited_by in
     sym (walk_takes (is_inhibited_by c.args.target.now.rule c.args.target.now.t c.args.target.now.labels) c.args.alerts.now
     c.args.number c.hash-hash.result c.in-Some.key.now c.next.new.self c.index-alerts-key.result c.index-alerts-key.is (left at)
-    (asked at ∙ c.if-branch.true))
+    (holds_required at ∙ c.if-branch.true))
 
 pub loop-key-preserved : goal.loop-key-preserved
 loop-key-preserved c =
@@ -53,7 +53,7 @@ loop-key-preserved c =
       c.is_inhibited_by.ensures.kept ∙ c.loop-key.invariant.2,
       walk_passes (is_inhibited_by c.args.target.now.rule c.args.target.now.t c.args.target.now.labels) c.args.alerts.now
           c.args.number c.hash-hash.result c.in-Some.key.now c.next.new.self c.index-alerts-key.result
-          c.index-alerts-key.is (left at) (asked at ∙ c.if-branch.false),
+          c.index-alerts-key.is (left at) (holds_required at ∙ c.if-branch.false),
     )
 
 pub returns-clause-value : goal.returns-clause-value

@@ -8,6 +8,6 @@ use Rattle.am_plans.proofs.expectation.read_list.Given as goal
 -- what the values so far say is expected
 abbrev pub invariant-loop-index : goal.invariant-loop-index
 invariant-loop-index l = record {
-  told : DecodeEach (IsKnownIn l.member.dialect (configs_in l.configs) l.until l.last l.plans) (items_view (take l.index l.values)) l.expectations.items;
+  decoded : DecodeEach (IsKnownIn l.member.mode (configs_in l.configs) l.until l.last l.plans) (items_view (take l.index l.values)) l.expectations.items;
   count : length l.expectations.items ≡ l.index;
 }

@@ -10,7 +10,7 @@ pub returns-in_err-text-in-Some-clause-refused : goal.returns-in_err-text-in-Som
 returns-in_err-text-in-Some-clause-refused c =
     let found = get_member c.args.member.now (members_view c.args.item.now.members) in
     handed_on (λ (name : Option (List ℕ)). member_if as_str found ≡ Some name) c.from_residual.result c.in_err-text-in-Some.field-0.0 c.from_residual.ensures.1
-    (λ refusal name told. none_read _ _ (if_there as_str (view c.in-Some.member.value) found c.in-Some.ensures.value c.in_err-text-in-Some.ensures.text) told)
+    (λ refusal name decoded. none_read _ _ (if_there as_str (view c.in-Some.member.value) found c.in-Some.ensures.value c.in_err-text-in-Some.ensures.text) decoded)
 
 pub returns-in_err-new-in-Some-clause-refused : goal.returns-in_err-new-in-Some-clause-refused
 returns-in_err-new-in-Some-clause-refused c =

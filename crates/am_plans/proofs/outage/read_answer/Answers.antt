@@ -13,5 +13,5 @@ returns-in-Some-clause-refused c =
     let members = members_view c.args.outage.now.members in
     let value = view c.in-Some.member.value in
     narrowed (λ (a : Answer). IsAnswer value a × IsTrue true) (HasOr IsAnswer Again (codes "answer") members)
-    (λ a told. (found (a ≡ Again) (λ v. IsAnswer v a) value (get_member (codes "answer") members) c.in-Some.ensures.value told, sure))
+    (λ a decoded. (found (a ≡ Again) (λ v. IsAnswer v a) value (get_member (codes "answer") members) c.in-Some.ensures.value decoded, sure))
     c.read.result c.read.ensures.refused

@@ -12,7 +12,7 @@ loop-outcome-preserved g c =
     let before = c.loop-outcome.invariant in
     let sent = c.in-Ok.sent in
     let due : c.loop-outcome.retry.step ≡ Attempt c.in-Attempt.at = sym c.next.ensures.value ∙ c.in-Attempt.is in
-    let taken = c.answer.ensures.stands c.args.start c.args.deadline c.in-Attempt.at before.0 due before.1 in
+    let taken = c.answer.ensures.holds c.args.start c.args.deadline c.in-Attempt.at before.0 due before.1 in
     let tries = c.answer.ensures.tries c.args.start c.args.deadline c.in-Attempt.at before.0 due before.1 in
     let now = c.in-Ok.ensures.sent ∙ ap (λ k. g.C.Courier.tries c.loop-outcome.courier ++ tried n (k + 1) c.in-Attempt.at sent ∷ []) c.attempts.ensures.value in (
       one_more before.0 sent.answer sent.ended,

@@ -19,7 +19,7 @@ loop-worker-preserved c =
     let e : c.loop-worker.workers.items ≡ rest ++ s ∷ [] = c.in-Some.ensures.items in
     let both = c.absorb.ensures.both in
     let parts = ap (λ (v : Hand). v.parts) both in
-    let put : c.place.new.reports.items ≡ placed was s.done.items = c.place.ensures.placed ∙ ap (placed was) c.as_slice.ensures.value in (
+    let put : c.put_reports.new.reports.items ≡ placed was s.done.items = c.put_reports.ensures.placed ∙ ap (placed was) c.as_slice.ensures.value in (
       (c.absorb.ensures.pass, omega (arith, parts, i.0.1)),
       (All-pop (λ (s : Worker). IsPassOf c.args.queue.now s.pass × (0 < (view s.pass).parts)) _ _ (Some s) e i.1).0,
       (All-pop (λ (s : Worker). AreBelow (length c.args.reports.now.items) s.done.items) _ _ (Some s) e i.2).0,
@@ -29,7 +29,7 @@ loop-worker-preserved c =
           let taken = ap (λ (v : Hand). weigh h v.taken) both in
           let longer = weigh-append h (view c.loop-worker.whole).taken (view s.pass).taken in
           omega (arith, taken, longer, i.5 h, ap (weigh_taken h) e, taken-snoc h rest s),
-      c.place.ensures.count ∙ i.6,
+      c.put_reports.ensures.count ∙ i.6,
       ap (λ (l : List Report). placed l (runs_back rest)) put
           ∙ sym (placed-append was s.done.items (runs_back rest))
           ∙ ap (placed was) (sym (back-snoc rest s) ∙ sym (ap runs_back e))

@@ -26,8 +26,8 @@ gather-requires-clause-numbers g c =
     (sym c.in_ok-reports.ensures)
     (All-from_recursion (λ (s : Worker). AreBelow (length c.args.jobs.now) s.done.items) news all.below)
 
-pub place-requires : goal.place-requires
-place-requires g c =
+pub put_reports-requires : goal.put_reports-requires
+put_reports-requires g c =
     let empty = c.in_ok-done.ensures.empty in
     let below = first_below c.args.jobs.now g.C.Courier.tries g.C.Courier.refusals _ _ _ _ empty c.work_first.ensures.work in
     record {
@@ -45,7 +45,7 @@ returns-clause-shared g c =
     let left = c.in_ok-workers.ensures.pass.1 in
     let last : Worker = record { pass = c.gather.new.whole; done = c.in_ok-done.done } in
     let blanks = c.in_ok-reports.reports.items in
-    all_shared c.args.jobs.now g.C.Courier.tries g.C.Courier.refusals news blanks c.place.new.reports.items _ _ _ last _
+    all_shared c.args.jobs.now g.C.Courier.tries g.C.Courier.refusals news blanks c.put_reports.new.reports.items _ _ _ last _
     record {
       all = all;
       done = c.in_ok-done.ensures.empty;
@@ -57,7 +57,7 @@ returns-clause-shared g c =
       taken = λ h. omega (arith, c.gather.ensures.taken h, ap (λ (v : Hand). weigh h v.taken) left);
       blank = c.in_ok-reports.ensures;
       placed_are =
-          c.place.ensures.placed
+          c.put_reports.ensures.placed
           ∙ ap (placed c.gather.new.reports.items) c.as_slice.ensures.value
           ∙ ap (λ (l : List Report). placed l c.work_first.new.worker.done.items) c.gather.ensures.placed;
     }

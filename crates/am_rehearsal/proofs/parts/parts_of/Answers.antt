@@ -6,19 +6,19 @@ use Rattle.am_rehearsal.specs.Parts.{PartData, cut_at, parts_from, whole_part}
 use Rattle.am_rehearsal.proofs.Parting.{parts_more}
 use Rattle.am_rehearsal.proofs.parts.parts_of.Goals as goal
 
-pub loop-handover-preserved : goal.loop-handover-preserved
-loop-handover-preserved c =
-    let was = c.loop-handover in
-    let h = c.in-Some.handover in
+pub loop-dispatcher_change-preserved : goal.loop-dispatcher_change-preserved
+loop-dispatcher_change-preserved c =
+    let was = c.loop-dispatcher_change in
+    let h = c.in-Some.dispatcher_change in
     let first = whole_part c.args.config c.args.until c.args.plans.items in
     let cut : was.parts.items ++ cut_at h.at was.part ∷ [] ≡ c.push.new.self.items = sym (c.in_ok-push-in-Ok.ensures.items ∙ ap (λ (p : PartData). was.parts.items ++ p ∷ []) c.in-Ok.ensures.left) in
     λ rest. parts_more first was.yielded was.parts.items was.part h was.invariant rest ∙ (λ i. cut i ++ parts_from (sym c.in-Ok.ensures.next i) rest)
 
 pub returns : goal.returns
 returns c =
-    let all = c.args.handovers.items in
-    let yielded = c.loop-handover.yielded in
-    let gives = c.into_iter-handover-iterator.ensures.into_iter_gives in
-    let end = YieldsList-end (YieldsList-from_vec {s = c.into_iter-handover-iterator.result} all gives.0 (gives.1 ∙ c.args.handovers.ok.0)) yielded c.loop-handover.handover-iterator c.loop-handover.yielded_by c.next.result c.next.new.self c.in-None.is c.next.ensures.steps in
-    c.in_ok-push.ensures.items ∙ sym (c.loop-handover.invariant [])
+    let all = c.args.dispatcher_changes.items in
+    let yielded = c.loop-dispatcher_change.yielded in
+    let gives = c.into_iter-dispatcher_change-iterator.ensures.into_iter_gives in
+    let end = YieldsList-end (YieldsList-from_vec {s = c.into_iter-dispatcher_change-iterator.result} all gives.0 (gives.1 ∙ c.args.dispatcher_changes.ok.0)) yielded c.loop-dispatcher_change.dispatcher_change-iterator c.loop-dispatcher_change.yielded_by c.next.result c.next.new.self c.in-None.is c.next.ensures.steps in
+    c.in_ok-push.ensures.items ∙ sym (c.loop-dispatcher_change.invariant [])
     ∙ ap (parts_from (whole_part c.args.config c.args.until c.args.plans.items)) (append-nil yielded ∙ sym (map-id yielded) ∙ end.0)

@@ -1,6 +1,6 @@
 use Rattle.std.proofs.Common.{◌≡◌, refl}
 use Rattle.am_model.specs.declared.fault.Fault.{Fault}
-use Rattle.am_model.specs.declared.fault.Fault.TheVariants.{NoMemory, TooManyNames, TooManyGroups, TooManySilences, TooManyOpen, HistoryFull}
+use Rattle.am_model.specs.declared.fault.Fault.TheVariants.{NoMemory, TooManyAlerts, TooManyGroups, TooManySilences, TooManyOpen, HistoryFull}
 use Rattle.am_rehearsal.specs.Faults.{fault_of_call}
 use Rattle.am_rehearsal.specs.declared.play.PlayFault.TheVariants as play
 use Rattle.am_rehearsal.proofs.play.full_or_memory.Goals as goal
@@ -8,7 +8,7 @@ use Rattle.am_rehearsal.proofs.play.full_or_memory.Goals as goal
 -- all but want of memory is a limit
 limit_reached : (fault : Fault) → (fault ≡ NoMemory → ⊥) → play.Full ≡ fault_of_call fault
 limit_reached NoMemory other = absurd (other refl)
-limit_reached TooManyNames other = refl
+limit_reached TooManyAlerts other = refl
 limit_reached TooManyGroups other = refl
 limit_reached TooManySilences other = refl
 limit_reached TooManyOpen other = refl

@@ -14,7 +14,7 @@ returns-then-is_success-clause-board c =
     on_ok_weaker c.note.result
     (λ noted.
     noted
-    ∙ ap (λ (s : SendingData). with_note e.at s.ticket e.place c.keep_report.new.board.board) (c.sending.view_is ∙ c.in_ok-keep_report.ensures.sending)
-    ∙ ap (with_note e.at t e.place) c.keep_report.ensures.board
-    ∙ sym (ap (λ (b : Bool). if b then with_note e.at t e.place old else old) (sym c.is_success.ensures ∙ c.if-is_success.true)))
+    ∙ ap (λ (s : SendingData). with_note e.at s.ticket e.index c.keep_report.new.board.board) (c.sending.view_is ∙ c.in_ok-keep_report.ensures.sending)
+    ∙ ap (with_note e.at t e.index) c.keep_report.ensures.board
+    ∙ sym (ap (λ (b : Bool). if b then with_note e.at t e.index old else old) (sym c.is_success.ensures ∙ c.if-is_success.true)))
     c.note.ensures.noted

@@ -19,10 +19,10 @@ pub returns-in-Err-clause-refused : goal.returns-in-Err-clause-refused
 returns-in-Err-clause-refused g c =
     let was = c.loop-part in
     let parts = c.args.parts.items in
-    let told : PartFault = record { part = c.len.result; fault = c.in-Err.fault } in
+    let returned : PartFault = record { part = c.len.result; fault = c.in-Err.fault } in
     let gives = c.into_iter-part-iterator.ensures.into_iter_gives in
     let from = YieldsList-from_vec {s = c.into_iter-part-iterator.result} parts gives.0 (gives.1 ∙ c.args.parts.ok.0) in
     let so_far = YieldsList-so_far from was.yielded was.part-iterator was.yielded_by in
     let turn = YieldsList-turn from was.yielded was.part-iterator was.yielded_by c.next.result c.next.new.self c.in-Some.part c.in-Some.is c.next.ensures.steps in
-    stopped_at c.args.maintain c.args.outages.now parts was.yielded was.played.items c.in-Some.part told (sym (map-id was.yielded) ∙ so_far) turn
+    stopped_at c.args.maintain c.args.outages.now parts was.yielded was.played.items c.in-Some.part returned (sym (map-id was.yielded) ∙ so_far) turn
     (c.len.ensures ∙ c.play_next.new.played.ok.0 ∙ ap length c.in-Err.ensures.kept) was.invariant c.in-Err.ensures.refused

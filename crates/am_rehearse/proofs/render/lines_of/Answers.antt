@@ -9,11 +9,11 @@ use Rattle.am_rehearse.proofs.render.lines_of.Goals as goal
 pub returns-clause-text : goal.returns-clause-text
 returns-clause-text g c =
     let playback = c.args.playback.now in
-    let wanted = c.args.wanted.now in
+    let options = c.args.options.now in
     let times = g.C.TimeFormat.times c.args.clock.now in
-    let is_filtered : c.with_events-filtered.result ≡ filtered playback wanted.filter =
+    let is_filtered : c.with_events-filtered.result ≡ filtered playback options.filter =
     c.with_events-filtered.ensures
     ∙ ap (λ (events : List Event). record playback { events = events })
     (c.of.ensures ∙ ap (λ (events : List Event). left_of c.in_ok-left.left events) c.events.ensures ∙ c.in_ok-left.ensures) in
     c.in_ok-text_of.ensures
-    ∙ ap (λ (s : PlaybackData). shown_text c.args.output (if wanted.changes then changed s times else s) playback times) is_filtered
+    ∙ ap (λ (s : PlaybackData). shown_text c.args.output (if options.changes then changed s times else s) playback times) is_filtered

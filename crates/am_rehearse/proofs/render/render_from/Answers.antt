@@ -4,16 +4,16 @@ use Rattle.am_input.specs.Request.{times_from}
 use Rattle.am_rehearse.specs.Printed.{IsOutputOf}
 use Rattle.am_rehearse.proofs.render.render_from.Goals as goal
 
-pub returns-in_ok-render_by-in-None-clause-told : goal.returns-in_ok-render_by-in-None-clause-told
-returns-in_ok-render_by-in-None-clause-told c =
+pub returns-in_ok-render_by-in-None-clause-output : goal.returns-in_ok-render_by-in-None-clause-output
+returns-in_ok-render_by-in-None-clause-output c =
     let rendered = c.in_ok-render_by-in-None.field-0 in
-    let Tells : Option StartData → Type 0 =
-    λ start. IsOutputOf c.args.changes.now c.args.played.now c.args.output c.args.wanted.now (times_from start) c.args.expectations.now rendered.is_met (string_bytes rendered.text) in
-    subst Tells (sym c.in-None.is) c.in_ok-render_by-in-None.ensures
+    let Decodes : Option StartData → Type 0 =
+    λ start. IsOutputOf c.args.changes.now c.args.played.now c.args.output c.args.options.now (times_from start) c.args.expectations.now rendered.is_met (string_bytes rendered.text) in
+    subst Decodes (sym c.in-None.is) c.in_ok-render_by-in-None.ensures
 
-pub returns-in_ok-render_by-in-Some-clause-told : goal.returns-in_ok-render_by-in-Some-clause-told
-returns-in_ok-render_by-in-Some-clause-told c =
+pub returns-in_ok-render_by-in-Some-clause-output : goal.returns-in_ok-render_by-in-Some-clause-output
+returns-in_ok-render_by-in-Some-clause-output c =
     let rendered = c.in_ok-render_by-in-Some.field-0 in
-    let Tells : Option StartData → Type 0 =
-    λ start. IsOutputOf c.args.changes.now c.args.played.now c.args.output c.args.wanted.now (times_from start) c.args.expectations.now rendered.is_met (string_bytes rendered.text) in
-    subst Tells (sym c.in-Some.is) c.in_ok-render_by-in-Some.ensures
+    let Decodes : Option StartData → Type 0 =
+    λ start. IsOutputOf c.args.changes.now c.args.played.now c.args.output c.args.options.now (times_from start) c.args.expectations.now rendered.is_met (string_bytes rendered.text) in
+    subst Decodes (sym c.in-Some.is) c.in_ok-render_by-in-Some.ensures

@@ -14,7 +14,7 @@ returns g c =
     c.with_events-shown.ensures
     ∙ ap (λ (events : List Event). record filtered { events = events })
     (c.of.ensures ∙ ap (λ (events : List Event). left_of c.in_ok-kept.kept events) c.events.ensures) in
-    let is_chosen : c.with_events-shown.result ≡ (if c.args.wanted.now.changes then changed filtered times else filtered) = is_kept ∙ c.in_ok-kept.ensures in
+    let is_chosen : c.with_events-shown.result ≡ (if c.args.options.now.changes then changed filtered times else filtered) = is_kept ∙ c.in_ok-kept.ensures in
     subst
     (λ (s : PlaybackData). IfOk c.shown_text.result (λ text. string_bytes text ≡ shown_text c.args.output s c.args.playback.now times))
     is_chosen c.shown_text.ensures

@@ -6,14 +6,14 @@ use Rattle.am_rehearse.specs.Printed.{PlaysThrough}
 use Rattle.am_rehearse.proofs.Alone.{last_played, some_played}
 use Rattle.am_rehearse.proofs.Refusals.{passed}
 use Rattle.am_rehearse.proofs.run.play_alone.Goals as goal
-use Rattle.am_terms.specs.declared.handover.Handover.{Handover}
+use Rattle.am_terms.specs.declared.dispatcher_change.DispatcherChange.{DispatcherChange}
 
 pub unreachable-requires : goal.unreachable-requires
 unreachable-requires g c =
     let rehearsal = c.args.rehearsal in
     let played = c.in_ok-played.played.items in
     let alone : PlaysThrough rehearsal [] played =
-    subst (λ (hs : List Handover). PlaysThrough rehearsal hs played) c.new-handovers.ensures.items c.in_ok-played.ensures.plays in
+    subst (λ (hs : List DispatcherChange). PlaysThrough rehearsal hs played) c.new-dispatcher_changes.ensures.items c.in_ok-played.ensures.plays in
     let some = some_played rehearsal.maintain rehearsal.outages.items (whole_part rehearsal.config rehearsal.until rehearsal.plans.items) played alone in
     absurd (grind (arith, common_steps, some))
 
@@ -24,11 +24,11 @@ returns-clause-plays g c =
     let rest = c.pop.new.self.items in
     let part = c.in-Some.part in
     let alone : PlaysThrough rehearsal [] played =
-    subst (λ (hs : List Handover). PlaysThrough rehearsal hs played) c.new-handovers.ensures.items c.in_ok-played.ensures.plays in
+    subst (λ (hs : List DispatcherChange). PlaysThrough rehearsal hs played) c.new-dispatcher_changes.ensures.items c.in_ok-played.ensures.plays in
     let is : played ≡ rest ++ part ∷ [] = grind (arith, common_steps) in
     last_played rehearsal.maintain rehearsal.outages.items (whole_part rehearsal.config rehearsal.until rehearsal.plans.items) played rest part is alone
 
 pub returns-in_err-played-clause-refused : goal.returns-in_err-played-clause-refused
 returns-in_err-played-clause-refused g c =
     passed (RefusesPlay c.args.rehearsal []) c.from_residual.result c.in_err-played.field-0.0 c.from_residual.ensures.1
-    (subst (λ (hs : List Handover). RefusesPlay c.args.rehearsal hs c.in_err-played.field-0.0) c.new-handovers.ensures.items c.in_err-played.ensures.refused)
+    (subst (λ (hs : List DispatcherChange). RefusesPlay c.args.rehearsal hs c.in_err-played.field-0.0) c.new-dispatcher_changes.ensures.items c.in_err-played.ensures.refused)

@@ -1,7 +1,7 @@
 use Rattle.std.proofs.Common.{get_or, subst}
 use Rattle.am_run.specs.LaneStates.{Ran}
 use Rattle.am_run.specs.declared.lane.LaneState.{LaneState}
-use Rattle.am_run.proofs.lemmas.lanes.LaneStates.{by_place}
+use Rattle.am_run.proofs.lemmas.lanes.LaneStates.{by_index}
 use denote.Param.Send.{IsSync}
 use Rattle.am_desk.proofs.Crossing.{crossing}
 use Rattle.am_desk.proofs.pass.Pass.TheSendSync as pass
@@ -22,7 +22,7 @@ returns g c =
     let ss = c.args.lane_states.now in
     let ts = c.for_each_mut.new.s in
     let R = λ (x y : LaneState g.row.N.Denot). Ran g.N.Name.terms c.args.at x.calls.items x.pass y in
-    by_place R ss ts c.for_each_mut.auto.s
+    by_index R ss ts c.for_each_mut.auto.s
     (λ i d lt.
     let k = (c.for_each_mut.ensures i d lt).1 in
     subst (λ (x : LaneState g.row.N.Denot). R x (get_or ts i d)) k.argument_is (subst (λ (y : LaneState g.row.N.Denot). R k.argument.now y) k.left k.call))

@@ -82,28 +82,28 @@ lane_none i (p ∷ ps) all =
     ap (λ (cs : List Call). cs ++ lane_calls i ps) none ∙ lane_none i ps (All-rest (λ (p : Phase). length p.lanes.items ≤ i) p ps (p ∷ ps) refl all)
 
 -- a pass that has its own records in a history made its calls there
-stands_with : (p : Seen) (k : ℕ) (history : List Record) → own p.number history ≡ own p.number p.log → p.number ≡ k → calls_by k history ≡ calls_by k p.log
-stands_with p k history stands is =
-    ap (map (λ (r : Record). r.call)) (subst (λ (n : ℕ). own n history ≡ own n p.log) is stands)
+prefixed_with : (p : Seen) (k : ℕ) (history : List Record) → own p.number history ≡ own p.number p.log → p.number ≡ k → calls_by k history ≡ calls_by k p.log
+prefixed_with p k history prefixed is =
+    ap (map (λ (r : Record). r.call)) (subst (λ (n : ℕ). own n history ≡ own n p.log) is prefixed)
 
 -- the calls of the lanes are those in a history that has the records of their passes, and none of others
 pub lanes_in : (n i : ℕ) (phases : List Phase) (ps : List Seen) (history : List Record) → HaveMade n phases ps → All (λ (p : Seen). own p.number history ≡ own p.number p.log) ps
     → ((k : ℕ) → n + length ps < k → own k history ≡ []) → All (λ (p : Phase). length p.lanes.items ≤ n + length ps) phases → n ≤ i
     → calls_by (i + 1) history ≡ lane_calls i phases
-lanes_in n i phases [] history have stand others few le =
+lanes_in n i phases [] history have prefixed others few le =
     ap (map (λ (r : Record). r.call)) (others (i + 1) (omega (arith, le))) ∙ sym (lane_none i phases (λ k d lt. omega (arith, few k d lt, le)))
-lanes_in n i phases (p ∷ ps) history have stand others few le =
+lanes_in n i phases (p ∷ ps) history have prefixed others few le =
     let Here = λ (j : ℕ). calls_by (j + 1) history ≡ lane_calls j phases in
     let Same = λ (q : Seen). own q.number history ≡ own q.number q.log in
-    let here : Here n = stands_with p (n + 1) history (All-head Same p ps stand) have.0 ∙ have.1 in
+    let here : Here n = prefixed_with p (n + 1) history (All-head Same p ps prefixed) have.0 ∙ have.1 in
     dite (ℕ_discrete i n) (λ (e : i ≡ n). subst Here (sym e) here)
-    (λ (ne : i ≢ n). lanes_in (n + 1) i phases ps history have.2 (All-rest Same p ps (p ∷ ps) refl stand)
+    (λ (ne : i ≢ n). lanes_in (n + 1) i phases ps history have.2 (All-rest Same p ps (p ∷ ps) refl prefixed)
     (λ k more. others k (omega (arith, more))) (λ k d lt. omega (arith, few k d lt)) (omega (arith, le, ne)))
 
--- the calls of the lanes stand in a history in which their passes stand, and in which no other pass made a call
-pub lanes_stand : (n i : ℕ) (phases : List Phase) (ps : List Seen) (history : List Record) → HaveMade n phases ps → All (λ (p : Seen). IsPrefixViewOf p history) ps
+-- the calls of the lanes are in a history in which their passes are, and in which no other pass made a call
+pub lanes_prefixed : (n i : ℕ) (phases : List Phase) (ps : List Seen) (history : List Record) → HaveMade n phases ps → All (λ (p : Seen). IsPrefixViewOf p history) ps
     → ((k : ℕ) → n + length ps < k → made k history ≡ 0) → All (λ (p : Phase). length p.lanes.items ≤ n + length ps) phases → n ≤ i
     → calls_by (i + 1) history ≡ lane_calls i phases
-lanes_stand n i phases ps history have stand others few le =
-    lanes_in n i phases ps history have (All-weaker (λ (p : Seen). IsPrefixViewOf p history) (λ (p : Seen). own p.number history ≡ own p.number p.log) (λ p s. s.1) ps stand)
+lanes_prefixed n i phases ps history have prefixed others few le =
+    lanes_in n i phases ps history have (All-weaker (λ (p : Seen). IsPrefixViewOf p history) (λ (p : Seen). own p.number history ≡ own p.number p.log) (λ p s. s.1) ps prefixed)
     (λ k more. nil_from_length (own k history) (others k more)) few le

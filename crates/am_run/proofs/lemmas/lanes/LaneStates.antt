@@ -12,13 +12,13 @@ use Rattle.am_run.specs.declared.lane.LaneState.{LaneState}
 use Rattle.am_scenario.specs.declared.scenario.Lane.{Lane}
 use Rattle.am_scenario.specs.declared.scenario.call.LaneCall.{LaneCall}
 
--- what holds at each place holds place by place
-pub by_place : {X : Type 0} (R : X → X → Type 0) (xs ys : List X) → length ys ≡ length xs → ((i : ℕ) (d : X) → i < length xs → R (get_or xs i d) (get_or ys i d)) → AllZip R xs ys
-by_place R [] [] same each = tt
-by_place R [] (y ∷ ys) same each = absurd (omega (arith, same))
-by_place R (x ∷ xs) [] same each = absurd (omega (arith, same))
-by_place R (x ∷ xs) (y ∷ ys) same each =
-    (each 0 x (omega arith), by_place R xs ys (omega (arith, same)) (λ i d lt. each (suc i) d (omega (arith, lt))))
+-- what holds at each index holds index by index
+pub by_index : {X : Type 0} (R : X → X → Type 0) (xs ys : List X) → length ys ≡ length xs → ((i : ℕ) (d : X) → i < length xs → R (get_or xs i d) (get_or ys i d)) → AllZip R xs ys
+by_index R [] [] same each = tt
+by_index R [] (y ∷ ys) same each = absurd (omega (arith, same))
+by_index R (x ∷ xs) [] same each = absurd (omega (arith, same))
+by_index R (x ∷ xs) (y ∷ ys) same each =
+    (each 0 x (omega arith), by_index R xs ys (omega (arith, same)) (λ i d lt. each (suc i) d (omega (arith, lt))))
 
 abbrev pub head_or : {X : Type 0} → X → List X → X
 head_or d [] = d

@@ -27,7 +27,7 @@ passes_met t p q l m one other = (
   (looked_records t l m other.0, prefix_trans p.log q.log m.log one.0.begins other.1, one.1),
 )
 
--- what holds place by place follows from what holds place by place
+-- what holds index by index follows from what holds index by index
 pub zip_since : {A B : Type 0} (R S : A → B → Type 0) (xs : List A) (ys : List B) → ((x : A) (y : B) → R x y → S x y) → AllZip R xs ys → AllZip S xs ys
 zip_since R S [] [] holds all = tt
 zip_since R S [] (y ∷ ys) holds all = absurd all

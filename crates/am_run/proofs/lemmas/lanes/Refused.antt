@@ -29,7 +29,7 @@ use Rattle.am_run.proofs.lemmas.phases.Steps.{looked_records, same_records}
 -- a pass whose call was refused made no record
 pub refused_records : (t : Terms) (p q : Seen) (why : List Record → Option Fault) (f : Fault) → IsRefused t p why f q → MadeRecords [] p q
 refused_records t p q why fault.NoMemory r = same_records p q r
-refused_records t p q why fault.TooManyNames r = looked_records t p q r.0
+refused_records t p q why fault.TooManyAlerts r = looked_records t p q r.0
 refused_records t p q why fault.TooManyGroups r = looked_records t p q r.0
 refused_records t p q why fault.TooManySilences r = looked_records t p q r.0
 refused_records t p q why fault.TooManyOpen r = looked_records t p q r.0
@@ -38,14 +38,14 @@ refused_records t p q why fault.HistoryFull r = looked_records t p q r.0
 has_cause : (o : Option Fault) (f : Fault) → o ≡ Some f → o ≢ None
 has_cause o f is none = absurd (cc (is, none))
 
-has_place : (o : Option (ℕ × Fault)) (k : ℕ) (f : Fault) → o ≡ Some (k, f) → o ≡ None → ⊥
-has_place o k f is none = absurd (cc (is, none))
+has_target : (o : Option (ℕ × Fault)) (k : ℕ) (f : Fault) → o ≡ Some (k, f) → o ≡ None → ⊥
+has_target o k f is none = absurd (cc (is, none))
 
 -- and if memory wasn't the cause, it has seen a legal history at which there is one
 pub refused_sees : (t : Terms) (p q : Seen) (why : List Record → Option Fault) (f : Fault) → IsRefused t p why f q → f ≢ fault.NoMemory
     → IsLegal t.config t.id q.log × (why q.log ≢ None)
 refused_sees t p q why fault.NoMemory r other = absurd (other refl)
-refused_sees t p q why fault.TooManyNames r other = (r.0.legal, has_cause (why q.log) fault.TooManyNames r.1)
+refused_sees t p q why fault.TooManyAlerts r other = (r.0.legal, has_cause (why q.log) fault.TooManyAlerts r.1)
 refused_sees t p q why fault.TooManyGroups r other = (r.0.legal, has_cause (why q.log) fault.TooManyGroups r.1)
 refused_sees t p q why fault.TooManySilences r other = (r.0.legal, has_cause (why q.log) fault.TooManySilences r.1)
 refused_sees t p q why fault.TooManyOpen r other = (r.0.legal, has_cause (why q.log) fault.TooManyOpen r.1)
@@ -108,7 +108,7 @@ first_through at all n (k ∷ ks) (l ∷ ls) (m ∷ ms) (x ∷ ns) first made la
 none_any : {N : Type 0} (us : List (LaneState N)) → NoneRefused us → AnyRefused us → ⊥
 none_any [] none any = any
 none_any {N} (u ∷ us) none any =
-    ⊎_elim (λ (by : IsRefusedByLimit u). absurd (has_place u.refused by.0 by.1 by.2 (All-head (λ (y : LaneState N). y.refused ≡ None) u us none)))
+    ⊎_elim (λ (by : IsRefusedByLimit u). absurd (has_target u.refused by.0 by.1 by.2 (All-head (λ (y : LaneState N). y.refused ≡ None) u us none)))
     (λ (later : AnyRefused us). none_any us (All-rest (λ (y : LaneState N). y.refused ≡ None) u us (u ∷ us) refl none) later) any
 
 -- the passes have the same numbers
@@ -206,7 +206,7 @@ ran_until t at calls n c p q u k f there is made begins unmade since refused ref
       is = sym (take-append-drop n calls);
       made = subst (λ (cs : List Call). MadeCalls cs p u.pass) (append-nil done) (more_made done [] p q u.pass made unmade);
       begins = prefix_trans p.log q.log u.pass.log begins since;
-      all = λ none. absurd (has_place u.refused k f refused none);
+      all = λ none. absurd (has_target u.refused k f refused none);
       why = λ by.
           let pair : (k, f) ≡ (by.0, by.1) = cc (refused, by.2) in
           let same : f ≡ by.1 = ap (λ (x : ℕ × Fault). x.1) pair in

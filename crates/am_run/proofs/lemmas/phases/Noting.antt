@@ -6,11 +6,11 @@ use Rattle.std.proofs.lemmas.Grind.{flat_map-append}
 use Rattle.std.proofs.lemmas.List.{append-nil, map-append, take_more}
 use Rattle.std.proofs.lemmas.List.Elements.{filter-append}
 use Rattle.std.proofs.lemmas.Option.{get_or_from_slice_get}
-use Rattle.am_model.specs.Causes.{asked_cause, flush_cause, is_full, notice_cause}
-use Rattle.am_model.specs.Note.{asked_by, is_ready}
+use Rattle.am_model.specs.Causes.{notified_cause, flush_cause, is_full, notice_cause}
+use Rattle.am_model.specs.Note.{notified_by, is_ready}
 use Rattle.am_model.specs.Notice.{NoticeData}
 use Rattle.am_model.specs.Records.{IsNoteOf}
-use Rattle.am_model.specs.State.{AskedState, FlushState, State, flush_numbered}
+use Rattle.am_model.specs.State.{NotifiedState, FlushState, State, flush_numbered}
 use Rattle.am_model.specs.Replay.{replay}
 use Rattle.am_model.specs.Ticket.{TicketData, outcome_of}
 use Rattle.am_model.specs.declared.config.Config.{Config}
@@ -19,7 +19,7 @@ use Rattle.am_model.specs.declared.fault.NoteFault.TheVariants as note
 use Rattle.am_model.specs.declared.notice.Report.{Report}
 use Rattle.am_model.specs.declared.record.Call.{Call}
 use Rattle.am_model.specs.declared.record.Record.{Record}
-use Rattle.am_desk.specs.Calls.{Called, why_note}
+use Rattle.am_desk.specs.Calls.{Called, cause_of_note}
 use Rattle.am_desk.specs.History.{own}
 use Rattle.am_desk.specs.Known.{Observes, Seen}
 use Rattle.am_desk.specs.declared.word.Terms.{Terms}
@@ -94,54 +94,54 @@ notes_more t cs ds p q r first after =
     }
 
 -- an accepted note
-pub note_made : (t : Terms) (p q : Seen) (Allowed : List Record → Type 0) (r : Record) (now : ℕ) (ticket : TicketData) (place : ℕ) (n : NoticeData)
-    → slice_get ticket.notices place ≡ Some n → IsNoteOf p.number now ticket place r → Called t p Allowed r q → Notes t (note_at now ticket n ∷ []) p q
-note_made t p q Allowed r now ticket place n there is called =
-    let same : is.0 ≡ n = sym (get_or_from_slice_get ticket.notices place is.0 n is.1) ∙ get_or_from_slice_get ticket.notices place n n there in
+pub note_made : (t : Terms) (p q : Seen) (Allowed : List Record → Type 0) (r : Record) (now : ℕ) (ticket : TicketData) (index : ℕ) (n : NoticeData)
+    → slice_get ticket.notices index ≡ Some n → IsNoteOf p.number now ticket index r → Called t p Allowed r q → Notes t (note_at now ticket n ∷ []) p q
+note_made t p q Allowed r now ticket index n there is called =
+    let same : is.0 ≡ n = sym (get_or_from_slice_get ticket.notices index is.0 n is.1) ∙ get_or_from_slice_get ticket.notices index n n there in
     record {
       records = r ∷ [];
       made = one_record t p q Allowed r called;
       noted = inl (r, [], refl, ap (λ (x : Record). x.call) is.2 ∙ ap (note_at now ticket) same, refl);
     }
 
-full_asked : (ready noted full : Bool) → (if not ready then Some note.NotReady else (if noted then Some note.Already else (if full then Some note.HistoryFull else None))) ≡ Some note.HistoryFull → full ≡ true
-full_asked false noted full e = absurd (cc)
-full_asked true true full e = absurd (cc)
-full_asked true false true e = refl
-full_asked true false false e = absurd (cc)
+full_notified : (ready noted full : Bool) → (if not ready then Some note.NotReady else (if noted then Some note.Already else (if full then Some note.HistoryFull else None))) ≡ Some note.HistoryFull → full ≡ true
+full_notified false noted full e = absurd (cc)
+full_notified true true full e = absurd (cc)
+full_notified true false true e = refl
+full_notified true false false e = absurd (cc)
 
-full_integration : (config : Config) (records : ℕ) (s : State) (outcome : Option Outcome) (a : Option AskedState)
-    → asked_cause config records s outcome a ≡ Some note.HistoryFull → is_full config records s 1 ≡ true
+full_integration : (config : Config) (records : ℕ) (s : State) (outcome : Option Outcome) (a : Option NotifiedState)
+    → notified_cause config records s outcome a ≡ Some note.HistoryFull → is_full config records s 1 ≡ true
 full_integration config records s outcome None e = absurd (cc)
-full_integration config records s outcome (Some a) e = full_asked (is_ready outcome a) a.noted (is_full config records s 1) e
+full_integration config records s outcome (Some a) e = full_notified (is_ready outcome a) a.noted (is_full config records s 1) e
 
 full_notice : (config : Config) (records : ℕ) (s : State) (ticket : TicketData) (n : Option NoticeData) (f : FlushState)
     → notice_cause config records s ticket n f ≡ Some note.HistoryFull → is_full config records s 1 ≡ true
 full_notice config records s ticket None f e = absurd (cc)
-full_notice config records s ticket (Some n) f e = full_integration config records s (outcome_of ticket.outcomes n.integration) (asked_by f n.integration) e
+full_notice config records s ticket (Some n) f e = full_integration config records s (outcome_of ticket.outcomes n.integration) (notified_by f n.integration) e
 
-full_flush : (config : Config) (records : ℕ) (s : State) (ticket : TicketData) (place : ℕ) (f : Option FlushState)
-    → flush_cause config records s ticket place f ≡ Some note.HistoryFull → is_full config records s 1 ≡ true
-full_flush config records s ticket place None e = absurd (cc)
-full_flush config records s ticket place (Some f) e = full_notice config records s ticket (slice_get ticket.notices place) f e
+full_flush : (config : Config) (records : ℕ) (s : State) (ticket : TicketData) (index : ℕ) (f : Option FlushState)
+    → flush_cause config records s ticket index f ≡ Some note.HistoryFull → is_full config records s 1 ≡ true
+full_flush config records s ticket index None e = absurd (cc)
+full_flush config records s ticket index (Some f) e = full_notice config records s ticket (slice_get ticket.notices index) f e
 
 full_ours : (ours : Bool) (cause : Option NoteFault) → (if ours then cause else Some note.Foreign) ≡ Some note.HistoryFull → cause ≡ Some note.HistoryFull
 full_ours true cause e = e
 full_ours false cause e = absurd (cc)
 
 -- a note that was refused for it had no room
-pub had_no_room : (t : Terms) (ticket : TicketData) (place : ℕ) (h : List Record) → why_note t ticket place h ≡ Some note.HistoryFull → FailsHistoryFull t h
-had_no_room t ticket place h why =
+pub had_no_room : (t : Terms) (ticket : TicketData) (index : ℕ) (h : List Record) → cause_of_note t ticket index h ≡ Some note.HistoryFull → FailsHistoryFull t h
+had_no_room t ticket index h why =
     let f = flush_numbered (replay t.config h).flushes ticket.number in
-    full_flush t.config (length h) (replay t.config h) ticket place f (full_ours _ (flush_cause t.config (length h) (replay t.config h) ticket place f) why)
+    full_flush t.config (length h) (replay t.config h) ticket index f (full_ours _ (flush_cause t.config (length h) (replay t.config h) ticket index f) why)
 
 -- a note for which there was no room
-pub note_left : (t : Terms) (p q : Seen) (ticket : TicketData) (place : ℕ) (c : Call) → Observes t p q → why_note t ticket place q.log ≡ Some note.HistoryFull → Notes t (c ∷ []) p q
-note_left t p q ticket place c looks why =
+pub note_left : (t : Terms) (p q : Seen) (ticket : TicketData) (index : ℕ) (c : Call) → Observes t p q → cause_of_note t ticket index q.log ≡ Some note.HistoryFull → Notes t (c ∷ []) p q
+note_left t p q ticket index c looks why =
     record {
       records = [];
       made = looked_records t p q looks;
-      noted = inr ((q.log, prefix_self q.log, looks.own, had_no_room t ticket place q.log why), refl);
+      noted = inr ((q.log, prefix_self q.log, looks.own, had_no_room t ticket index q.log why), refl);
     }
 
 -- the notes of one notice more

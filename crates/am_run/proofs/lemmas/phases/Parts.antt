@@ -60,8 +60,8 @@ own_rest k xs rest ys is same =
     append_cancel_left (own k xs) (own k rest) [] (sym (own-append k xs rest) ∙ (ap (own k) is ∙ (same ∙ sym (append-nil (own k xs)))))
 
 -- a list that goes on with records of the pass 0 alone goes on with these
-pub goes_on : (xs ys rs : List Record) → IsPrefix xs ys → ((k : ℕ) → 0 < k → own k ys ≡ own k xs) → own 0 ys ≡ own 0 xs ++ rs → ys ≡ xs ++ rs
-goes_on xs ys rs begins same more =
+pub continues : (xs ys rs : List Record) → IsPrefix xs ys → ((k : ℕ) → 0 < k → own k ys ≡ own k xs) → own 0 ys ≡ own 0 xs ++ rs → ys ≡ xs ++ rs
+continues xs ys rs begins same more =
     let rest = begins.0 in
     let none : (k : ℕ) → k ≢ 0 → own k rest ≡ [] = λ k other. own_rest k xs rest ys begins.1 (same k (omega (arith, other))) in
     let is : own 0 rest ≡ rs = append_cancel_left (own 0 xs) (own 0 rest) rs (sym (own-append 0 xs rest) ∙ (ap (own 0) begins.1 ∙ more)) in
@@ -92,7 +92,7 @@ of_each P n phases (l ∷ ls) have all others k more =
     of_each P (n + 1) phases ls have.2 (All-rest (λ (p : Seen). P p.number) l ls (l ∷ ls) refl all) (λ j past. others j (omega (arith, past)))
     k (omega (arith, more, ne)))
 
--- what follows place by place from what holds of the items
+-- what follows index by index from what holds of the items
 pub zip_weaker : {A B : Type 0} (R S : A → B → Type 0) (P : A → Type 0) (Q : B → Type 0) (xs : List A) (ys : List B)
     → ((x : A) (y : B) → P x → Q y → R x y → S x y) → All P xs → All Q ys → AllZip R xs ys → AllZip S xs ys
 zip_weaker R S P Q [] [] holds firsts seconds all = tt
@@ -232,7 +232,7 @@ part_made Answers desk phases phase p s ls ms reports since o =
     let to_end : IsPrefix begun s.log = prefix_trans begun joined s.log t.beside.quiet.2 t.ends.2 in
     let all : IsPrefix p.log s.log = prefix_trans p.log begun s.log t.begins.2 to_end in
     let begins : begun ≡ p.log ++ turn.begins =
-    goes_on p.log begun turn.begins t.begins.2
+    continues p.log begun turn.begins t.begins.2
     (of_each (λ (k : ℕ). own k begun ≡ own k p.log) 0 phases ls o.have (zip_firsts Over (λ (l : Seen). own l.number begun ≡ own l.number p.log) ls ms (λ l m x. x.starts) over)
     (λ k more.
     let past : length ls < k = omega (arith, more) in
@@ -243,7 +243,7 @@ part_made Answers desk phases phase p s ls ms reports since o =
     let between : begun ++ rest ≡ joined = t.beside.quiet.2.1 in
     let quiet : own 0 joined ≡ own 0 begun = subst (λ (n : ℕ). own n joined ≡ own n begun) zero (t.beside.quiet.1 ∙ append-nil (own t.begun.number begun)) in
     let ends : s.log ≡ joined ++ (turn.notes ++ turn.finishes) =
-    goes_on joined s.log (turn.notes ++ turn.finishes) t.ends.2
+    continues joined s.log (turn.notes ++ turn.finishes) t.ends.2
     (of_each (λ (k : ℕ). own k s.log ≡ own k joined) 0 phases ls o.have
     (zip_firsts Over (λ (l : Seen). own l.number s.log ≡ own l.number joined) ls ms (λ l m x. x.ends ∙ sym x.comes) over)
     (λ k more. o.no_more.others k (omega (arith, same, more)) ∙ sym (others_before k ls ms joined s.log same t.ends.2 o.no_more.others (omega (arith, more)))))
@@ -270,7 +270,7 @@ part_made Answers desk phases phase p s ls ms reports since o =
             main =
                 all_end (λ (r : Record). r.pass ≡ 0) (own 0 p.log) (records_in turn)
                 (subst (λ (rs : List Record). All (λ (r : Record). r.pass ≡ 0) rs) mine (own_passes 0 s.log));
-            ended = λ asked. subst (λ (rs : List Record). BeginsExhausted desk phase.at rs turn.begins) begins (t.ended asked);
+            ended = λ requested. subst (λ (rs : List Record). BeginsExhausted desk phase.at rs turn.begins) begins (t.ended requested);
             others = own_rest 0 begun rest joined between quiet;
             lanes = λ i. lanes_beside 0 i phase phases rest phase.lanes.items ls ms (λ k. ap (slice_get phase.lanes.items) (omega arith)) o.have o.lanes adds none (omega arith);
           };
@@ -351,29 +351,29 @@ part_next Answers desk phases n m phase p q ls ms reports since next there is ha
     in
     subst (λ (xs : List Phase). AfterPhases Answers desk xs q ms since) (sym longer) (part_more Answers desk (take n phases) phase p q ls ms reports since have lanes had took)
 
--- a history in which all passes stand, and no other made a call, is made of these parts
-pub parts_stand : (Answers : Tried → Type 0) (desk : Terms) (phases : List Phase) (p : Seen) (ls : List Seen) (reports : List Report) (history : List Record) → HaveMade 0 phases ls
+-- a history in which all passes are, and no other made a call, is made of these parts
+pub parts_prefixed : (Answers : Tried → Type 0) (desk : Terms) (phases : List Phase) (p : Seen) (ls : List Seen) (reports : List Report) (history : List Record) → HaveMade 0 phases ls
     → (had : AfterPhases Answers desk phases p ls reports) → IsPrefixViewOf p history → All (λ (l : Seen). IsPrefixViewOf l history) ls → ((k : ℕ) → length ls < k → made k history ≡ 0)
     → SplitsByPhase desk phases had.main.1.turns history
-parts_stand Answers desk phases p ls reports history have had stands each others =
+parts_prefixed Answers desk phases p ls reports history have had prefixed each others =
     let none : (k : ℕ) → length ls < k → own k history ≡ [] = λ k more. nil_from_length (own k history) (others k more) in
     let no_more : HasNoOtherCalls ls p.log =
     record {
       each =
           All-weaker (λ (l : Seen). IsPrefixViewOf l history) (λ (l : Seen). IsPrefix (own l.number p.log) (own l.number l.log))
-          (λ l s. subst (λ (rs : List Record). IsPrefix (own l.number p.log) rs) s.1 (own_prefix l.number p.log history stands.0)) ls each;
-      others = λ k more. none_before k p.log history stands.0 (none k more);
+          (λ l s. subst (λ (rs : List Record). IsPrefix (own l.number p.log) rs) s.1 (own_prefix l.number p.log history prefixed.0)) ls each;
+      others = λ k more. none_before k p.log history prefixed.0 (none k more);
     }
     in
     let both : All (λ (l : Seen). own l.number history ≡ own l.number p.log) ls = λ i d lt.
     let l = get_or ls i d in
     prefix_both (own l.number history) (own l.number p.log) (subst (λ (rs : List Record). IsPrefix rs (own l.number p.log)) (sym (each i d lt).1) (had.sees i d lt))
-    (own_prefix l.number p.log history stands.0)
+    (own_prefix l.number p.log history prefixed.0)
     in
     let whole : history ≡ p.log ++ [] =
-    goes_on p.log history [] stands.0
+    continues p.log history [] prefixed.0
     (of_each (λ (k : ℕ). own k history ≡ own k p.log) 0 phases ls have both (λ k more. none k (omega (arith, more)) ∙ sym (no_more.others k (omega (arith, more)))))
-    (subst (λ (n : ℕ). own n history ≡ own n p.log) had.main.0 stands.1 ∙ sym (append-nil (own 0 p.log)))
+    (subst (λ (n : ℕ). own n history ≡ own n p.log) had.main.0 prefixed.1 ∙ sym (append-nil (own 0 p.log)))
     in
     subst (λ (rs : List Record). SplitsByPhase desk phases had.main.1.turns rs) (sym (whole ∙ append-nil p.log)) (had.parts no_more)
 

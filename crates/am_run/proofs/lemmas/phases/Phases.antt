@@ -17,9 +17,9 @@ use Rattle.am_run.specs.Turns.{MainSteps}
 use Rattle.am_scenario.specs.Scripts.{IsAsPlanned}
 use Rattle.am_scenario.specs.declared.scenario.Phase.{Phase}
 use Rattle.am_scenario.specs.declared.scenario.Scenario.{Scenario}
-use Rattle.am_run.proofs.lemmas.lanes.Calls.{lanes_stand, phase_made}
-use Rattle.am_run.proofs.lemmas.phases.Parts.{parts_stand}
-use Rattle.am_run.proofs.lemmas.phases.Turns.{turns_stand, turns_stay}
+use Rattle.am_run.proofs.lemmas.lanes.Calls.{lanes_prefixed, phase_made}
+use Rattle.am_run.proofs.lemmas.phases.Parts.{parts_prefixed}
+use Rattle.am_run.proofs.lemmas.phases.Turns.{turns_prefixed, turns_stay}
 
 -- one turn more over the phases, of which the passes made the calls
 pub turn_made : (phases : List Phase) (n m : ℕ) (phase : Phase) (ps qs : List Seen) → m ≡ n + 1 → n < length phases → phase ≡ get_or phases n phase
@@ -34,7 +34,7 @@ turn_made phases n m phase ps qs next there is have since =
 -- what a run is known by when its desk is closed
 pub record Ended (phases : List Phase) (ps : List Seen) (history : List Record) (passes : ℕ) : Type 0 where
   pub have : HaveMade 0 phases ps
-  pub stand : All (λ (p : Seen). IsPrefixViewOf p history) ps
+  pub prefixed : All (λ (p : Seen). IsPrefixViewOf p history) ps
   pub others : (k : ℕ) → length ps < k → made k history ≡ 0
   pub few : All (λ (p : Phase). vec_len p.lanes < passes) phases
   pub seated : length ps + 1 ≡ passes
@@ -43,25 +43,25 @@ pub record Ended (phases : List Phase) (ps : List Seen) (history : List Record) 
 pub all_played : (phases : List Phase) (ps : List Seen) (history : List Record) (passes : ℕ) → Ended phases ps history passes
     → (i : ℕ) → calls_by (i + 1) history ≡ lane_calls i phases
 all_played phases ps history passes e i =
-    lanes_stand 0 i phases ps history e.have e.stand (λ k more. e.others k (omega (arith, more)))
+    lanes_prefixed 0 i phases ps history e.have e.prefixed (λ k more. e.others k (omega (arith, more)))
     (λ k d lt. omega (arith, e.few k d lt, e.seated, (get_or phases k d).lanes.ok.0)) (omega arith)
 
 -- the report on the passes that have run the phases of a scenario is its play
 pub played : (scenario : Scenario) (id passes : ℕ) (p : Seen) (ls : List Seen) (reports : List Report) (text : List ℕ) → HaveMade 0 scenario.phases.items ls
     → AfterPhases (IsAsPlanned scenario.scripts.items) (terms scenario.config id) scenario.phases.items p ls reports → IsReportOnPasses (terms scenario.config id) p ls reports text
     → All (λ (x : Phase). vec_len x.lanes < passes) scenario.phases.items → length ls + 1 ≡ passes → IsPlayOf id scenario text
-played scenario id passes p ls reports text have had told few seated =
+played scenario id passes p ls reports text have had reported few seated =
     let answers = IsAsPlanned scenario.scripts.items in
     let t = terms scenario.config id in
     let phases = scenario.phases.items in
     record {
-      history = told.history;
-      report = record { reports = reports; legal = told.legal; is = told.is };
-      lanes = all_played phases ls told.history passes (record { have = have; stand = told.lanes; others = told.others; few = few; seated = seated });
-      main = turns_stand answers t phases p reports told.history had.main told.main;
+      history = reported.history;
+      report = record { reports = reports; legal = reported.legal; is = reported.is };
+      lanes = all_played phases ls reported.history passes (record { have = have; prefixed = reported.lanes; others = reported.others; few = few; seated = seated });
+      main = turns_prefixed answers t phases p reports reported.history had.main reported.main;
       parts =
-          subst (λ (us : List MainSteps). SplitsByPhase t phases us told.history) (sym (turns_stay answers t phases p reports told.history had.main told.main))
-          (parts_stand answers t phases p ls reports told.history have had told.main told.lanes told.others);
+          subst (λ (us : List MainSteps). SplitsByPhase t phases us reported.history) (sym (turns_stay answers t phases p reports reported.history had.main reported.main))
+          (parts_prefixed answers t phases p ls reports reported.history have had reported.main reported.lanes reported.others);
     }
 
 -- what is known of the source of a walk is known of it as the walk has it

@@ -12,7 +12,7 @@ use Rattle.am_model.specs.declared.record.Call.TheVariants as call
 use Rattle.am_model.specs.declared.record.Record.{Record}
 use Rattle.am_model.specs.declared.record.Reply.{Reply}
 use Rattle.am_model.specs.declared.record.Reply.TheVariants as reply
-use Rattle.am_desk.specs.Calls.{Called, why_begin}
+use Rattle.am_desk.specs.Calls.{Called, cause_of_begin}
 use Rattle.am_desk.specs.History.{own}
 use Rattle.am_desk.specs.Known.{Observes, Seen}
 use Rattle.am_desk.specs.declared.word.Terms.{Terms}
@@ -50,9 +50,9 @@ all_one : {X : Type 0} (P : X → Type 0) (x : X) → P x → All P (x ∷ [])
 all_one P x is = All-cons P x [] is (All-nil P)
 
 -- an accepted finish
-pub one_finish : (t : Terms) (p q : Seen) (Allowed : List Record → Type 0) (now : ℕ) (ticket : TicketData) (told : Reply)
-    → Called t p Allowed (entry p.number (call.Finish now ticket.number ticket.outcomes) told) q → FinishesOne now ticket p q
-one_finish t p q Allowed now ticket told called = (entry p.number (call.Finish now ticket.number ticket.outcomes) told, one_record t p q Allowed _ called, refl)
+pub one_finish : (t : Terms) (p q : Seen) (Allowed : List Record → Type 0) (now : ℕ) (ticket : TicketData) (returned : Reply)
+    → Called t p Allowed (entry p.number (call.Finish now ticket.number ticket.outcomes) returned) q → FinishesOne now ticket p q
+one_finish t p q Allowed now ticket returned called = (entry p.number (call.Finish now ticket.number ticket.outcomes) returned, one_record t p q Allowed _ called, refl)
 
 -- begins that were made before these, which all found a group due
 rightly_more : (t : Terms) (at : ℕ) (front xs ys : List Record) → All FoundDue xs → BeginsExhausted t at front ys
@@ -71,11 +71,11 @@ rightly_more t at front xs ys found then =
     then
 
 -- a begin that wasn't asked for
-not_asked : (flush : Bool) → flush ≡ false → flush ≡ true → ⊥
-not_asked flush unset set = true≢false (sym set ∙ unset)
+not_requested : (flush : Bool) → flush ≡ false → flush ≡ true → ⊥
+not_requested flush unset set = true≢false (sym set ∙ unset)
 
 -- an accepted begin leaves a record, for which there was room
-pub begin_grows : (t : Terms) (at : ℕ) (p q : Seen) (r : Record) → Called t p (λ h. why_begin t at h ≡ None) r q → Grows t p q
+pub begin_grows : (t : Terms) (at : ℕ) (p q : Seen) (r : Record) → Called t p (λ h. cause_of_begin t at h ≡ None) r q → Grows t p q
 begin_grows t at p q r c =
     let room = (room_of t.config (length c.found) (replay t.config c.found) 2 (Some fault.HistoryFull) _ c.allowed (λ h. absurd (cc))).0 in
     let longer : length q.log ≡ length c.found + 1 = ap (λ (s : Seen). length s.log) c.sees ∙ length_push c.found r in
@@ -89,20 +89,20 @@ begins_none t flush at p q ts us none same made =
       made = made;
       begun = All-nil (λ (r : Record). (flush ≡ true) × (r.call ≡ call.Begin at));
       found = λ more. absurd (true≢false (sym more));
-      ended = λ asked end. absurd (not_asked flush none asked);
+      ended = λ requested end. absurd (not_requested flush none requested);
       opened = ap (map opened_of) same ∙ sym (append-nil (map opened_of ts));
       unrecorded = subst (λ (xs : List TicketData). All IsUnrecorded ts → All IsUnrecorded xs) (sym same) (λ all. all);
     }
 
 -- as many flushes are open as may be
-pub begins_full : (t : Terms) (at : ℕ) (p q : Seen) (ts us : List TicketData) → us ≡ ts → Observes t p q → why_begin t at q.log ≡ Some fault.TooManyOpen → Begins t true false at p q ts us
+pub begins_full : (t : Terms) (at : ℕ) (p q : Seen) (ts us : List TicketData) → us ≡ ts → Observes t p q → cause_of_begin t at q.log ≡ Some fault.TooManyOpen → Begins t true false at p q ts us
 begins_full t at p q ts us same looks why =
     record {
       begins = [];
       made = looked_records t p q looks;
       begun = All-nil (λ (r : Record). (true ≡ true) × (r.call ≡ call.Begin at));
       found = λ more. absurd (true≢false (sym more));
-      ended = λ asked end. inr (All-nil FoundDue, why);
+      ended = λ requested end. inr (All-nil FoundDue, why);
       opened = ap (map opened_of) same ∙ sym (append-nil (map opened_of ts));
       unrecorded = subst (λ (xs : List TicketData). All IsUnrecorded ts → All IsUnrecorded xs) (sym same) (λ all. all);
     }
@@ -116,46 +116,46 @@ begins_nothing t at p q ts us same made =
       made = made;
       begun = all_one (λ (x : Record). (true ≡ true) × (x.call ≡ call.Begin at)) r (refl, refl);
       found = λ more. absurd (true≢false (sym more));
-      ended = λ asked end. inl ([], r, refl, All-nil FoundDue, refl);
+      ended = λ requested end. inl ([], r, refl, All-nil FoundDue, refl);
       opened = ap (map opened_of) same ∙ sym (append-nil (map opened_of ts));
       unrecorded = subst (λ (xs : List TicketData). All IsUnrecorded ts → All IsUnrecorded xs) (sym same) (λ all. all);
     }
 
 -- a begin that takes a group and opens no flush
-pub begins_quiet : (t : Terms) (at : ℕ) (p q : Seen) (ts us : List TicketData) (told : Reply) → told ≢ reply.NothingDue → opened_in told ≡ [] → us ≡ ts
-    → MadeRecords (entry p.number (call.Begin at) told ∷ []) p q → Begins t true true at p q ts us
-begins_quiet t at p q ts us told found none same made =
-    let r = entry p.number (call.Begin at) told in
+pub begins_quiet : (t : Terms) (at : ℕ) (p q : Seen) (ts us : List TicketData) (returned : Reply) → returned ≢ reply.NothingDue → opened_in returned ≡ [] → us ≡ ts
+    → MadeRecords (entry p.number (call.Begin at) returned ∷ []) p q → Begins t true true at p q ts us
+begins_quiet t at p q ts us returned found none same made =
+    let r = entry p.number (call.Begin at) returned in
     record {
       begins = r ∷ [];
       made = made;
       begun = all_one (λ (x : Record). (true ≡ true) × (x.call ≡ call.Begin at)) r (refl, refl);
       found = λ more. all_one FoundDue r found;
-      ended = λ asked end. absurd (true≢false end);
+      ended = λ requested end. absurd (true≢false end);
       opened = ap (map opened_of) same ∙ (sym (append-nil (map opened_of ts)) ∙ ap (λ (os : List Opened). map opened_of ts ++ (os ++ [])) (sym none));
       unrecorded = subst (λ (xs : List TicketData). All IsUnrecorded ts → All IsUnrecorded xs) (sym same) (λ all. all);
     }
 
 -- a begin that opens a flush, whose ticket comes last
-pub begins_flush : (t : Terms) (at : ℕ) (p q : Seen) (ts us : List TicketData) (u : TicketData) (told : Reply) → us ≡ ts ++ u ∷ [] → u.outcomes ≡ [] → told ≢ reply.NothingDue
-    → opened_in told ≡ opened_of u ∷ [] → MadeRecords (entry p.number (call.Begin at) told ∷ []) p q → Begins t true true at p q ts us
-begins_flush t at p q ts us u told more fresh found one made =
-    let r = entry p.number (call.Begin at) told in
+pub begins_flush : (t : Terms) (at : ℕ) (p q : Seen) (ts us : List TicketData) (u : TicketData) (returned : Reply) → us ≡ ts ++ u ∷ [] → u.outcomes ≡ [] → returned ≢ reply.NothingDue
+    → opened_in returned ≡ opened_of u ∷ [] → MadeRecords (entry p.number (call.Begin at) returned ∷ []) p q → Begins t true true at p q ts us
+begins_flush t at p q ts us u returned more fresh found one made =
+    let r = entry p.number (call.Begin at) returned in
     record {
       begins = r ∷ [];
       made = made;
       begun = all_one (λ (x : Record). (true ≡ true) × (x.call ≡ call.Begin at)) r (refl, refl);
       found = λ _. all_one FoundDue r found;
-      ended = λ asked end. absurd (true≢false end);
+      ended = λ requested end. absurd (true≢false end);
       opened = ap (map opened_of) more ∙ (map-append opened_of ts (u ∷ []) ∙ ap (λ (os : List Opened). map opened_of ts ++ (os ++ [])) (sym one));
       unrecorded = λ all. subst (λ (xs : List TicketData). All IsUnrecorded xs) (sym more) (All-append IsUnrecorded ts (u ∷ []) all (all_one IsUnrecorded u fresh));
     }
 
 -- begins that were asked for, where no ticket was there
-pub begins_asked : (t : Terms) (flush : Bool) (at : ℕ) (p q : Seen) (ts none us : List TicketData) → ts ≡ none → flush ≡ true → Begins t true false at p q ts us
+pub begins_requested : (t : Terms) (flush : Bool) (at : ℕ) (p q : Seen) (ts none us : List TicketData) → ts ≡ none → flush ≡ true → Begins t true false at p q ts us
     → Begins t flush false at p q none us
-begins_asked t flush at p q ts none us same asked begins =
-    subst (λ (b : Bool). Begins t b false at p q none us) (sym asked) (subst (λ (xs : List TicketData). Begins t true false at p q xs us) same begins)
+begins_requested t flush at p q ts none us same requested begins =
+    subst (λ (b : Bool). Begins t b false at p q none us) (sym requested) (subst (λ (xs : List TicketData). Begins t true false at p q xs us) same begins)
 
 -- no begin so far
 pub begins_start : (t : Terms) (at : ℕ) (p : Seen) (ts : List TicketData) → Begins t true true at p p ts ts
@@ -165,7 +165,7 @@ begins_start t at p ts =
       made = no_records p;
       begun = All-nil (λ (r : Record). (true ≡ true) × (r.call ≡ call.Begin at));
       found = λ more. All-nil FoundDue;
-      ended = λ asked end. absurd (true≢false end);
+      ended = λ requested end. absurd (true≢false end);
       opened = sym (append-nil (map opened_of ts));
       unrecorded = λ all. all;
     }
@@ -178,7 +178,7 @@ begins_more t more at p q r ts us vs first then =
       made = more_records first.begins then.begins p q r first.made then.made;
       begun = All-append (λ (x : Record). (true ≡ true) × (x.call ≡ call.Begin at)) first.begins then.begins first.begun then.begun;
       found = λ m. All-append FoundDue first.begins then.begins (first.found refl) (then.found m);
-      ended = λ asked end. rightly_more t at r.log first.begins then.begins (first.found refl) (then.ended asked end);
+      ended = λ requested end. rightly_more t at r.log first.begins then.begins (first.found refl) (then.ended requested end);
       opened =
           then.opened
           ∙ (ap (λ (os : List Opened). os ++ opened_by then.begins) first.opened

@@ -9,7 +9,7 @@ use Rattle.am_model.specs.declared.fault.Fault.TheVariants as fault
 use Rattle.am_model.specs.declared.notice.Report.{Report}
 use Rattle.am_model.specs.declared.record.Call.TheVariants as call
 use Rattle.am_model.specs.declared.record.Record.{Record}
-use Rattle.am_desk.specs.Calls.{IsNoteRefused, IsRefused, why_begin}
+use Rattle.am_desk.specs.Calls.{IsNoteRefused, IsRefused, cause_of_begin}
 use Rattle.am_desk.specs.Known.{Seen}
 use Rattle.am_desk.specs.declared.word.Terms.{Terms}
 use Rattle.am_desk.proofs.Prefixes.{prefix_self, prefix_trans}
@@ -34,9 +34,9 @@ begin_causes false true f is other = absurd (other (cc is))
 begin_causes false false f is other = absurd (cc is)
 
 -- a begin that was refused, not for memory or the open flushes, found the history full
-pub begin_full : (t : Terms) (at : ℕ) (p q : Seen) (f : Fault) → IsRefused t p (why_begin t at) f q → f ≢ fault.NoMemory → f ≢ fault.TooManyOpen → BeginsUntilFull t at p q
+pub begin_full : (t : Terms) (at : ℕ) (p q : Seen) (f : Fault) → IsRefused t p (cause_of_begin t at) f q → f ≢ fault.NoMemory → f ≢ fault.TooManyOpen → BeginsUntilFull t at p q
 begin_full t at p q fault.NoMemory r one other = absurd (one refl)
-begin_full t at p q fault.TooManyNames r one other = absurd (cc (begin_causes _ _ fault.TooManyNames r.1 other))
+begin_full t at p q fault.TooManyAlerts r one other = absurd (cc (begin_causes _ _ fault.TooManyAlerts r.1 other))
 begin_full t at p q fault.TooManyGroups r one other = absurd (cc (begin_causes _ _ fault.TooManyGroups r.1 other))
 begin_full t at p q fault.TooManySilences r one other = absurd (cc (begin_causes _ _ fault.TooManySilences r.1 other))
 begin_full t at p q fault.TooManyOpen r one other = absurd (other refl)
@@ -56,13 +56,13 @@ begins_until t at p q r ts us first then =
     }
 
 -- a pass whose note was refused goes on
-pub note_goes_on : (t : Terms) (p q : Seen) (why : List Record → Option NoteFault) (f : NoteFault) → IsNoteRefused t p why f q → IsPrefix p.log q.log
-note_goes_on t p q why note.NoMemory r = subst (λ (x : Seen). IsPrefix p.log x.log) (sym r) (prefix_self p.log)
-note_goes_on t p q why note.HistoryFull r = r.0.begins
-note_goes_on t p q why note.Foreign r = subst (λ (x : Seen). IsPrefix p.log x.log) (sym r) (prefix_self p.log)
-note_goes_on t p q why note.NotOpen r = r.0.begins
-note_goes_on t p q why note.NotReady r = r.0.begins
-note_goes_on t p q why note.Already r = r.0.begins
+pub note_continues : (t : Terms) (p q : Seen) (why : List Record → Option NoteFault) (f : NoteFault) → IsNoteRefused t p why f q → IsPrefix p.log q.log
+note_continues t p q why note.NoMemory r = subst (λ (x : Seen). IsPrefix p.log x.log) (sym r) (prefix_self p.log)
+note_continues t p q why note.HistoryFull r = r.0.begins
+note_continues t p q why note.Foreign r = subst (λ (x : Seen). IsPrefix p.log x.log) (sym r) (prefix_self p.log)
+note_continues t p q why note.NotOpen r = r.0.begins
+note_continues t p q why note.NotReady r = r.0.begins
+note_continues t p q why note.Already r = r.0.begins
 
 -- either nothing has gone wrong, or something has
 fault_cases : (memory : Bool) (first : Option Refused) → ((memory ≡ false) × (first ≡ None)) ⊎ ¬ ((memory ≡ false) × (first ≡ None))
@@ -75,7 +75,7 @@ fault_or_none faults = fault_cases faults.no_memory faults.first_refused
 
 -- a phase whose begins were stopped
 pub stops_at_begin : (t : Terms) (phase : Phase) (p q s : Seen) (ls ms : List Seen) → phase.flush ≡ true → BeginsUntilFull t phase.at p q → IsPrefix q.log s.log → ms ≡ ls → PhaseStops t phase p s ls ms
-stops_at_begin t phase p q s ls ms asked until since same = inl (record { asked = asked; begun = q; until = until; since = since; same = same })
+stops_at_begin t phase p q s ls ms requested until since same = inl (record { requested = requested; begun = q; until = until; since = since; same = same })
 
 -- a phase whose lanes were stopped
 pub stops_at_call : (t : Terms) (phase : Phase) (p q r s : Seen) (ls ms : List Seen) (ts us : List TicketData) → Begins t phase.flush false phase.at p q ts us
@@ -85,8 +85,8 @@ stops_at_call t phase p q r s ls ms ts us begins stop since =
       begun = q;
       begins = begins.begins;
       made = begins.made;
-      asked = begins.begun;
-      ended = λ asked. begins.ended asked refl;
+      requested = begins.begun;
+      ended = λ requested. begins.ended requested refl;
       stop = record { joined = stop.joined; stop = stop.stop; begins = prefix_trans stop.joined.log r.log s.log stop.begins since };
     })
 

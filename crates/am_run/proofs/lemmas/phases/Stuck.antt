@@ -13,7 +13,7 @@ use Rattle.am_model.specs.declared.notice.Report.{Report}
 use Rattle.am_model.specs.declared.record.Call.{Call}
 use Rattle.am_model.specs.declared.record.Call.TheVariants as call
 use Rattle.am_model.specs.declared.record.Record.{Record}
-use Rattle.am_desk.specs.Calls.{why_begin}
+use Rattle.am_desk.specs.Calls.{cause_of_begin}
 use Rattle.am_desk.specs.Desks.{IsPrefixViewOf}
 use Rattle.am_desk.specs.History.{own, made}
 use Rattle.am_desk.specs.Known.{Seen}
@@ -28,13 +28,13 @@ use Rattle.am_run.specs.LaneStates.{HaveMade, MadeCalls}
 use Rattle.am_run.specs.Steps.{MadeRecords}
 use Rattle.am_run.specs.Stops.{AnyStops, EndsWith, MadeFirst, PassesStop, StopsAtBegin, StopsAtCall, StopsOf}
 use Rattle.am_run.specs.Turns.{BeginsExhausted}
-use Rattle.am_run.specs.WhyFull.{AreBeginsOf, IsBeginRefused, IsCallRefused, IsHistoryOf, IsStuck, why_call}
+use Rattle.am_run.specs.IsCauseOfFull.{AreBeginsOf, IsBeginRefused, IsCallRefused, IsHistoryOf, IsStuck, cause_of_call}
 use Rattle.am_scenario.specs.Scripts.{IsAsPlanned}
 use Rattle.am_scenario.specs.declared.scenario.Lane.{Lane}
 use Rattle.am_scenario.specs.declared.scenario.Phase.{Phase}
 use Rattle.am_scenario.specs.declared.scenario.Scenario.{Scenario}
 use Rattle.am_run.proofs.lemmas.lanes.Calls.{lanes_in}
-use Rattle.am_run.proofs.lemmas.phases.Parts.{all_end, goes_on, none_before, of_each, own_passes, own_rest, round, zip_firsts, zip_length, zip_weaker}
+use Rattle.am_run.proofs.lemmas.phases.Parts.{all_end, continues, none_before, of_each, own_passes, own_rest, round, zip_firsts, zip_length, zip_weaker}
 
 -- what comes first of a legal history is legal
 legal_before : (t : Terms) (xs ys : List Record) → IsPrefix xs ys → IsLegal t.config t.id ys → IsLegal t.config t.id xs
@@ -72,7 +72,7 @@ past_rounds phases p ls begun begins o i d lt =
 -- after the begins of a phase the list is what came before and they
 begun_is : (phases : List Phase) (p : Seen) (ls : List Seen) (begun : Seen) (begins : List Record) → Past phases p ls begun begins → begun.log ≡ p.log ++ begins
 begun_is phases p ls begun begins o =
-    goes_on p.log begun.log begins o.made.2
+    continues p.log begun.log begins o.made.2
     (of_each (λ (k : ℕ). own k begun.log ≡ own k p.log) 0 phases ls o.have (λ i d lt. (past_rounds phases p ls begun begins o i d lt).0)
     (λ k more.
     let past : length ls < k = omega (arith, more) in
@@ -111,12 +111,12 @@ past_is Answers t phases p ls begun begins o after legal few =
       parts = had.parts no_more;
     }
 
--- a pass that stands in a history has no more there than it made
-stands_no_more : (q : List Record) (ms : List Seen) (history : List Record) → IsPrefix q history → All (λ (m : Seen). IsPrefixViewOf m history) ms
+-- a pass that is in a history has no more there than it made
+prefixed_no_more : (q : List Record) (ms : List Seen) (history : List Record) → IsPrefix q history → All (λ (m : Seen). IsPrefixViewOf m history) ms
     → All (λ (m : Seen). IsPrefix (own m.number q) (own m.number m.log)) ms
-stands_no_more q ms history begins stand i d lt =
+prefixed_no_more q ms history begins prefixed i d lt =
     let m = get_or ms i d in
-    subst (λ (rs : List Record). IsPrefix (own m.number q) rs) (stand i d lt).1 (own_prefix m.number q history begins)
+    subst (λ (rs : List Record). IsPrefix (own m.number q) rs) (prefixed i d lt).1 (own_prefix m.number q history begins)
 
 -- what is known of a run that has stopped when its desk is closed
 record Stopped (Answers : Tried → Type 0) (t : Terms) (phases : List Phase) (q : Seen) (ms : List Seen) (history : List Record) (passes : ℕ) : Type 0 where
@@ -134,17 +134,17 @@ few_before phases before phase after passes n is few seated =
 
 -- both the passes of begins and that they are asked for
 begins_of : (phase : Phase) (begins : List Record) → All (λ (r : Record). r.pass ≡ 0) begins → All (λ (r : Record). (phase.flush ≡ true) × (r.call ≡ call.Begin phase.at)) begins → AreBeginsOf phase begins
-begins_of phase begins main asked = λ i d lt. (main i d lt, asked i d lt)
+begins_of phase begins main requested = λ i d lt. (main i d lt, requested i d lt)
 
 -- the phases before a phase that was stopped, and why it was
-record WhyStuck (Answers : Tried → Type 0) (t : Terms) (before : List Phase) (phase : Phase) : Type 0 where
+record IsCauseOfStuck (Answers : Tried → Type 0) (t : Terms) (before : List Phase) (phase : Phase) : Type 0 where
   past : List Record
   played : IsHistoryOf Answers t before past
   stuck : IsBeginRefused t phase past ⊎ IsCallRefused t phase past
 
 -- stopped at a begin
 stuck_at_begin : (Answers : Tried → Type 0) (t : Terms) (phases : List Phase) (q : Seen) (ms : List Seen) (history : List Record) (passes : ℕ) → (o : Stopped Answers t phases q ms history passes)
-    → StopsAtBegin t o.stop.phase o.stop.p q o.stop.ls ms → WhyStuck Answers t o.stop.before o.stop.phase
+    → StopsAtBegin t o.stop.phase o.stop.p q o.stop.ls ms → IsCauseOfStuck Answers t o.stop.before o.stop.phase
 stuck_at_begin Answers t phases q ms history passes o b =
     let s = o.stop in
     let u = b.until in
@@ -156,7 +156,7 @@ stuck_at_begin Answers t phases q ms history passes o b =
       zero = s.had.main.0;
       sees = s.had.sees;
       made = u.made;
-      each = subst (λ (xs : List Seen). All (λ (m : Seen). IsPrefix (own m.number begun.log) (own m.number m.log)) xs) b.same (stands_no_more begun.log ms history in_history o.ends.lanes);
+      each = subst (λ (xs : List Seen). All (λ (m : Seen). IsPrefix (own m.number begun.log) (own m.number m.log)) xs) b.same (prefixed_no_more begun.log ms history in_history o.ends.lanes);
       others = λ k more. none_before k begun.log history in_history (nil_from_length (own k history) (o.ends.others k (omega (arith, more, ap length b.same))));
     }
     in
@@ -169,12 +169,12 @@ stuck_at_begin Answers t phases q ms history passes o b =
           (few_before phases s.before s.phase s.after passes (length s.ls) s.is o.few (omega (arith, o.seated, ap length b.same)));
       stuck =
           inl (record {
-            asked = b.asked;
+            requested = b.requested;
             begins = u.begins;
-            main = begins_of s.phase u.begins (begins_main s.before s.p s.ls begun u.begins past) (λ i d lt. (b.asked, u.begun i d lt));
+            main = begins_of s.phase u.begins (begins_main s.before s.p s.ls begun u.begins past) (λ i d lt. (b.requested, u.begun i d lt));
             found = u.found;
             legal = subst (λ (rs : List Record). IsLegal t.config t.id rs) is legal;
-            full = subst (λ (rs : List Record). why_begin t s.phase.at rs ≡ Some HistoryFull) is u.full;
+            full = subst (λ (rs : List Record). cause_of_begin t s.phase.at rs ≡ Some HistoryFull) is u.full;
           });
     }
 
@@ -240,7 +240,7 @@ within_each begun rest h joined ls ms is first had between no_more =
 
 -- stopped at a call of a lane
 stuck_at_call : (Answers : Tried → Type 0) (t : Terms) (phases : List Phase) (q : Seen) (ms : List Seen) (history : List Record) (passes : ℕ) → (o : Stopped Answers t phases q ms history passes)
-    → StopsAtCall t o.stop.phase o.stop.p q o.stop.ls ms → WhyStuck Answers t o.stop.before o.stop.phase
+    → StopsAtCall t o.stop.phase o.stop.p q o.stop.ls ms → IsCauseOfStuck Answers t o.stop.before o.stop.phase
 stuck_at_call Answers t phases q ms history passes o b =
     let s = o.stop in
     let phase = s.phase in
@@ -283,7 +283,7 @@ stuck_at_call Answers t phases q ms history passes o b =
     let h_none : own k h ≡ [] = none_before k h history (prefix_trans h joined history x.ends joined_in) (nobody k past_all) in
     own_rest k begun rest h whole (h_none ∙ sym (none_before k begun history begun_in (nobody k past_all)))
     in
-    let within = within_each begun rest h joined s.ls ms whole x.ends had between (stands_no_more joined ms history joined_in o.ends.lanes) in
+    let within = within_each begun rest h joined s.ls ms whole x.ends had between (prefixed_no_more joined ms history joined_in o.ends.lanes) in
     let k = one.l.number in
     let mine : calls_by k rest ≡ x.done =
     append_cancel_left (calls_by k one.l.log) (calls_by k rest) x.done
@@ -300,8 +300,8 @@ stuck_at_call Answers t phases q ms history passes o b =
       stuck =
           inr (record {
             begins = b.begins;
-            main = begins_of phase b.begins (begins_main s.before s.p s.ls b.begun b.begins past) b.asked;
-            ended = λ asked. subst (λ (rs : List Record). BeginsExhausted t at rs b.begins) is (b.ended asked);
+            main = begins_of phase b.begins (begins_main s.before s.p s.ls b.begun b.begins past) b.requested;
+            ended = λ requested. subst (λ (rs : List Record). BeginsExhausted t at rs b.begins) is (b.ended requested);
             beside = rest;
             others = own_rest 0 begun rest h whole main_h;
             lanes = λ i. firsts_beside 0 i at lanes s.before rest s.ls ms s.have stop.made within none (omega arith);
@@ -309,7 +309,7 @@ stuck_at_call Answers t phases q ms history passes o b =
             lane = one.lane;
             call = x.call;
             next = subst (λ (cs : List Call). IsPrefix (cs ++ call_at at x.call ∷ []) (calls_at at (slice_get lanes one.lane))) (sym mine_there) x.next;
-            refused = subst (λ (rs : List Record). why_call t x.call rs ≢ None) (sym all) x.refused;
+            refused = subst (λ (rs : List Record). cause_of_call t x.call rs ≢ None) (sym all) x.refused;
           });
     }
 
@@ -321,7 +321,7 @@ stuck scenario id passes q ms history stop ends few seated =
     let t = terms scenario.config id in
     let phases = scenario.phases.items in
     let o : Stopped Answers t phases q ms history passes = record { stop = stop; ends = ends; few = few; seated = seated } in
-    let why : WhyStuck Answers t stop.before stop.phase =
+    let why : IsCauseOfStuck Answers t stop.before stop.phase =
     ⊎_elim (λ (b : StopsAtBegin t stop.phase stop.p q stop.ls ms). stuck_at_begin Answers t phases q ms history passes o b)
     (λ (b : StopsAtCall t stop.phase stop.p q stop.ls ms). stuck_at_call Answers t phases q ms history passes o b) stop.stops
     in

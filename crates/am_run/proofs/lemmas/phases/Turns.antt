@@ -21,7 +21,7 @@ use Rattle.am_pool.specs.declared.courier.Tried.{Tried}
 use Rattle.am_run.specs.Interleaving.{RanBefore, RunsPhase}
 use Rattle.am_pool.specs.Sendings.{IsSentFrom, end_on}
 use Rattle.am_run.specs.Steps.{Begins, Finishes, AfterMainSteps, IsUnrecorded, MadeRecords, Sends, RunsMainSteps, finish_with, is_recorded_success, note_of, notes_of, notes_of_all, opened_of, recorded_all}
-use Rattle.am_run.specs.Turns.{AreNotesWithRoom, AreTurnsFrom, AreAllMainStepsOf, AreMainStepsOf, Opened, MainSteps, all_notes_due, finish_of, is_success, last_end, note_on, notes_due, opened_by, outcome_in, outcomes_told, records_in, report_on, reports_on, to_send}
+use Rattle.am_run.specs.Turns.{AreNotesWithRoom, AreTurnsFrom, AreAllMainStepsOf, AreMainStepsOf, Opened, MainSteps, all_notes_due, finish_of, is_success, last_end, note_on, notes_due, opened_by, outcome_in, outcomes_reported, records_in, report_on, reports_on, to_send}
 use Rattle.am_scenario.specs.declared.scenario.Phase.{Phase}
 use Rattle.am_run.proofs.lemmas.phases.Noting.{noted_longer}
 use Rattle.am_run.proofs.lemmas.phases.Steps.{more_records}
@@ -31,40 +31,40 @@ same_flushes : (reports : List Report) (ts : List TicketData) → map opened_of 
 same_flushes reports [] = refl
 same_flushes reports (t ∷ ts) = ap (λ (os : List Opened). opened_of t ∷ os) (same_flushes reports ts)
 
-by_integration : (b : Bool) (r : Report) (told : Option Outcome) (later : Option Report) → told ≡ outcome_in later
-    → cond b (Some r.outcome) told ≡ outcome_in (cond b (Some r) later)
-by_integration true r told later same = refl
-by_integration false r told later same = same
+by_integration : (b : Bool) (r : Report) (reported : Option Outcome) (later : Option Report) → reported ≡ outcome_in later
+    → cond b (Some r.outcome) reported ≡ outcome_in (cond b (Some r) later)
+by_integration true r reported later same = refl
+by_integration false r reported later same = same
 
 by_flush : (a : Bool) (number integration : ℕ) (r : Report) (rs : List Report)
-    → outcome_of (outcomes_told (reports_on number rs)) integration ≡ outcome_in (report_on number integration rs)
-    → outcome_of (outcomes_told (cond a (r ∷ reports_on number rs) (reports_on number rs))) integration
+    → outcome_of (outcomes_reported (reports_on number rs)) integration ≡ outcome_in (report_on number integration rs)
+    → outcome_of (outcomes_reported (cond a (r ∷ reports_on number rs) (reports_on number rs))) integration
     ≡ outcome_in (cond (a && (r.integration == integration)) (Some r) (report_on number integration rs))
 by_flush true number integration r rs later =
-    by_integration (r.integration == integration) r (outcome_of (outcomes_told (reports_on number rs)) integration) (report_on number integration rs) later
+    by_integration (r.integration == integration) r (outcome_of (outcomes_reported (reports_on number rs)) integration) (report_on number integration rs) later
 by_flush false number integration r rs later = later
 
-outcome_told : (number integration : ℕ) (rs : List Report) → outcome_of (outcomes_told (reports_on number rs)) integration ≡ outcome_in (report_on number integration rs)
-outcome_told number integration [] = refl
-outcome_told number integration (r ∷ rs) = by_flush (r.ticket == number) number integration r rs (outcome_told number integration rs)
+outcome_reported : (number integration : ℕ) (rs : List Report) → outcome_of (outcomes_reported (reports_on number rs)) integration ≡ outcome_in (report_on number integration rs)
+outcome_reported number integration [] = refl
+outcome_reported number integration (r ∷ rs) = by_flush (r.ticket == number) number integration r rs (outcome_reported number integration rs)
 
--- the note with what was recorded is the note of what the report tells
-note_told : (at number integration : ℕ) (told : Option Report) → call.Note (end_on at told) number integration (outcome_in told) ≡ note_on at number integration told
-note_told at number integration None = refl
-note_told at number integration (Some r) = refl
+-- the note with what was recorded is the note of what the report says
+note_reported : (at number integration : ℕ) (reported : Option Report) → call.Note (end_on at reported) number integration (outcome_in reported) ≡ note_on at number integration reported
+note_reported at number integration None = refl
+note_reported at number integration (Some r) = refl
 
 -- a ticket in which just the reports on it are recorded
-abbrev IsTold : List Report → TicketData → Type 0
-IsTold reports u = u.outcomes ≡ outcomes_told (reports_on u.number reports)
+abbrev IsReported : List Report → TicketData → Type 0
+IsReported reports u = u.outcomes ≡ outcomes_reported (reports_on u.number reports)
 
-all_told : (reports : List Report) (ts : List TicketData) → All IsUnrecorded ts → All (IsTold reports) (map (recorded_all reports) ts)
-all_told reports [] fresh = All-nil (IsTold reports)
-all_told reports (t ∷ ts) fresh =
-    All-cons (IsTold reports) (recorded_all reports t) (map (recorded_all reports) ts)
-    (ap (λ (os : List (ℕ × Outcome)). os ++ outcomes_told (reports_on t.number reports)) (All-head IsUnrecorded t ts fresh))
-    (all_told reports ts (All-rest IsUnrecorded t ts (t ∷ ts) refl fresh))
+all_reported : (reports : List Report) (ts : List TicketData) → All IsUnrecorded ts → All (IsReported reports) (map (recorded_all reports) ts)
+all_reported reports [] fresh = All-nil (IsReported reports)
+all_reported reports (t ∷ ts) fresh =
+    All-cons (IsReported reports) (recorded_all reports t) (map (recorded_all reports) ts)
+    (ap (λ (os : List (ℕ × Outcome)). os ++ outcomes_reported (reports_on t.number reports)) (All-head IsUnrecorded t ts fresh))
+    (all_reported reports ts (All-rest IsUnrecorded t ts (t ∷ ts) refl fresh))
 
--- filtered by one test and by another that tells the same, and mapped to the same
+-- filtered by one test and by another that says the same, and mapped to the same
 by_one_test : {X Y : Type 0} (f g : X → Y) (x : X) (xs ys : List X) → f x ≡ g x → map f xs ≡ map g ys → (b : Bool)
     → map f (cond b (x ∷ xs) xs) ≡ map g (cond b (x ∷ ys) ys)
 by_one_test f g x xs ys one rest true = ap (λ y. y ∷ map f xs) one ∙ ap (λ zs. g x ∷ zs) rest
@@ -78,28 +78,28 @@ by_same_test p q f g tests maps (x ∷ xs) =
     ∙ by_one_test f g x (filter p xs) (filter q xs) (maps x) (by_same_test p q f g tests maps xs) (q x)
 
 -- the notes by what is recorded in a ticket are those by its reports
-notes_told : (at : ℕ) (reports : List Report) (u : TicketData) → IsTold reports u → notes_of at reports u u.notices ≡ notes_due at reports (opened_of u)
-notes_told at reports u told =
-    let outcome = λ (n : NoticeData). ap (λ (os : List (ℕ × Outcome)). outcome_of os n.integration) told ∙ outcome_told u.number n.integration reports in
+notes_reported : (at : ℕ) (reports : List Report) (u : TicketData) → IsReported reports u → notes_of at reports u u.notices ≡ notes_due at reports (opened_of u)
+notes_reported at reports u reported =
+    let outcome = λ (n : NoticeData). ap (λ (os : List (ℕ × Outcome)). outcome_of os n.integration) reported ∙ outcome_reported u.number n.integration reports in
     by_same_test (is_recorded_success u) (is_success reports u.number) (note_of at reports u) (λ (n : NoticeData). note_on at u.number n.integration (report_on u.number n.integration reports))
     (λ n. ap (λ (o : Option Outcome). is_nothing n || is_delivered o) (outcome n))
     (λ n.
     let report = report_on u.number n.integration reports in
-    ap (λ (o : Option Outcome). call.Note (end_on at report) u.number n.integration o) (outcome n) ∙ note_told at u.number n.integration report)
+    ap (λ (o : Option Outcome). call.Note (end_on at report) u.number n.integration o) (outcome n) ∙ note_reported at u.number n.integration report)
     u.notices
 
-notes_told_all : (at : ℕ) (reports : List Report) (us : List TicketData) → All (IsTold reports) us → notes_of_all at reports us ≡ all_notes_due at reports (map opened_of us)
-notes_told_all at reports [] told = refl
-notes_told_all at reports (u ∷ us) told =
-    ap (λ (cs : List Call). cs ++ notes_of_all at reports us) (notes_told at reports u (All-head (IsTold reports) u us told))
-    ∙ ap (λ (cs : List Call). notes_due at reports (opened_of u) ++ cs) (notes_told_all at reports us (All-rest (IsTold reports) u us (u ∷ us) refl told))
+notes_reported_all : (at : ℕ) (reports : List Report) (us : List TicketData) → All (IsReported reports) us → notes_of_all at reports us ≡ all_notes_due at reports (map opened_of us)
+notes_reported_all at reports [] reported = refl
+notes_reported_all at reports (u ∷ us) reported =
+    ap (λ (cs : List Call). cs ++ notes_of_all at reports us) (notes_reported at reports u (All-head (IsReported reports) u us reported))
+    ∙ ap (λ (cs : List Call). notes_due at reports (opened_of u) ++ cs) (notes_reported_all at reports us (All-rest (IsReported reports) u us (u ∷ us) refl reported))
 
 -- the notes of tickets in which the reports are recorded are those of their flushes
 notes_each : (at : ℕ) (reports : List Report) (ts us : List TicketData) → us ≡ map (recorded_all reports) ts → All IsUnrecorded ts
     → notes_of_all at reports us ≡ all_notes_due at reports (map opened_of ts)
 notes_each at reports ts us same fresh =
     ap (notes_of_all at reports) same
-    ∙ (notes_told_all at reports (map (recorded_all reports) ts) (all_told reports ts fresh)
+    ∙ (notes_reported_all at reports (map (recorded_all reports) ts) (all_reported reports ts fresh)
     ∙ ap (all_notes_due at reports) (same_flushes reports ts))
 
 -- the finishes of these tickets are those of their flushes
@@ -107,10 +107,10 @@ finish_each : (at : ℕ) (reports : List Report) (ts : List TicketData) → All 
     → map (finish_with at reports) (map (recorded_all reports) ts) ≡ map (finish_of at reports) (map opened_of ts)
 finish_each at reports [] fresh = refl
 finish_each at reports (t ∷ ts) fresh =
-    let told = reports_on t.number reports in
-    ap (λ (os : List (ℕ × Outcome)). call.Finish (last_end at told) t.number (os ++ outcomes_told told) ∷ map (finish_with at reports) (map (recorded_all reports) ts))
+    let reported = reports_on t.number reports in
+    ap (λ (os : List (ℕ × Outcome)). call.Finish (last_end at reported) t.number (os ++ outcomes_reported reported) ∷ map (finish_with at reports) (map (recorded_all reports) ts))
     (All-head IsUnrecorded t ts fresh)
-    ∙ ap (λ (cs : List Call). call.Finish (last_end at told) t.number (outcomes_told told) ∷ cs)
+    ∙ ap (λ (cs : List Call). call.Finish (last_end at reported) t.number (outcomes_reported reported) ∷ cs)
     (finish_each at reports ts (All-rest IsUnrecorded t ts (t ∷ ts) refl fresh))
 
 -- the pass finished these tickets but for those that are left
@@ -208,7 +208,7 @@ part_taken Answers t phase p q r s ls ms ts us had reports since begins sends fi
       begun = q;
       joined = first.joined;
       begins = begins.made;
-      ended = λ asked. begins.ended asked refl;
+      ended = λ requested. begins.ended requested refl;
       beside = first.ran;
       ends =
           more_records notes.records finishes.finishes first.joined r s (notes_after q first.joined r notes.records first.ran.quiet first.begins notes.made)
@@ -233,9 +233,9 @@ turn_more Answers t phases phase p q reports since had took =
             more
             ∙ (ap (λ (rs : List Record). rs ++ records_in took.turn) had.1.made
             ∙ sym (flat_map-append records_in turns (took.turn ∷ []) ∙ ap (λ (rs : List Record). flat_map records_in turns ++ rs) (append-nil (records_in took.turn))));
-        told =
+        reported =
             took.more
-            ∙ (ap (λ (rs : List Report). rs ++ took.turn.reports) had.1.told
+            ∙ (ap (λ (rs : List Report). rs ++ took.turn.reports) had.1.reported
             ∙ sym (flat_map-append (λ (u : MainSteps). u.reports) turns (took.turn ∷ [])
             ∙ ap (λ (rs : List Report). flat_map (λ (u : MainSteps). u.reports) turns ++ rs) (append-nil took.turn.reports)));
       },
@@ -247,27 +247,27 @@ pub turns_more : (Answers : Tried → Type 0) (t : Terms) (phases : List Phase) 
 unfolding turn_more
 turns_more Answers t phases phase p q reports since had took = refl
 
--- the turns stand in a history in which the pass stands
-pub turns_stand : (Answers : Tried → Type 0) (t : Terms) (phases : List Phase) (p : Seen) (reports : List Report) (history : List Record) → AfterMainSteps Answers t phases p reports → IsPrefixViewOf p history
+-- the turns are in a history in which the pass is
+pub turns_prefixed : (Answers : Tried → Type 0) (t : Terms) (phases : List Phase) (p : Seen) (reports : List Report) (history : List Record) → AfterMainSteps Answers t phases p reports → IsPrefixViewOf p history
     → AreAllMainStepsOf Answers t 0 history phases reports
-turns_stand Answers t phases p reports history had stands =
+turns_prefixed Answers t phases p reports history had prefixed =
     let so_far = had.1 in
     record {
       turns = so_far.turns;
-      each = turns_longer Answers t 0 p.log history [] phases so_far.turns stands.0 so_far.each;
-      made = subst (λ (n : ℕ). own n history ≡ own n p.log) had.0 stands.1 ∙ so_far.made;
-      told = so_far.told;
+      each = turns_longer Answers t 0 p.log history [] phases so_far.turns prefixed.0 so_far.each;
+      made = subst (λ (n : ℕ). own n history ≡ own n p.log) had.0 prefixed.1 ∙ so_far.made;
+      reported = so_far.reported;
     }
 
 pub turns_stay : (Answers : Tried → Type 0) (t : Terms) (phases : List Phase) (p : Seen) (reports : List Report) (history : List Record) → (had : AfterMainSteps Answers t phases p reports)
-    → (stands : IsPrefixViewOf p history) → (turns_stand Answers t phases p reports history had stands).turns ≡ had.1.turns
-unfolding turns_stand
-turns_stay Answers t phases p reports history had stands = refl
+    → (prefixed : IsPrefixViewOf p history) → (turns_prefixed Answers t phases p reports history had prefixed).turns ≡ had.1.turns
+unfolding turns_prefixed
+turns_stay Answers t phases p reports history had prefixed = refl
 
 -- a pass that has seen nothing had no turn
 pub no_turns : (Answers : Tried → Type 0) (t : Terms) (p : Seen) (reports : List Report) → p ≡ seen 0 0 [] → reports ≡ [] → AfterMainSteps Answers t [] p reports
 no_turns Answers t p reports fresh none =
-    (ap (λ (s : Seen). s.number) fresh, record { turns = []; each = tt; made = ap (λ (s : Seen). own 0 s.log) fresh; told = none })
+    (ap (λ (s : Seen). s.number) fresh, record { turns = []; each = tt; made = ap (λ (s : Seen). own 0 s.log) fresh; reported = none })
 
 pub turns_none : (Answers : Tried → Type 0) (t : Terms) (p : Seen) (reports : List Report) → (fresh : p ≡ seen 0 0 []) → (none : reports ≡ [])
     → (no_turns Answers t p reports fresh none).1.turns ≡ []

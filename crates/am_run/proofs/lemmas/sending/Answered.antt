@@ -20,17 +20,17 @@ pub both_ok : {X Y : Type 0} (r : Result X Y) (P Q R : X → Type 0) → ((x : X
 both_ok (Ok x) P Q R both p q = both x p q
 both_ok (Err y) P Q R both p q = tt
 
--- two lists of a length, and what holds of the items at each place
-pub place_by_place : {A B : Type 0} (R : A → B → Type 0) (xs : List A) (ys : List B) → length ys ≡ length xs
+-- two lists of a length, and what holds of the items at each index
+pub index_by_index : {A B : Type 0} (R : A → B → Type 0) (xs : List A) (ys : List B) → length ys ≡ length xs
     → ((k : ℕ) (x : A) (y : B) → slice_get xs k ≡ Some x → slice_get ys k ≡ Some y → R x y) → AllZip R xs ys
-place_by_place R [] [] count each = tt
-place_by_place R [] (y ∷ ys) count each = absurd (omega (arith, count))
-place_by_place R (x ∷ xs) [] count each = absurd (omega (arith, count))
-place_by_place R (x ∷ xs) (y ∷ ys) count each =
-    (each 0 x y refl refl, place_by_place R xs ys (omega (arith, count)) (λ k a b is told. each (suc k) a b is told))
+index_by_index R [] [] count each = tt
+index_by_index R [] (y ∷ ys) count each = absurd (omega (arith, count))
+index_by_index R (x ∷ xs) [] count each = absurd (omega (arith, count))
+index_by_index R (x ∷ xs) (y ∷ ys) count each =
+    (each 0 x y refl refl, index_by_index R xs ys (omega (arith, count)) (λ k a b is reported. each (suc k) a b is reported))
 
 module _ (Answers : Tried → Type 0) (jobs : List Job) (reports : List Report) (are : AreReportsOf jobs reports) where
-  -- job k was sent in tries that are answered so, as report k tells
+  -- job k was sent in tries that are answered so, as report k says
   abbrev Went : ℕ → Type 0
   Went k = (job : Job) × (slice_get jobs k ≡ Some job) × (report : Report) × (slice_get reports k ≡ Some report) × IsSendingOf Answers job report
 
@@ -91,15 +91,15 @@ module _ (Answers : Tried → Type 0) (jobs : List Job) (reports : List Report) 
 
     of_job : (old new : List E) → AreSent jobs reports tries refusals old new → All (λ c. All Answers (tries c)) new → (k : ℕ) (job : Job) (report : Report)
         → slice_get jobs k ≡ Some job → slice_get reports k ≡ Some report → IsSendingOf Answers job report
-    of_job old new sent all k job report is told =
+    of_job old new sent all k job report is reported =
         let below = slice_get_within jobs k job is in
         let once : times_in k sent.took ≡ once_below (length jobs) k = sent.once k in
         let went = of_each k sent.took old new sent.ran all (grind (arith, once, below)) in
         let same_job : went.0 ≡ job = cc (went.1, is) in
-        let same_report : went.2 ≡ report = cc (went.3, told) in
+        let same_report : went.2 ≡ report = cc (went.3, reported) in
         subst (λ (j : Job). IsSendingOf Answers j report) same_job (subst (λ (x : Report). IsSendingOf Answers went.0 x) same_report went.4)
 
     -- where the tries of all couriers are answered so, those of all jobs are
     pub all_answered : (old new : List E) → AreSent jobs reports tries refusals old new → All (λ c. All Answers (tries c)) new
         → AllZip (IsSendingOf Answers) jobs reports
-    all_answered old new sent all = place_by_place (IsSendingOf Answers) jobs reports are.count (of_job old new sent all)
+    all_answered old new sent all = index_by_index (IsSendingOf Answers) jobs reports are.count (of_job old new sent all)

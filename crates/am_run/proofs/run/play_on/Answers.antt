@@ -6,7 +6,7 @@ use Rattle.std.specs.Prelude.{IsTrue}
 use Rattle.am_cli.specs.Read.{IsRefusedBy, is_refusal}
 use Rattle.am_cli.specs.declared.fault.InputFault.{InputFault}
 use Rattle.am_model.specs.Config.{config_fault}
-use Rattle.am_run.specs.WhyFull.{IsStuck}
+use Rattle.am_run.specs.IsCauseOfFull.{IsStuck}
 use Rattle.am_cli.specs.declared.fault.FaultKind.TheVariants.{Full}
 use Rattle.am_desk.proofs.Crossing.{every}
 use Rattle.am_desk.specs.Plans.{Plan}
@@ -52,8 +52,8 @@ returns-in-Ok-clause-report g c =
     (subst (λ (scripts : List Script). AfterPhases (IsAsPlanned scripts) g.N.Name.terms phases run.main ls reports) (sym c.requires.scripts) ran.1)
     in
     IfOk-weaker c.report_on_run.result _ _
-    (λ text told.
-    played scenario BOARD_ID c.args.blank.passes run.main ls reports (string_bytes text) ran.0 had (subst (λ (x : Terms). IsReportOnPasses x run.main ls reports (string_bytes text)) t told) c.requires.lanes
+    (λ text reported.
+    played scenario BOARD_ID c.args.blank.passes run.main ls reports (string_bytes text) ran.0 had (subst (λ (x : Terms). IsReportOnPasses x run.main ls reports (string_bytes text)) t reported) c.requires.lanes
     (omega (arith, passes, run.seated, run.lane_states.ok.0, length-map run.lane_states.items (λ (s : LaneState g.row.N.Denot). s.pass))))
     c.report_on_run.ensures.report
 

@@ -37,5 +37,5 @@ returns-in-Some-clause-table g c =
     ((c.get_mut.follows.holds new).3 there).0 name
     ∙ ap (λ (n : GroupName). if same_name n name then Some new else get same_name table name) c.group.ensures
     ∙ ap (λ (l : ℕ × (List ℕ × ℕ)). if same_name group name then Some l else get same_name table name) is
-    ∙ ap (λ (o : Option (ℕ × (List ℕ × ℕ))). if same_name group name then Some (kept_of c.args.place lines size (kept_run o)) else get same_name table name) (sym found))
+    ∙ ap (λ (o : Option (ℕ × (List ℕ × ℕ))). if same_name group name then Some (kept_of c.args.index lines size (kept_run o)) else get same_name table name) (sym found))
     c.add_after.ensures.last

@@ -11,19 +11,19 @@ use Rattle.am_timeline.proofs.runs.folded.Given as goal
 
 -- the table has the last flush of each group so far, and the number of its run; the runs, with the later flushes that are of them too, are
 -- followed by those that the later flushes begin
-abbrev pub invariant-loop-place : goal.invariant-loop-place
-invariant-loop-place g l = (groups : List GroupName)
+abbrev pub invariant-loop-index : goal.invariant-loop-index
+invariant-loop-index g l = (groups : List GroupName)
     × record {
       sized : length groups ≡ length l.found.runs.items;
       known : (name : GroupName) → IfSome (kept_run (get same_name l.table name)) (λ n. slice_get groups n.1 ≡ Some name);
       held : (name : GroupName) → option_map (λ n. n.0) (kept_run (get same_name l.table name))
-          ≡ last_lines name (reverse (take l.place (flushes_by l.all l.playback (g.C.TimeFormat.times l.clock))));
+          ≡ last_lines name (reverse (take l.index (flushes_by l.all l.playback (g.C.TimeFormat.times l.clock))));
       lines : (name : GroupName) → IfSome (get same_name l.table name) (HasLines l.all l.playback (g.C.TimeFormat.times l.clock));
-      few : All (λ r. r.count ≤ l.place) l.found.runs.items;
-      runs : complete (λ name. kept_run (get same_name l.table name)) (drop l.place (flushes_by l.all l.playback (g.C.TimeFormat.times l.clock))) 0 groups l.found.runs.items
-          ++ runs_begun (folds_of (reverse (take l.place (flushes_by l.all l.playback (g.C.TimeFormat.times l.clock)))) (drop l.place (flushes_by l.all l.playback (g.C.TimeFormat.times l.clock))))
+      few : All (λ r. r.count ≤ l.index) l.found.runs.items;
+      runs : complete (λ name. kept_run (get same_name l.table name)) (drop l.index (flushes_by l.all l.playback (g.C.TimeFormat.times l.clock))) 0 groups l.found.runs.items
+          ++ runs_begun (folds_of (reverse (take l.index (flushes_by l.all l.playback (g.C.TimeFormat.times l.clock)))) (drop l.index (flushes_by l.all l.playback (g.C.TimeFormat.times l.clock))))
           ≡ runs_begun (folds_of [] (flushes_by l.all l.playback (g.C.TimeFormat.times l.clock)));
       starts : l.found.starts.items
-          ++ starts_from l.place (folds_of (reverse (take l.place (flushes_by l.all l.playback (g.C.TimeFormat.times l.clock)))) (drop l.place (flushes_by l.all l.playback (g.C.TimeFormat.times l.clock))))
+          ++ starts_from l.index (folds_of (reverse (take l.index (flushes_by l.all l.playback (g.C.TimeFormat.times l.clock)))) (drop l.index (flushes_by l.all l.playback (g.C.TimeFormat.times l.clock))))
           ≡ starts_from 0 (folds_of [] (flushes_by l.all l.playback (g.C.TimeFormat.times l.clock)));
     }

@@ -10,9 +10,9 @@ returns-then-is_compared_as-clause-like g c =
     let playback = c.args.playback.now in
     let begin = c.args.begin.now in
     let last = c.args.last.now in
-    let place : c.last.inside.place ≡ last.0 = ap (λ l. l.0) c.last.view_is in
+    let index : c.last.inside.index ≡ last.0 = ap (λ l. l.0) c.last.view_is in
     let compared : IsComparedAs c.args.all playback begin last.0 =
-    subst (λ (p : ℕ). IsComparedAs c.args.all playback begin p) place (c.is_compared_as.ensures c.if-is_compared_as.true) in
+    subst (λ (p : ℕ). IsComparedAs c.args.all playback begin p) index (c.is_compared_as.ensures c.if-is_compared_as.true) in
     let lines : last.1.0 ≡ lines_by c.args.all playback times begin =
     lines-kept (lines_by c.args.all playback times) (slice_get playback.begins last.0) last.1.0 _ c.requires (compared times) in
     c.follow_alike.ensures.like ∙ ap (λ (l : List ℕ). are_same_lines last.1.0 l) lines
@@ -23,9 +23,9 @@ returns-then-is_compared_as-clause-last g c =
     let playback = c.args.playback.now in
     let begin = c.args.begin.now in
     let last = c.args.last.now in
-    let place : c.last.inside.place ≡ last.0 = ap (λ l. l.0) c.last.view_is in
+    let index : c.last.inside.index ≡ last.0 = ap (λ l. l.0) c.last.view_is in
     let compared : IsComparedAs c.args.all playback begin last.0 =
-    subst (λ (p : ℕ). IsComparedAs c.args.all playback begin p) place (c.is_compared_as.ensures c.if-is_compared_as.true) in
+    subst (λ (p : ℕ). IsComparedAs c.args.all playback begin p) index (c.is_compared_as.ensures c.if-is_compared_as.true) in
     let lines : last.1.0 ≡ lines_by c.args.all playback times begin =
     lines-kept (lines_by c.args.all playback times) (slice_get playback.begins last.0) last.1.0 _ c.requires (compared times) in
-    c.follow_alike.ensures.last ∙ ap (λ (l : List ℕ). (c.args.place, (l, last.1.1))) lines
+    c.follow_alike.ensures.last ∙ ap (λ (l : List ℕ). (c.args.index, (l, last.1.1))) lines

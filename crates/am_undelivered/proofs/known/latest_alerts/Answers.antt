@@ -8,8 +8,8 @@ use Rattle.am_undelivered.specs.Undelivered.{with_first}
 use Rattle.am_undelivered.proofs.KnownAlerts.{found_with, found_with-first, found_with-nothing, reverse_taken}
 use Rattle.am_undelivered.proofs.known.latest_alerts.Goals as goal
 
-pub loop-place-init : goal.loop-place-init
-loop-place-init c =
+pub loop-index-init : goal.loop-index-init
+loop-index-init c =
     let history = c.args.history.now in
     record {
       same = c.new-seen.ensures ∙ sym (ap (λ (l : List AlertData). map labels_of l) c.new-alerts.ensures.items);
@@ -18,20 +18,20 @@ loop-place-init c =
           ∙ ap (λ (l : List Record). known_in (reverse l)) (take_all (length history) history (omega arith));
     }
 
-pub loop-place-preserved : goal.loop-place-preserved
-loop-place-preserved c =
+pub loop-index-preserved : goal.loop-index-preserved
+loop-index-preserved c =
     let history = c.args.history.now in
-    let place = c.loop-place.place in
-    let here = get_or history (place - 1) c.index-history-place.result in
-    let before = c.loop-place.alerts.items in
-    let known = known_in (reverse (take (place - 1) history)) in
+    let index = c.loop-index.index in
+    let here = get_or history (index - 1) c.index-history-index.result in
+    let before = c.loop-index.alerts.items in
+    let known = known_in (reverse (take (index - 1) history)) in
     let first : c.add_first.new.alerts.items ≡ with_first before (alert_in here.call) = c.in_ok-add_first.ensures.first in
     record {
       same = c.in_ok-add_first.ensures.same;
       known = ap (λ (l : List AlertData). found_with l known) first
           ∙ found_with-first before (alert_in here.call) known
           ∙ ap (λ (l : List Record). found_with before (known_in l))
-          (sym (reverse_taken history place c.index-history-place.result (omega (arith, c.loop-place-test.true))
-          (omega (arith, c.loop-place.auto.place))))
-          ∙ c.loop-place.invariant.known;
+          (sym (reverse_taken history index c.index-history-index.result (omega (arith, c.loop-index-test.true))
+          (omega (arith, c.loop-index.auto.index))))
+          ∙ c.loop-index.invariant.known;
     }

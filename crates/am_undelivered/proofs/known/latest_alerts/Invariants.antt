@@ -5,8 +5,8 @@ use Rattle.am_undelivered.proofs.KnownAlerts.{found_with}
 use Rattle.am_undelivered.proofs.known.latest_alerts.Given as goal
 
 -- the alerts that were found, and the known ones of the records before that weren't found yet, are all
-abbrev pub invariant-loop-place : goal.invariant-loop-place
-invariant-loop-place l = record {
+abbrev pub invariant-loop-index : goal.invariant-loop-index
+invariant-loop-index l = record {
   same : l.seen ≡ map labels_of l.alerts.items;
-  known : found_with l.alerts.items (known_in (reverse (take l.place l.history))) ≡ known_in (reverse l.history);
+  known : found_with l.alerts.items (known_in (reverse (take l.index l.history))) ≡ known_in (reverse l.history);
 }

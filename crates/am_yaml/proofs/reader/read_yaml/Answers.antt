@@ -1,4 +1,4 @@
-use Rattle.am_yaml.proofs.Places.{placed_behind}
+use Rattle.am_yaml.proofs.Locations.{placed_behind}
 use Rattle.am_yaml.proofs.reader.read_yaml.Goals as goal
 
 pub returns-in-Err-clause-placed : goal.returns-in-Err-clause-placed

@@ -8,13 +8,13 @@ use Rattle.am_alerts.proofs.routes.Routes.route.Goals as goal
 
 pub bounds-as_slice-position : goal.bounds-as_slice-position
 bounds-as_slice-position c =
-    let last = kept_last c.self.inside.root c.self.inside.children c.self.inside.places c.args.self.now c.self.view_is c.self.invariant in
+    let last = kept_last c.self.inside.root c.self.inside.children c.self.inside.layouts c.args.self.now c.self.view_is c.self.invariant in
     rw c.as_slice.ensures (omega (arith, last, c.requires))
 
 pub returns-else-position-eq0-clause-route : goal.returns-else-position-eq0-clause-route
 returns-else-position-eq0-clause-route c =
-    let last = kept_last c.self.inside.root c.self.inside.children c.self.inside.places c.args.self.now c.self.view_is c.self.invariant in
-    let children = kept_children c.self.inside.root c.self.inside.children c.self.inside.places c.args.self.now c.self.view_is
+    let last = kept_last c.self.inside.root c.self.inside.children c.self.inside.layouts c.args.self.now c.self.view_is c.self.invariant in
+    let children = kept_children c.self.inside.root c.self.inside.children c.self.inside.layouts c.args.self.now c.self.view_is
     c.self.invariant in
     ap (λ cs. (get_or cs (c.args.position - 1) c.index-as_slice-position.result).route) c.as_slice.ensures
     ∙ child_at c.args.self.now c.self.inside.children c.args.position c.index-as_slice-position.result (sym children) (omega arith)
@@ -22,10 +22,10 @@ returns-else-position-eq0-clause-route c =
 
 pub returns-else-position-eq0-clause-intervals : goal.returns-else-position-eq0-clause-intervals
 returns-else-position-eq0-clause-intervals c =
-    let last = kept_last c.self.inside.root c.self.inside.children c.self.inside.places c.args.self.now c.self.view_is c.self.invariant in
-    let children = kept_children c.self.inside.root c.self.inside.children c.self.inside.places c.args.self.now c.self.view_is
+    let last = kept_last c.self.inside.root c.self.inside.children c.self.inside.layouts c.args.self.now c.self.view_is c.self.invariant in
+    let children = kept_children c.self.inside.root c.self.inside.children c.self.inside.layouts c.args.self.now c.self.view_is
     c.self.invariant in
-    let sound = kept_sound c.self.inside.root c.self.inside.children c.self.inside.places c.args.self.now c.self.view_is c.self.invariant in
+    let sound = kept_sound c.self.inside.root c.self.inside.children c.self.inside.layouts c.args.self.now c.self.view_is c.self.invariant in
     let same : (get_or c.as_slice.result.now (c.args.position - 1) c.index-as_slice-position.result).route ≡ route_at c.args.self.now
     c.args.position =
     ap (λ cs. (get_or cs (c.args.position - 1) c.index-as_slice-position.result).route) c.as_slice.ensures

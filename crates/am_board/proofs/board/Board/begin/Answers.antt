@@ -2,7 +2,7 @@ use Rattle.std.proofs.Common.{refl, subst}
 use Rattle.std.specs.Prelude.{IfOk}
 use Rattle.am_model.specs.declared.record.Call.TheVariants.{Begin}
 use Rattle.am_board.specs.History.{BoardData, reply_of, IsFresh}
-use Rattle.am_board.proofs.lemmas.invariant.Calls.{recorded, told_now, refused, sound_again, caused_too, fresh_too, rows_timely}
+use Rattle.am_board.proofs.lemmas.invariant.Calls.{recorded, returned_now, refused, sound_again, caused_too, fresh_too, rows_timely}
 use Rattle.am_board.proofs.lemmas.invariant.Limits.{begin_within, begin_caused}
 use Rattle.am_board.proofs.lemmas.invariant.Sound.{good}
 use Rattle.am_board.proofs.board.Board.begin.Goals as goal
@@ -10,8 +10,8 @@ use Rattle.am_board.proofs.board.Board.begin.Goals as goal
 pub take_group-requires-clause-good : goal.take_group-requires-clause-good
 take_group-requires-clause-good c = good c.self.inside c.self.invariant
 
-pub take_group-requires-clause-moments : goal.take_group-requires-clause-moments
-take_group-requires-clause-moments c = rows_timely c.self.inside c.self.invariant c.args.self.now c.self.view_is
+pub take_group-requires-clause-times : goal.take_group-requires-clause-times
+take_group-requires-clause-times c = rows_timely c.self.inside c.self.invariant c.args.self.now c.self.view_is
 
 pub invariant_of-self : goal.invariant_of-self
 invariant_of-self c =
@@ -25,7 +25,7 @@ returns-clause-recorded c =
 
 pub returns-clause-reply : goal.returns-clause-reply
 returns-clause-reply c =
-    told_now c.self.inside c.self.invariant c.args.self.now c.self.view_is c.take_group.new.state c.args.pass (Begin c.args.now) reply_of _
+    returned_now c.self.inside c.self.invariant c.args.self.now c.self.view_is c.take_group.new.state c.args.pass (Begin c.args.now) reply_of _
     (λ x h. h.1) _ c.take_group.result c.take_group.ensures
 
 pub returns-clause-cause : goal.returns-clause-cause

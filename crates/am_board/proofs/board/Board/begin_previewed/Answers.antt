@@ -6,7 +6,7 @@ use Rattle.am_model.specs.declared.record.Call.TheVariants.{Begin}
 use Rattle.am_model.specs.declared.record.Reply.{Reply}
 use Rattle.am_board.specs.declared.begin.Begun.{Begun}
 use Rattle.am_board.specs.History.{BoardData, reply_of, IsFresh}
-use Rattle.am_board.proofs.lemmas.invariant.Calls.{recorded, told_now, refused, sound_again, caused_too, fresh_too, preview_now, rows_timely}
+use Rattle.am_board.proofs.lemmas.invariant.Calls.{recorded, returned_now, refused, sound_again, caused_too, fresh_too, preview_now, rows_timely}
 use Rattle.am_board.proofs.lemmas.invariant.Limits.{begin_within, begin_caused}
 use Rattle.am_board.proofs.lemmas.invariant.Sound.{good}
 use Rattle.am_board.proofs.board.Board.begin_previewed.Goals as goal
@@ -14,8 +14,8 @@ use Rattle.am_board.proofs.board.Board.begin_previewed.Goals as goal
 pub take_previewed-requires-clause-good : goal.take_previewed-requires-clause-good
 take_previewed-requires-clause-good c = good c.self.inside c.self.invariant
 
-pub take_previewed-requires-clause-moments : goal.take_previewed-requires-clause-moments
-take_previewed-requires-clause-moments c = rows_timely c.self.inside c.self.invariant c.args.self.now c.self.view_is
+pub take_previewed-requires-clause-times : goal.take_previewed-requires-clause-times
+take_previewed-requires-clause-times c = rows_timely c.self.inside c.self.invariant c.args.self.now c.self.view_is
 
 -- the reply of what is returned
 abbrev replied : Begun × Option Preview → Reply
@@ -33,7 +33,7 @@ returns-clause-recorded c =
 
 pub returns-clause-reply : goal.returns-clause-reply
 returns-clause-reply c =
-    told_now c.self.inside c.self.invariant c.args.self.now c.self.view_is c.take_previewed.new.state c.args.pass (Begin c.args.now) replied _
+    returned_now c.self.inside c.self.invariant c.args.self.now c.self.view_is c.take_previewed.new.state c.args.pass (Begin c.args.now) replied _
     (λ x h. h.1) _ c.take_previewed.result c.take_previewed.ensures
 
 pub returns-clause-cause : goal.returns-clause-cause

@@ -7,7 +7,7 @@ use Rattle.am_board.specs.declared.flush.OpenFlush.{OpenFlush}
 use Rattle.am_model.specs.State.{flush_numbered}
 use Rattle.am_model.specs.Ticket.{TicketData}
 use Rattle.am_board.specs.History.{BoardData, state_at}
-use Rattle.am_board.proofs.lemmas.invariant.Closing.{none_open, not_none, finish_recorded, finish_told, finish_sound}
+use Rattle.am_board.proofs.lemmas.invariant.Closing.{none_open, not_none, finish_recorded, finish_returned, finish_sound}
 use Rattle.am_board.proofs.lemmas.invariant.Sound.{good}
 use Rattle.am_board.proofs.board.Board.finish.Goals as goal
 
@@ -20,7 +20,7 @@ returns-in_default-clause-not_open c =
     let none = none_open c.self.inside c.self.invariant c.args.self.now c.self.view_is c.ticket.inside.number at in
     let same : c.ticket.inside.number ≡ c.args.ticket.number = ap (λ (t : TicketData). t.number) c.ticket.view_is in
     let id = ap (λ (d : BoardData). d.id) c.self.view_is in
-    (λ u. (omega (arith, c.desk.ensures, c.if-self-desk.false, id), subst (λ n. flush_numbered (state_at c.args.self.now).flushes n ≡ None) same none), λ h. tt)
+    (λ u. (omega (arith, c.board_id.ensures, c.if-self-board_id.false, id), subst (λ n. flush_numbered (state_at c.args.self.now).flushes n ≡ None) same none), λ h. tt)
 
 pub invariant_of-self : goal.invariant_of-self
 invariant_of-self c =
@@ -34,7 +34,7 @@ returns-clause-recorded c =
 
 pub returns-clause-reply : goal.returns-clause-reply
 returns-clause-reply c =
-    finish_told c.self.inside c.self.invariant c.args.self.now c.self.view_is c.finish_flush.new.state c.args.pass c.args.now c.in-Some.f c.ticket.inside.number c.ticket.inside.outcomes.items c.args.ticket
+    finish_returned c.self.inside c.self.invariant c.args.self.now c.self.view_is c.finish_flush.new.state c.args.pass c.args.now c.in-Some.f c.ticket.inside.number c.ticket.inside.outcomes.items c.args.ticket
     (ap (λ (t : TicketData). t.number) c.ticket.view_is) (ap (λ (t : TicketData). t.outcomes) c.ticket.view_is) c.finish_flush.result (c.in-Some.ensures.first ∙ ap (position (λ (flush : OpenFlush). flush.number == c.ticket.inside.number)) c.as_slice.ensures.value) c.finish_flush.ensures.accepted
 
 pub returns-clause-not_open : goal.returns-clause-not_open

@@ -7,7 +7,7 @@ use Rattle.am_model.specs.declared.record.Reply.TheVariants as replies
 use Rattle.am_model.specs.Records.{entry}
 use Rattle.am_board.specs.Step.{AppliesCall}
 use Rattle.am_board.proofs.lemmas.forget.Forgotten.{same_known}
-use Rattle.am_board.proofs.lemmas.invariant.Calls.{recorded, told_now}
+use Rattle.am_board.proofs.lemmas.invariant.Calls.{recorded, returned_now}
 use Rattle.am_board.proofs.lemmas.invariant.Limits.{forget_within}
 use Rattle.am_board.proofs.lemmas.invariant.Sound.{good, sound_learnt, sound_still, sound_with}
 use Rattle.am_board.proofs.board.Board.forget.Goals as goal
@@ -46,5 +46,5 @@ pub returns-clause-reply : goal.returns-clause-reply
 returns-clause-reply c =
     let b = c.self.inside in
     let new = c.forget_idle.new.state in
-    told_now b c.self.invariant c.args.self.now c.self.view_is new c.args.pass (Forget c.args.now) replies.Forgotten
+    returned_now b c.self.invariant c.args.self.now c.self.view_is new c.args.pass (Forget c.args.now) replies.Forgotten
     (λ x. AppliesCall b.config b.id (entry c.args.pass (Forget c.args.now) (replies.Forgotten x)) b.state new) (λ x h. h) (λ (e : ℕ). Unit {0}) (Ok c.in_ok-forgotten.forgotten) (c.in_ok-forgotten.ensures.forgot.1 b.id)

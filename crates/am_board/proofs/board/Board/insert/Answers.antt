@@ -5,7 +5,7 @@ use Rattle.am_mute.specs.Sources.{AreLearnt}
 use Rattle.am_board.specs.Board.{IsSound}
 use Rattle.am_model.specs.declared.record.Call.TheVariants.{Insert}
 use Rattle.am_model.specs.declared.record.Reply.TheVariants as replies
-use Rattle.am_board.proofs.lemmas.invariant.Calls.{recorded, told_now, refused, sound_again, caused}
+use Rattle.am_board.proofs.lemmas.invariant.Calls.{recorded, returned_now, refused, sound_again, caused}
 use Rattle.am_board.proofs.lemmas.invariant.Limits.{insert_within, insert_caused}
 use Rattle.am_board.proofs.lemmas.invariant.Sound.{good, sound_learnt}
 use Rattle.am_board.proofs.board.Board.insert.Goals as goal
@@ -44,7 +44,7 @@ returns-clause-recorded c =
 
 pub returns-clause-reply : goal.returns-clause-reply
 returns-clause-reply c =
-    told_now c.self.inside c.self.invariant c.args.self.now c.self.view_is c.put_alert-inserted.new.state c.args.pass (Insert c.args.now c.args.alert) replies.Inserted _
+    returned_now c.self.inside c.self.invariant c.args.self.now c.self.view_is c.put_alert-inserted.new.state c.args.pass (Insert c.args.now c.args.alert) replies.Inserted _
     (λ x h. h.1 c.self.inside.id) _ c.put_alert-inserted.result c.put_alert-inserted.ensures.put
 
 pub returns-clause-cause : goal.returns-clause-cause

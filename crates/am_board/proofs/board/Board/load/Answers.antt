@@ -1,7 +1,7 @@
 use Rattle.std.proofs.Common.{refl}
 use Rattle.am_model.specs.declared.record.Call.TheVariants.{Load}
 use Rattle.am_model.specs.declared.record.Reply.TheVariants as replies
-use Rattle.am_board.proofs.lemmas.invariant.Calls.{recorded, told_now, refused, sound_again, load_caused_by}
+use Rattle.am_board.proofs.lemmas.invariant.Calls.{recorded, returned_now, refused, sound_again, load_caused_by}
 use Rattle.am_board.proofs.lemmas.invariant.Limits.{load_within, load_caused}
 use Rattle.am_board.proofs.lemmas.invariant.Sound.{good}
 use Rattle.am_board.proofs.board.Board.load.Goals as goal
@@ -21,7 +21,7 @@ returns-clause-recorded c =
 
 pub returns-clause-reply : goal.returns-clause-reply
 returns-clause-reply c =
-    told_now c.self.inside c.self.invariant c.args.self.now c.self.view_is c.load_row.new.state c.args.pass (Load c.args.now c.args.row) replies.Loaded _
+    returned_now c.self.inside c.self.invariant c.args.self.now c.self.view_is c.load_row.new.state c.args.pass (Load c.args.now c.args.row) replies.Loaded _
     (λ x h. h.1 c.self.inside.id) _ c.load_row.result c.load_row.ensures
 
 pub returns-clause-cause : goal.returns-clause-cause

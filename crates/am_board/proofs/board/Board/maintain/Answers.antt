@@ -1,7 +1,7 @@
 use Rattle.std.proofs.Common.{refl}
 use Rattle.am_model.specs.declared.record.Call.TheVariants.{Maintain}
 use Rattle.am_model.specs.declared.record.Reply.TheVariants as replies
-use Rattle.am_board.proofs.lemmas.invariant.Calls.{recorded, told_now, refused, sound_again, caused}
+use Rattle.am_board.proofs.lemmas.invariant.Calls.{recorded, returned_now, refused, sound_again, caused}
 use Rattle.am_board.proofs.lemmas.invariant.Limits.{maintain_within, maintain_caused}
 use Rattle.am_board.proofs.lemmas.invariant.Sound.{good}
 use Rattle.am_board.proofs.board.Board.maintain.Goals as goal
@@ -21,7 +21,7 @@ returns-clause-recorded c =
 
 pub returns-clause-reply : goal.returns-clause-reply
 returns-clause-reply c =
-    told_now c.self.inside c.self.invariant c.args.self.now c.self.view_is c.sweep.new.state c.args.pass (Maintain c.args.now) replies.Maintained _
+    returned_now c.self.inside c.self.invariant c.args.self.now c.self.view_is c.sweep.new.state c.args.pass (Maintain c.args.now) replies.Maintained _
     (λ x h. h.1 c.self.inside.id) _ c.sweep.result c.sweep.ensures
 
 pub returns-clause-cause : goal.returns-clause-cause

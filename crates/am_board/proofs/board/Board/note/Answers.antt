@@ -9,17 +9,17 @@ note_success-requires c = record { good = good c.self.inside c.self.invariant }
 
 pub invariant_of-self : goal.invariant_of-self
 invariant_of-self c =
-    sound_noted c.self.inside c.self.invariant c.args.self.now c.self.view_is c.note_success.new.state c.args.pass c.args.now c.args.ticket.now c.args.place
+    sound_noted c.self.inside c.self.invariant c.args.self.now c.self.view_is c.note_success.new.state c.args.pass c.args.now c.args.ticket.now c.args.index
     _ c.note_success.result c.note_success.ensures
 
 pub returns-clause-noted : goal.returns-clause-noted
 returns-clause-noted c =
-    noted_now c.self.inside c.self.invariant c.args.self.now c.self.view_is c.note_success.new.state c.args.pass c.args.now c.args.ticket.now c.args.place
+    noted_now c.self.inside c.self.invariant c.args.self.now c.self.view_is c.note_success.new.state c.args.pass c.args.now c.args.ticket.now c.args.index
     _ c.note_success.result c.note_success.ensures
 
 pub returns-clause-cause : goal.returns-clause-cause
 returns-clause-cause c =
     let id = ap (λ (d : BoardData). d.id) c.self.view_is in
-    let ours : c.args.ticket.now.desk ≡ c.args.self.now.id = omega (arith, c.desk.ensures, c.if-desk-self.false, id) in
-    note_caused _ _ (noted_caused c.self.inside c.self.invariant c.args.self.now c.self.view_is c.note_success.new.state c.args.pass c.args.now c.args.ticket.now c.args.place ours)
+    let ours : c.args.ticket.now.board_id ≡ c.args.self.now.id = omega (arith, c.board_id.ensures, c.if-board_id-self.false, id) in
+    note_caused _ _ (noted_caused c.self.inside c.self.invariant c.args.self.now c.self.view_is c.note_success.new.state c.args.pass c.args.now c.args.ticket.now c.args.index ours)
     _ _ c.note_success.result c.note_success.ensures

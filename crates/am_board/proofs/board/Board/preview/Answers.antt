@@ -8,10 +8,10 @@ use Rattle.am_board.proofs.board.Board.preview.Goals as goal
 pub preview_of-requires-clause-good : goal.preview_of-requires-clause-good
 preview_of-requires-clause-good c = good c.self.inside c.self.invariant
 
-pub preview_of-requires-clause-moments : goal.preview_of-requires-clause-moments
-preview_of-requires-clause-moments c = rows_timely c.self.inside c.self.invariant c.args.self.now c.self.view_is
+pub preview_of-requires-clause-times : goal.preview_of-requires-clause-times
+preview_of-requires-clause-times c = rows_timely c.self.inside c.self.invariant c.args.self.now c.self.view_is
 
 pub returns : goal.returns
 returns c =
-    subst (λ (told : Option Preview). IfOk c.preview_of.result (λ x. x ≡ told)) (preview_now c.self.inside c.self.invariant c.args.self.now c.self.view_is c.args.now)
+    subst (λ (returned : Option Preview). IfOk c.preview_of.result (λ x. x ≡ returned)) (preview_now c.self.inside c.self.invariant c.args.self.now c.self.view_is c.args.now)
     c.preview_of.ensures

@@ -1,7 +1,7 @@
 use Rattle.std.proofs.Common.{refl}
 use Rattle.am_model.specs.Records.{call_of_silence}
 use Rattle.am_model.specs.declared.record.Reply.TheVariants as replies
-use Rattle.am_board.proofs.lemmas.invariant.Calls.{recorded, told_now, refused, sound_again, caused}
+use Rattle.am_board.proofs.lemmas.invariant.Calls.{recorded, returned_now, refused, sound_again, caused}
 use Rattle.am_board.proofs.lemmas.invariant.Limits.{silence_within, silence_caused}
 use Rattle.am_board.proofs.lemmas.invariant.Sound.{good}
 use Rattle.am_board.proofs.board.Board.silence.Goals as goal
@@ -21,7 +21,7 @@ returns-clause-recorded c =
 
 pub returns-clause-reply : goal.returns-clause-reply
 returns-clause-reply c =
-    told_now c.self.inside c.self.invariant c.args.self.now c.self.view_is c.put_silence.new.state c.args.pass (call_of_silence c.args.now c.args.silence) replies.Silenced _
+    returned_now c.self.inside c.self.invariant c.args.self.now c.self.view_is c.put_silence.new.state c.args.pass (call_of_silence c.args.now c.args.silence) replies.Silenced _
     (λ x h. h.1 c.self.inside.id) _ c.put_silence.result c.put_silence.ensures
 
 pub returns-clause-cause : goal.returns-clause-cause

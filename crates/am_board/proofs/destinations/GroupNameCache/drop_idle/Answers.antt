@@ -11,9 +11,9 @@ returns c config were =
     (λ f a others n b g at ran.
     let l = closure.captures f in
     let m = closure.captures g in
-    let told : TestsFirst l.sets.now.keys l.t l.rest.now b m.rest.now = search rules in
+    let fact : TestsFirst l.sets.now.keys l.t l.rest.now b m.rest.now = search rules in
     let still : (m.sets.now.keys ≡ l.sets.now.keys) × (m.t ≡ l.t) = search rules in
-    let first = tested_first l.sets.now.keys c.args.sets.now.keys l.t c.args.t l.rest.now a others b m.rest.now at.1 at.2 at.0 told in
+    let first = tested_first l.sets.now.keys c.args.sets.now.keys l.t c.args.t l.rest.now a others b m.rest.now at.1 at.2 at.0 fact in
     (first.0, (first.1, still.0 ∙ at.1, still.1 ∙ at.2)))
     _ c.args.known.now c.self.inside.names.items _ (refl, refl, refl)
     (subst (AreKept config c.args.known.now) (sym c.self.view_is) were) c.retain.ensures.filtered

@@ -13,7 +13,7 @@ use Rattle.am_board.proofs.lemmas.invariant.GroupNameCache.{kept_of}
 use Rattle.am_board.proofs.destinations.GroupNameCache.of.Goals as goal
 
 module _ (config : Config) (known : List AlertData) (labels : List Label) (kept : List (Option (List GroupName))) (i : ℕ) where
-  -- what is lent of the entry at a place
+  -- what is lent of the entry at an index
   lent : (r : Option (Bor (List GroupName))) (entry : Option (List GroupName)) → AreKept config known kept → Some i ≡ position (λ a. same_label_set labels a.labels) known → i < length kept → entry ≡ get_or kept i entry → option_copied r ≡ entry → IfSome r (λ names. names.now ≡ names_for config labels)
   lent None entry are at within is copied = tt
   lent (Some names) entry are at within is copied =
@@ -24,6 +24,6 @@ returns c config known labels are at =
     let kept : List (Option (List GroupName)) = c.args.self.now in
     let same = c.as_slice.ensures.value ∙ c.self.view_is in
     let entry : Option (List GroupName) = c.in_ok-names.names.now in
-    let held = subst (λ (names : List (Option (List GroupName))). entry ≡ get_or names c.in_ok-place.field-0 entry) same c.in_ok-names.ensures.lookup.1 in
-    let within = subst (λ (names : List (Option (List GroupName))). c.in_ok-place.field-0 < length names) same c.in_ok-names.ensures.lookup.3.0 in
-    lent config known labels kept c.in_ok-place.field-0 c.as_ref.result entry are (sym c.in_ok-place.was ∙ at) within held c.as_ref.ensures.value
+    let held = subst (λ (names : List (Option (List GroupName))). entry ≡ get_or names c.in_ok-index.field-0 entry) same c.in_ok-names.ensures.lookup.1 in
+    let within = subst (λ (names : List (Option (List GroupName))). c.in_ok-index.field-0 < length names) same c.in_ok-names.ensures.lookup.3.0 in
+    lent config known labels kept c.in_ok-index.field-0 c.as_ref.result entry are (sym c.in_ok-index.was ∙ at) within held c.as_ref.ensures.value

@@ -12,7 +12,7 @@ use Rattle.am_board.specs.declared.group.Group.{Group}
 use Rattle.am_model.specs.declared.group.GroupName.{GroupName}
 use Rattle.am_board.proofs.lemmas.invariant.DueKeys.{due_push}
 use Rattle.am_board.proofs.lemmas.invariant.Keyed.{same_key, upsert-entries, AreKeyed-insert}
-use Rattle.am_model.proofs.lists.Places.{put_new}
+use Rattle.am_model.proofs.lists.Indexes.{put_new}
 use Rattle.am_board.proofs.groups.Groups.add.Goals as goal
 use Rattle.am_board.proofs.groups.Groups.add.Goals.{After-unwrap}
 use Rattle.am_model.proofs.states.Alike.{same_name-is}

@@ -3,11 +3,11 @@ use Rattle.std.specs.List.{position}
 use Rattle.am_board.specs.GroupList.{GroupList, name_of}
 use Rattle.am_model.specs.State.{same_name}
 use Rattle.am_board.specs.declared.group.Group.{Group}
-use Rattle.am_board.proofs.lemmas.invariant.Keyed.{place_of-keys}
+use Rattle.am_board.proofs.lemmas.invariant.Keyed.{index_of-keys}
 use Rattle.am_board.proofs.groups.Groups.find.Goals as goal
 
-pub returns-clause-place : goal.returns-clause-place
-returns-clause-place c =
+pub returns-clause-index : goal.returns-clause-index
+returns-clause-index c =
     c.get_index_of.ensures.index
-    ∙ place_of-keys same_name name_of c.args.name.now c.self.inside.groups.entries c.self.invariant.keyed
+    ∙ index_of-keys same_name name_of c.args.name.now c.self.inside.groups.entries c.self.invariant.keyed
     ∙ ap (λ (k : GroupList). position (λ (g : Group). same_name c.args.name.now g.name) k.items) c.self.view_is

@@ -8,7 +8,7 @@ use Rattle.am_board.proofs.groups.Groups.prepare.Goals as goal
 
 pub prepare-requires : goal.prepare-requires
 prepare-requires c =
-    members-apart c.args.self.now.items c.args.i c.index_mut.result.now c.requires.apart c.requires.place
+    members-apart c.args.self.now.items c.args.i c.index_mut.result.now c.requires.apart c.requires.index
     (lent_at c.self.inside.groups.entries (spare c.self.inside.groups) c.args.self.now c.self.view_is c.args.i c.index_mut.result.now c.index_mut.ensures.value)
 
 pub invariant_of-self : goal.invariant_of-self

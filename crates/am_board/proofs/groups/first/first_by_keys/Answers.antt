@@ -23,12 +23,12 @@ returns-in-Some-clause-first c fs told_open d =
     let es = c.args.groups.now.entries in
     let gs = values_of es in
     let other = c.first_in_tree-in_tree.result in
-    let told : group_state (get_or gs c.earlier.result d) ≡ lesser due_cmp (group_state (get_or gs c.in-Some.i d)) (option_map (λ j. group_state (get_or gs j d)) other) =
+    let fact : group_state (get_or gs c.earlier.result d) ≡ lesser due_cmp (group_state (get_or gs c.in-Some.i d)) (option_map (λ j. group_state (get_or gs j d)) other) =
     subst (λ (xs : List Group). group_state (get_or xs c.earlier.result d) ≡ lesser due_cmp (group_state (get_or xs c.in-Some.i d)) (option_map (λ j. group_state (get_or xs j d)) other))
     (c.as_slice.ensures ∙ c.values.ensures.rest) (c.earlier.ensures.lesser d) in
     first_of_both fs c.args.t gs c.args.due.now.ring c.args.due.now.tree.keys
     (distinct es c.requires.keyed c.requires.distinct) c.requires.keys c.in-Some.i other d (c.in-Some.ensures.first fs told_open) (c.first_in_tree-in_tree.ensures.first fs told_open)
-    ∙ sym (ap (λ (g : GroupState). Some g) told)
+    ∙ sym (ap (λ (g : GroupState). Some g) fact)
 
 pub returns-in-None-clause-first : goal.returns-in-None-clause-first
 returns-in-None-clause-first c fs told_open =

@@ -20,7 +20,7 @@ sorted : (c : In-Some) → IsStrictlySortedBy key_cmp (rev_source c.next.new.sel
 sorted c = subst (IsStrictlySortedBy key_cmp) (left c) c.loop-key.invariant.2
 
 ahead : (c : In-Some) (fs : List FlushState) → TellOpen fs (values_of c.args.groups.now.entries) → AreAhead fs c.args.t (values_of c.args.groups.now.entries) c.args.tree.now.keys (rev_source c.next.new.self ++ c.in-Some.key.now ∷ [])
-ahead c fs told = subst (AreAhead fs c.args.t (values_of c.args.groups.now.entries) c.args.tree.now.keys) (left c) (c.loop-key.invariant.3 fs told)
+ahead c fs returned = subst (AreAhead fs c.args.t (values_of c.args.groups.now.entries) c.args.tree.now.keys) (left c) (c.loop-key.invariant.3 fs returned)
 
 pub loop-key-init : goal.loop-key-init
 loop-key-init c =
@@ -28,20 +28,20 @@ loop-key-init c =
       tt,
       tt,
       subst (IsStrictlySortedBy key_cmp) (sym all) c.iter.ensures.ordered,
-      λ fs told. all_ahead fs c.args.t (values_of c.args.groups.now.entries) c.args.tree.now.keys _ all,
+      λ fs returned. all_ahead fs c.args.t (values_of c.args.groups.now.entries) c.args.tree.now.keys _ all,
     )
 
 pub returns-then-key-t-clause-first : goal.returns-then-key-t-clause-first
-returns-then-key-t-clause-first c fs told =
+returns-then-key-t-clause-first c fs returned =
     let at = (goal.at.returns-then-key-t-clause-first c).In-Some in
     walk_late fs c.args.t (values_of c.args.groups.now.entries) c.args.tree.now.keys c.in-Some.key.now _
-    (behind_last c.in-Some.key.now (rev_source c.next.new.self) (sorted at)) c.if-key-t.true (ahead at fs told)
+    (behind_last c.in-Some.key.now (rev_source c.next.new.self) (sorted at)) c.if-key-t.true (ahead at fs returned)
 
-pub returns-in-Some-free_place-clause-first : goal.returns-in-Some-free_place-clause-first
-returns-in-Some-free_place-clause-first c fs told =
-    let at = (goal.at.returns-in-Some-free_place-clause-first c).In-Some in
-    walk_takes fs c.args.t (values_of c.args.groups.now.entries) c.args.tree.now.keys c.in-Some.key.now _ c.in-Some-free_place.place
-    (behind_last c.in-Some.key.now (rev_source c.next.new.self) (sorted at)) (c.in-Some-free_place.ensures.free fs told) c.if-key-t.false (ahead at fs told)
+pub returns-in-Some-free_index-clause-first : goal.returns-in-Some-free_index-clause-first
+returns-in-Some-free_index-clause-first c fs returned =
+    let at = (goal.at.returns-in-Some-free_index-clause-first c).In-Some in
+    walk_takes fs c.args.t (values_of c.args.groups.now.entries) c.args.tree.now.keys c.in-Some.key.now _ c.in-Some-free_index.index
+    (behind_last c.in-Some.key.now (rev_source c.next.new.self) (sorted at)) (c.in-Some-free_index.ensures.free fs returned) c.if-key-t.false (ahead at fs returned)
 
 pub loop-key-preserved : goal.loop-key-preserved
 loop-key-preserved c =
@@ -49,14 +49,14 @@ loop-key-preserved c =
       tt,
       tt,
       rest_sorted c.in-Some.key.now (rev_source c.next.new.self) (sorted at),
-      λ fs told. walk_passes fs c.args.t (values_of c.args.groups.now.entries) c.args.tree.now.keys c.in-Some.key.now _ (rev_source c.next.new.self)
-          (before_last c.in-Some.key.now (rev_source c.next.new.self)) (c.in_default.ensures.free fs told) (ahead at fs told),
+      λ fs returned. walk_passes fs c.args.t (values_of c.args.groups.now.entries) c.args.tree.now.keys c.in-Some.key.now _ (rev_source c.next.new.self)
+          (before_last c.in-Some.key.now (rev_source c.next.new.self)) (c.in_default.ensures.free fs returned) (ahead at fs returned),
     )
 
 pub returns-clause-first : goal.returns-clause-first
-returns-clause-first c fs told =
+returns-clause-first c fs returned =
     let over =
     (subst (λ r. TakesLast deref (rev_source c.loop-key.key-iterator) r (rev_source c.next.new.self))
     c.in-None.is c.next.ensures.steps).0 in
     walk_ends fs c.args.t (values_of c.args.groups.now.entries) c.args.tree.now.keys
-    (subst (AreAhead fs c.args.t (values_of c.args.groups.now.entries) c.args.tree.now.keys) over (c.loop-key.invariant.3 fs told))
+    (subst (AreAhead fs c.args.t (values_of c.args.groups.now.entries) c.args.tree.now.keys) over (c.loop-key.invariant.3 fs returned))

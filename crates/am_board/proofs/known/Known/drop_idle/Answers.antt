@@ -37,5 +37,5 @@ returns-clause-count c =
     let fewer = ap length (left ((goal.at.returns-clause-count c).After-retain)) in
     let parts : length (filter idle all) + length (without idle all) ≡ length all = length-filter_both idle (λ a. not (idle a)) (λ a. refl) all in
     let gone = length-filter idle all in
-    let told = ap (λ (k : KnownAlerts). count_by idle k.items) c.self.view_is in
-    omega (arith, fewer, parts, gone, told, length-values es, length-values c.retain.new.self.entries, c.len.ensures.len, c.len-before.ensures.len)
+    let fact = ap (λ (k : KnownAlerts). count_by idle k.items) c.self.view_is in
+    omega (arith, fewer, parts, gone, fact, length-values es, length-values c.retain.new.self.entries, c.len.ensures.len, c.len-before.ensures.len)

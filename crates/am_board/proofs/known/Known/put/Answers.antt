@@ -11,15 +11,15 @@ use Rattle.am_model.specs.Insert.{same_alert}
 use Rattle.am_board.specs.Keyed.{AreKeyed}
 use Rattle.am_board.specs.Known.{KnownAlerts, labels_of}
 use Rattle.am_model.specs.Lists.{upsert}
-use Rattle.am_board.proofs.lemmas.invariant.Keyed.{place_of-keys, upsert-entries, set-insert, AreKeyed-insert}
+use Rattle.am_board.proofs.lemmas.invariant.Keyed.{index_of-keys, upsert-entries, set-insert, AreKeyed-insert}
 use Rattle.am_board.proofs.known.Known.put.Goals as goal
 use Rattle.am_board.proofs.known.Known.put.Goals.{in-Some-1, in-None-1, After-unwrap}
 
 module _ (a : AlertData) (es : List (List Label × AlertData)) (keyed : AreKeyed labels_of es) where
-  -- the place among the alerts is that of the labels
-  at_key : (items : List AlertData) (place : Option ℕ) (i : ℕ) → values_of es ≡ items → place ≡ position (same_alert a) items → place ≡ Some i → Some i ≡ position (same_label_set a.labels) (keys_of es)
-  at_key items place i seen at some =
-      sym some ∙ at ∙ ap (position (same_alert a)) (sym seen) ∙ sym (place_of-keys same_label_set labels_of a.labels es keyed)
+  -- the index among the alerts is that of the labels
+  at_key : (items : List AlertData) (index : Option ℕ) (i : ℕ) → values_of es ≡ items → index ≡ position (same_alert a) items → index ≡ Some i → Some i ≡ position (same_label_set a.labels) (keys_of es)
+  at_key items index i seen at some =
+      sym some ∙ at ∙ ap (position (same_alert a)) (sym seen) ∙ sym (index_of-keys same_label_set labels_of a.labels es keyed)
 
   keyed_after : AreKeyed labels_of (insert_entry same_label_set es a.labels a)
   keyed_after = AreKeyed-insert same_label_set labels_of (λ k l. (same_label_set-decides k l).0) a es keyed
@@ -30,14 +30,14 @@ module _ (a : AlertData) (es : List (List Label × AlertData)) (keyed : AreKeyed
 pub invariant_of-self : goal.invariant_of-self
 invariant_of-self c =
     let es = c.self.inside.alerts.entries in
-    let at = at_key c.args.alert es c.self.invariant c.args.self.now.items c.args.place c.in-Some.i (ap (λ (k : KnownAlerts). k.items) c.self.view_is) c.requires.place c.in-Some.is in
+    let at = at_key c.args.alert es c.self.invariant c.args.self.now.items c.args.index c.in-Some.i (ap (λ (k : KnownAlerts). k.items) c.self.view_is) c.requires.index c.in-Some.is in
     subst (AreKeyed labels_of) (sym (set-insert same_label_set labels_of c.args.alert es c.in-Some.i c.self.invariant at)) (keyed_after c.args.alert es c.self.invariant)
 
 pub returns-in-Some : goal.returns-in-Some
 returns-in-Some c =
     let es = c.self.inside.alerts.entries in
     let seen = ap (λ (k : KnownAlerts). k.items) c.self.view_is in
-    let at = at_key c.args.alert es c.self.invariant c.args.self.now.items c.args.place c.in-Some.i seen c.requires.place c.in-Some.is in
+    let at = at_key c.args.alert es c.self.invariant c.args.self.now.items c.args.index c.in-Some.i seen c.requires.index c.in-Some.is in
     ap values_of (set-insert same_label_set labels_of c.args.alert es c.in-Some.i c.self.invariant at) ∙ put_after c.args.alert es c.self.invariant c.args.self.now.items seen
 
 -- there is room, so that the entry was made

@@ -8,7 +8,7 @@ use Rattle.am_model.specs.Insert.{same_member}
 use Rattle.am_model.specs.Lists.{upsert}
 use Rattle.am_board.specs.Refinement.{member_state}
 use Rattle.am_board.specs.Members.{MemberList, AreMembers}
-use Rattle.am_board.specs.Order.{ArePlaces}
+use Rattle.am_board.specs.Order.{AreIndexes}
 use Rattle.am_board.specs.declared.group.Member.{Member}
 use Rattle.am_board.proofs.lemmas.invariant.Members.{are_put, members_put, order_put}
 use Rattle.am_board.proofs.members.Members.put.Goals as goal
@@ -32,7 +32,7 @@ invariant_of-self c =
     record {
       members = subst AreMembers (sym (entered at)) put;
       sorted =
-          subst (λ (fs : List (List Label × Member)). ArePlaces c.self.inside.order.items (values_of fs)) (sym (entered at))
+          subst (λ (fs : List (List Label × Member)). AreIndexes c.self.inside.order.items (values_of fs)) (sym (entered at))
           (order_put c.self.inside.order.items (unmarked c.args.member) es c.self.invariant.members put c.self.invariant.sorted);
     }
 

@@ -1,7 +1,7 @@
 use Rattle.std.proofs.Common.{ap}
 use Rattle.am_board.specs.Members.{MemberList}
 use Rattle.am_board.specs.declared.group.Member.{Member}
-use Rattle.am_board.proofs.lemmas.insert.InPlace.{are_written, labels_written, members_written, unmarked_at}
+use Rattle.am_board.proofs.lemmas.insert.InIndex.{are_written, labels_written, members_written, unmarked_at}
 use Rattle.am_board.proofs.lemmas.invariant.DueKeys.{keys_set}
 use Rattle.am_board.proofs.lemmas.invariant.Members.{order_kept}
 use Rattle.am_board.proofs.members.Members.replace.Goals as goal
@@ -12,7 +12,7 @@ invariant_of-self c =
     let was : Member = c.index_mut-member.result.now in
     let m : Member = record { alert = c.args.alert; stamp = c.args.stamp; leaves = was.leaves } in
     let seen = ap (λ (k : MemberList). k.items) c.self.view_is in
-    let are = are_written m es c.args.self.now.items c.args.j c.self.invariant.members seen c.requires.place
+    let are = are_written m es c.args.self.now.items c.args.j c.self.invariant.members seen c.requires.index
     (unmarked_at es c.args.j was c.self.invariant.members c.index_mut-member.ensures.value) in
     record {
       members = are;
@@ -24,12 +24,12 @@ returns-clause-members c =
     let was : Member = c.index_mut-member.result.now in
     let m : Member = record { alert = c.args.alert; stamp = c.args.stamp; leaves = was.leaves } in
     members_written m c.self.inside.members.entries c.args.self.now.items c.args.j c.self.invariant.members
-    (ap (λ (k : MemberList). k.items) c.self.view_is) c.requires.place
+    (ap (λ (k : MemberList). k.items) c.self.view_is) c.requires.index
 
 pub returns-clause-labels : goal.returns-clause-labels
 returns-clause-labels c =
     let es = c.self.inside.members.entries in
     let was : Member = c.index_mut-member.result.now in
     let m : Member = record { alert = c.args.alert; stamp = c.args.stamp; leaves = was.leaves } in
-    labels_written m es c.args.self.now.items c.args.j c.self.invariant.members (ap (λ (k : MemberList). k.items) c.self.view_is) c.requires.place
+    labels_written m es c.args.self.now.items c.args.j c.self.invariant.members (ap (λ (k : MemberList). k.items) c.self.view_is) c.requires.index
     (unmarked_at es c.args.j was c.self.invariant.members c.index_mut-member.ensures.value)

@@ -5,7 +5,7 @@ use Rattle.am_model.specs.Lists.{without}
 use Rattle.am_board.specs.Refinement.{member_state, stamped}
 use Rattle.std.specs.Map.{values_of}
 use Rattle.am_board.specs.Members.{MemberList}
-use Rattle.am_board.specs.Order.{ArePlaces}
+use Rattle.am_board.specs.Order.{AreIndexes}
 use Rattle.am_board.proofs.lemmas.finish.LeavingAlerts.{others_stay, are_unmarked, nothing_leaves, nothing_counts}
 use Rattle.am_board.proofs.lemmas.invariant.Members.{members_left, members_gone}
 use Rattle.am_board.proofs.lemmas.invariant.Order.{none_there}
@@ -20,7 +20,7 @@ stay c = others_stay c.args.leaving.now c.mark_all.new.members.entries c.retain.
 
 pub invariant_of-self : goal.invariant_of-self
 invariant_of-self c =
-    record { members = are_unmarked c.args.leaving.now c.mark_all.new.members.entries c.retain.new.self.entries c.mark_all.ensures.marks (unmarked_stay ((goal.at.invariant_of-self c).After-retain)) c.mark_all.ensures.keyed; sorted = subst (λ o. ArePlaces o (values_of c.retain.new.self.entries)) (sym c.forget.ensures) (none_there (values_of c.retain.new.self.entries)) }
+    record { members = are_unmarked c.args.leaving.now c.mark_all.new.members.entries c.retain.new.self.entries c.mark_all.ensures.marks (unmarked_stay ((goal.at.invariant_of-self c).After-retain)) c.mark_all.ensures.keyed; sorted = subst (λ o. AreIndexes o (values_of c.retain.new.self.entries)) (sym c.forget.ensures) (none_there (values_of c.retain.new.self.entries)) }
 
 pub returns-clause-members : goal.returns-clause-members
 returns-clause-members c =
@@ -33,8 +33,8 @@ pub returns-clause-count : goal.returns-clause-count
 returns-clause-count c =
     let leaves = is_leaving (map stamped c.args.leaving.now) in
     let gone = members_gone leaves c.mark_all.new.members.entries c.retain.new.self.entries (stay ((goal.at.returns-clause-count c).After-retain)) in
-    let told = ap (count_by leaves) c.mark_all.ensures.states ∙ ap (λ (k : MemberList). count_by leaves (map member_state k.items)) c.self.view_is in
-    omega (arith, gone, told, c.len.ensures.len, c.len-before.ensures.len)
+    let fact = ap (count_by leaves) c.mark_all.ensures.states ∙ ap (λ (k : MemberList). count_by leaves (map member_state k.items)) c.self.view_is in
+    omega (arith, gone, fact, c.len.ensures.len, c.len-before.ensures.len)
 
 pub returns-then-is_empty-clause-members : goal.returns-then-is_empty-clause-members
 returns-then-is_empty-clause-members c =

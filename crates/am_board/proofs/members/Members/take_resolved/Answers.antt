@@ -7,7 +7,7 @@ use Rattle.am_model.specs.State.{MemberState}
 use Rattle.am_board.specs.Refinement.{member_state}
 use Rattle.std.specs.Map.{values_of}
 use Rattle.am_board.specs.Members.{MemberList}
-use Rattle.am_board.specs.Order.{ArePlaces}
+use Rattle.am_board.specs.Order.{AreIndexes}
 use Rattle.am_board.specs.declared.group.Member.{Member}
 use Rattle.am_board.proofs.lemmas.invariant.Members.{all_stay, none_over, are_left, members_left, members_gone}
 use Rattle.am_board.proofs.lemmas.invariant.Order.{none_there}
@@ -19,7 +19,7 @@ stay c = filter-RetainsPairs _ _ _ (λ k v b w g call. search rules) _ _ c.retai
 
 pub invariant_of-self : goal.invariant_of-self
 invariant_of-self c =
-    record { members = are_left (λ (m : MemberState). is_resolved m.alert c.args.t) c.self.inside.members.entries c.retain.new.self.entries (stay ((goal.at.invariant_of-self c).After-retain)) c.self.invariant.members; sorted = subst (λ o. ArePlaces o (values_of c.retain.new.self.entries)) (sym c.forget.ensures) (none_there (values_of c.retain.new.self.entries)) }
+    record { members = are_left (λ (m : MemberState). is_resolved m.alert c.args.t) c.self.inside.members.entries c.retain.new.self.entries (stay ((goal.at.invariant_of-self c).After-retain)) c.self.invariant.members; sorted = subst (λ o. AreIndexes o (values_of c.retain.new.self.entries)) (sym c.forget.ensures) (none_there (values_of c.retain.new.self.entries)) }
 
 pub returns-clause-members : goal.returns-clause-members
 returns-clause-members c =
@@ -29,8 +29,8 @@ returns-clause-members c =
 pub returns-clause-count : goal.returns-clause-count
 returns-clause-count c =
     let gone = members_gone (λ (m : MemberState). is_resolved m.alert c.args.t) c.self.inside.members.entries c.retain.new.self.entries (stay ((goal.at.returns-clause-count c).After-retain)) in
-    let told = ap (λ (k : MemberList). count_by (λ (m : MemberState). is_resolved m.alert c.args.t) (map member_state k.items)) c.self.view_is in
-    omega (arith, gone, told, c.len.ensures.len, c.len-before.ensures.len)
+    let fact = ap (λ (k : MemberList). count_by (λ (m : MemberState). is_resolved m.alert c.args.t) (map member_state k.items)) c.self.view_is in
+    omega (arith, gone, fact, c.len.ensures.len, c.len-before.ensures.len)
 
 pub returns-then-is_none_resolved-clause-members : goal.returns-then-is_none_resolved-clause-members
 returns-then-is_none_resolved-clause-members c =

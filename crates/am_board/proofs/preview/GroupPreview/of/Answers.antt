@@ -1,7 +1,7 @@
 use Rattle.std.proofs.Common.{◌∙◌, refl}
 use Rattle.am_board.specs.Beginning.{alert_sets_of, copies_of}
 use Rattle.am_board.specs.Refinement.{group_state, state_of}
-use Rattle.am_board.proofs.lemmas.begin.Reasons.{asked_are, reasons_are}
+use Rattle.am_board.proofs.lemmas.begin.Reasons.{notified_are, reasons_are}
 use Rattle.am_board.proofs.lemmas.begin.WhatIsUnmuted.{unmuted-rises}
 use Rattle.am_board.proofs.preview.GroupPreview.of.Goals as goal
 
@@ -20,9 +20,9 @@ returns c =
     let reasons = c.from.ensures ∙ reasons_are config s t g unmuted c.in_ok-muted.ensures.unmuted (alert_sets_of unmuted) refl
     c.route_muted-until.result c.route_muted-until.ensures c.in_ok-decided.decided c.in_ok-decided.ensures in
     record {
-      preview = λ i. record { moment = t; group = c.in_ok-copy.ensures i; muted = c.in_ok-muted.ensures.muted i; reasons = reasons i };
+      preview = λ i. record { time = t; group = c.in_ok-copy.ensures i; muted = c.in_ok-muted.ensures.muted i; reasons = reasons i };
       unmuted = c.in_ok-muted.ensures.unmuted;
       rising = unmuted-rises config s t g unmuted c.requires.apart c.in_ok-muted.ensures.unmuted;
-      asked = asked_are config s t g unmuted c.in_ok-muted.ensures.unmuted (alert_sets_of unmuted) refl
+      notified = notified_are config s t g unmuted c.in_ok-muted.ensures.unmuted (alert_sets_of unmuted) refl
           c.route_muted-until.result c.route_muted-until.ensures c.in_ok-decided.decided c.in_ok-decided.ensures;
     }

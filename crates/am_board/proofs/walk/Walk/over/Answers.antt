@@ -3,29 +3,29 @@ use Rattle.std.specs.List.{IsDistinct}
 use Rattle.std.proofs.lemmas.Result.{IfOk-weaker}
 use Rattle.am_model.specs.Insert.{same_member}
 use Rattle.am_board.specs.Members.{labels_of}
-use Rattle.am_board.specs.Order.{places_in_order}
+use Rattle.am_board.specs.Order.{indexes_in_order}
 use Rattle.am_board.specs.Refinement.{member_state, state_of}
 use Rattle.am_board.specs.Walk.{AreFound}
 use Rattle.am_board.specs.declared.group.Member.{Member}
 use Rattle.am_board.proofs.walk.Walk.over.Goals as goal
 
-pub places_in_order-requires : goal.places_in_order-requires
-places_in_order-requires c = subst (λ (ms : List Member). IsDistinct same_member (map member_state ms)) (sym c.as_slice-all.ensures.value) c.requires.apart
+pub indexes_in_order-requires : goal.indexes_in_order-requires
+indexes_in_order-requires c = subst (λ (ms : List Member). IsDistinct same_member (map member_state ms)) (sym c.as_slice-all.ensures.value) c.requires.apart
 
 pub returns-in-Some : goal.returns-in-Some
 returns-in-Some c =
     let s = state_of c.args.state.now in
-    IfOk-weaker c.walk_places.result _ _
+    IfOk-weaker c.walk_indexes.result _ _
     (λ walk h.
-    subst (λ (ms : List Member). AreFound c.args.rules.now s c.args.t ms (places_in_order (map labels_of c.args.members.now.items)) c.args.wants_causes walk) c.as_slice-all.ensures.value
+    subst (λ (ms : List Member). AreFound c.args.rules.now s c.args.t ms (indexes_in_order (map labels_of c.args.members.now.items)) c.args.wants_causes walk) c.as_slice-all.ensures.value
     (subst (λ (ps : List ℕ). AreFound c.args.rules.now s c.args.t c.as_slice-all.result.now ps c.args.wants_causes walk) c.in-Some.ensures h))
-    c.walk_places.ensures
+    c.walk_indexes.ensures
 
-pub returns-in_ok-places-in-None : goal.returns-in_ok-places-in-None
-returns-in_ok-places-in-None c =
+pub returns-in_ok-indexes-in-None : goal.returns-in_ok-indexes-in-None
+returns-in_ok-indexes-in-None c =
     let s = state_of c.args.state.now in
-    IfOk-weaker c.walk_places-in-None.result _ _
+    IfOk-weaker c.walk_indexes-in-None.result _ _
     (λ walk h.
-    subst (λ (ms : List Member). AreFound c.args.rules.now s c.args.t ms (places_in_order (map labels_of ms)) c.args.wants_causes walk) c.as_slice-all.ensures.value
-    (subst (λ (ps : List ℕ). AreFound c.args.rules.now s c.args.t c.as_slice-all.result.now ps c.args.wants_causes walk) (c.as_slice.ensures.value ∙ c.in_ok-places-in-None.ensures) h))
-    c.walk_places-in-None.ensures
+    subst (λ (ms : List Member). AreFound c.args.rules.now s c.args.t ms (indexes_in_order (map labels_of ms)) c.args.wants_causes walk) c.as_slice-all.ensures.value
+    (subst (λ (ps : List ℕ). AreFound c.args.rules.now s c.args.t c.as_slice-all.result.now ps c.args.wants_causes walk) (c.as_slice.ensures.value ∙ c.in_ok-indexes-in-None.ensures) h))
+    c.walk_indexes-in-None.ensures

@@ -26,8 +26,8 @@ returns-then-wants_causes c =
       firing = subst (λ (o : Option MuteCause). OnOk c.add.result (copies_at t c.add.new.self.firing.items ≡ copies_at t old.firing.items ++ firing_if t a o)) found c.add.ensures.firing;
       resolved = subst (λ (o : Option MuteCause). OnOk c.add.result (copies_at t c.add.new.self.resolved.items ≡ copies_at t old.resolved.items ++ resolved_if t a o)) found c.add.ensures.resolved;
       muted =
-          subst (λ (b : Bool). OnOk c.add.result (c.add.new.self.muted.items ≡ old.muted.items ++ listed_if b c.args.place (cause_for rules s t a))) (sym c.if-wants_causes.true)
-          (subst (λ (o : Option MuteCause). OnOk c.add.result (c.add.new.self.muted.items ≡ old.muted.items ++ cons_option (muted_if c.args.place o) [])) found c.add.ensures.muted);
+          subst (λ (b : Bool). OnOk c.add.result (c.add.new.self.muted.items ≡ old.muted.items ++ listed_if b c.args.index (cause_for rules s t a))) (sym c.if-wants_causes.true)
+          (subst (λ (o : Option MuteCause). OnOk c.add.result (c.add.new.self.muted.items ≡ old.muted.items ++ cons_option (muted_if c.args.index o) [])) found c.add.ensures.muted);
     }
 
 pub returns-then-branch : goal.returns-then-branch
@@ -44,7 +44,7 @@ returns-then-branch c =
     record {
       firing = sym (ap (λ (l : List AlertData). copies_at t old.firing.items ++ l) (firing-muted t a (cause_for rules s t a) muted) ∙ append-nil (copies_at t old.firing.items));
       resolved = sym (ap (λ (l : List AlertData). copies_at t old.resolved.items ++ l) (resolved-muted t a (cause_for rules s t a) muted) ∙ append-nil (copies_at t old.resolved.items));
-      muted = sym (ap (λ (b : Bool). old.muted.items ++ listed_if b c.args.place (cause_for rules s t a)) c.if-wants_causes.false ∙ append-nil old.muted.items);
+      muted = sym (ap (λ (b : Bool). old.muted.items ++ listed_if b c.args.index (cause_for rules s t a)) c.if-wants_causes.false ∙ append-nil old.muted.items);
     }
 
 pub returns : goal.returns
@@ -63,6 +63,6 @@ returns c =
       firing = subst (λ (o : Option MuteCause). OnOk c.add-2.result (copies_at t c.add-2.new.self.firing.items ≡ copies_at t old.firing.items ++ firing_if t a o)) none c.add-2.ensures.firing;
       resolved = subst (λ (o : Option MuteCause). OnOk c.add-2.result (copies_at t c.add-2.new.self.resolved.items ≡ copies_at t old.resolved.items ++ resolved_if t a o)) none c.add-2.ensures.resolved;
       muted =
-          subst (λ (b : Bool). OnOk c.add-2.result (c.add-2.new.self.muted.items ≡ old.muted.items ++ listed_if b c.args.place (cause_for rules s t a))) (sym c.if-wants_causes.false)
+          subst (λ (b : Bool). OnOk c.add-2.result (c.add-2.new.self.muted.items ≡ old.muted.items ++ listed_if b c.args.index (cause_for rules s t a))) (sym c.if-wants_causes.false)
           c.add-2.ensures.muted;
     }

@@ -10,4 +10,4 @@ pub returns-in_err-text-clause-refused : goal.returns-in_err-text-clause-refused
 returns-in_err-text-clause-refused c =
     let value = view c.args.reader.now.value in
     handed_on (λ (answer : Answer). IsAnswer value answer × IsTrue true) c.from_residual.result c.in_err-text.field-0.0 c.from_residual.ensures.1
-    (λ refusal answer told. no_text value (answer_text answer) c.in_err-text.ensures.text told.0)
+    (λ refusal answer decoded. no_text value (answer_text answer) c.in_err-text.ensures.text decoded.0)

@@ -8,5 +8,5 @@ use Rattle.am_cli.proofs.labels.LabelsFromJson.read.Goals as goal
 
 pub returns-clause-refused : goal.returns-clause-refused
 returns-clause-refused c =
-    let Tells : List Label → Type 0 = DecodesToLabels c.args.reader.now.dialect (view c.args.reader.now.value) in
-    narrowed Tells (λ (labels : List Label). Tells labels × IsTrue true) (λ labels told. told.0) c.read_labels.result c.read_labels.ensures.refused
+    let Decodes : List Label → Type 0 = DecodesToLabels c.args.reader.now.mode (view c.args.reader.now.value) in
+    narrowed Decodes (λ (labels : List Label). Decodes labels × IsTrue true) (λ labels decoded. decoded.0) c.read_labels.result c.read_labels.ensures.refused

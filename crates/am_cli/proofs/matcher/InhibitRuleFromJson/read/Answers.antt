@@ -5,33 +5,33 @@ use Rattle.serde_json.specs.Data.{Data}
 use Rattle.serde_json.specs.Find.{as_object, get_member}
 use Rattle.serde_json.specs.View.{members_view, view}
 use Rattle.am_alerts.specs.Matcher.{compare_texts}
-use Rattle.am_alerts.specs.declared.limits.TheConstants.{MAX_MATCHERS, MAX_NAMES}
+use Rattle.am_alerts.specs.declared.limits.TheConstants.{MAX_MATCHERS, MAX_LABEL_NAMES}
 use Rattle.am_mute.specs.Inhibit.{RuleData, rule_of, rule_fault}
 use Rattle.am_mute.specs.declared.inhibit.RuleFault.TheVariants.{TooManyMatchers, TooManyNames}
 use Rattle.am_cli.specs.Configured.{DecodesToRule, HasRule, rule_compares_texts}
 use Rattle.am_cli.specs.Decoding.{IsList, IsText}
 use Rattle.am_cli.specs.Read.{ObjectData}
-use Rattle.am_cli.specs.declared.reader.Dialect.{Dialect}
-use Rattle.am_cli.proofs.Decoding.{all_sure, as_told, handed_on, in_object, missing, unknown}
+use Rattle.am_cli.specs.declared.reader.Mode.{Mode}
+use Rattle.am_cli.proofs.Decoding.{all_sure, as_decoded, handed_on, in_object, missing, unknown}
 use Rattle.am_cli.proofs.Made.{made_is, made_well, unmade}
 use Rattle.am_cli.proofs.Members.{first, second}
 use Rattle.am_cli.proofs.Once.{one_list, one_matchers, one_or, one_text_of}
 use Rattle.am_cli.proofs.matcher.InhibitRuleFromJson.read.Goals as goal
 
 -- what is never refused
-abbrev Tells : Dialect → Data → RuleData → Type 0
-Tells dialect value rule = DecodesToRule dialect value rule × IsTrue (rule_compares_texts rule)
+abbrev Decodes : Mode → Data → RuleData → Type 0
+Decodes mode value rule = DecodesToRule mode value rule × IsTrue (rule_compares_texts rule)
 
-inside : (dialect : Dialect) (value : Data) (o : ObjectData) (rule : RuleData) → Some (members_view o.members) ≡ as_object value → o.dialect ≡ dialect
-    → Tells dialect value rule → HasRule o.dialect (members_view o.members) rule
-inside dialect value o rule is same told = in_object HasRule dialect o.dialect (members_view o.members) value rule is same told.0
+inside : (mode : Mode) (value : Data) (o : ObjectData) (rule : RuleData) → Some (members_view o.members) ≡ as_object value → o.mode ≡ mode
+    → Decodes mode value rule → HasRule o.mode (members_view o.members) rule
+inside mode value o rule is same decoded = in_object HasRule mode o.mode (members_view o.members) value rule is same decoded.0
 
 -- a rule without a fault has few matchers on each side
 few_sides : (r : RuleData) → rule_fault r ≡ None → (length r.source ≤ MAX_MATCHERS) × (length r.target ≤ MAX_MATCHERS)
 few_sides r sound = by (nat_lt MAX_MATCHERS (length r.source)) (nat_lt MAX_MATCHERS (length r.target)) refl refl sound
   where
     by : (a b : Bool) → nat_lt MAX_MATCHERS (length r.source) ≡ a → nat_lt MAX_MATCHERS (length r.target) ≡ b
-        → (if a || b then Some TooManyMatchers else (if nat_lt MAX_NAMES (length r.equal) then Some TooManyNames else None)) ≡ None
+        → (if a || b then Some TooManyMatchers else (if nat_lt MAX_LABEL_NAMES (length r.equal) then Some TooManyNames else None)) ≡ None
         → (length r.source ≤ MAX_MATCHERS) × (length r.target ≤ MAX_MATCHERS)
     by true b a_is b_is none = absurd (cc)
     by false true a_is b_is none = absurd (cc)
@@ -40,64 +40,64 @@ few_sides r sound = by (nat_lt MAX_MATCHERS (length r.source)) (nat_lt MAX_MATCH
       omega (arith, ltb-false MAX_MATCHERS (length r.target) b_is),
     )
 
-pub returns-in-Ok-clause-told : goal.returns-in-Ok-clause-told
-returns-in-Ok-clause-told c =
+pub returns-in-Ok-clause-decoded : goal.returns-in-Ok-clause-decoded
+returns-in-Ok-clause-decoded c =
     let o = c.in_ok-rule.rule in
     let rule : RuleData = rule_of c.in_ok-source.source.items c.in_ok-target.target.items c.in_ok-equal.equal.items in
     let made : c.in-Ok.rule ≡ rule = made_is (rule_fault rule) rule c.in-Ok.rule c.in-Ok.ensures in
-    let has : HasRule o.dialect (members_view o.members) rule = record {
+    let has : HasRule o.mode (members_view o.members) rule = record {
       only = sym c.in_ok-only.ensures.known;
-      source = c.in_ok-source.ensures.told;
-      target = c.in_ok-target.ensures.told;
-      equal = c.in_ok-equal.ensures.told;
+      source = c.in_ok-source.ensures.decoded;
+      target = c.in_ok-target.ensures.decoded;
+      equal = c.in_ok-equal.ensures.decoded;
       sound = made_well (rule_fault rule) rule c.in-Ok.rule c.in-Ok.ensures;
     } in
-    subst (λ (r : RuleData). DecodesToRule c.args.reader.now.dialect (view c.args.reader.now.value) r) (sym made)
-    (as_told HasRule c.args.reader.now.dialect o.dialect (members_view o.members) (view c.args.reader.now.value) rule c.in_ok-rule.ensures.members
-    c.in_ok-rule.ensures.dialect has)
+    subst (λ (r : RuleData). DecodesToRule c.args.reader.now.mode (view c.args.reader.now.value) r) (sym made)
+    (as_decoded HasRule c.args.reader.now.mode o.mode (members_view o.members) (view c.args.reader.now.value) rule c.in_ok-rule.ensures.members
+    c.in_ok-rule.ensures.mode has)
 
 pub returns-in_err-rule-clause-refused : goal.returns-in_err-rule-clause-refused
 returns-in_err-rule-clause-refused c =
-    handed_on (Tells c.args.reader.now.dialect (view c.args.reader.now.value)) c.from_residual.result c.in_err-rule.field-0.0 c.from_residual.ensures.1
-    (λ refusal x told. missing (λ ms. HasRule c.args.reader.now.dialect ms x) (as_object (view c.args.reader.now.value)) c.in_err-rule.ensures.members told.0)
+    handed_on (Decodes c.args.reader.now.mode (view c.args.reader.now.value)) c.from_residual.result c.in_err-rule.field-0.0 c.from_residual.ensures.1
+    (λ refusal x decoded. missing (λ ms. HasRule c.args.reader.now.mode ms x) (as_object (view c.args.reader.now.value)) c.in_err-rule.ensures.members decoded.0)
 
 pub returns-in_err-only-clause-refused : goal.returns-in_err-only-clause-refused
 returns-in_err-only-clause-refused c =
-    handed_on (Tells c.args.reader.now.dialect (view c.args.reader.now.value)) c.from_residual-in_err-only.result c.in_err-only.field-0.0 c.from_residual-in_err-only.ensures.1
-    (λ refusal x told. unknown _ c.in_err-only.ensures.known (inside c.args.reader.now.dialect (view c.args.reader.now.value) c.in_ok-rule.rule x c.in_ok-rule.ensures.members c.in_ok-rule.ensures.dialect told).only)
+    handed_on (Decodes c.args.reader.now.mode (view c.args.reader.now.value)) c.from_residual-in_err-only.result c.in_err-only.field-0.0 c.from_residual-in_err-only.ensures.1
+    (λ refusal x decoded. unknown _ c.in_err-only.ensures.known (inside c.args.reader.now.mode (view c.args.reader.now.value) c.in_ok-rule.rule x c.in_ok-rule.ensures.members c.in_ok-rule.ensures.mode decoded).only)
 
 pub returns-in_err-source-clause-refused : goal.returns-in_err-source-clause-refused
 returns-in_err-source-clause-refused c =
-    handed_on (Tells c.args.reader.now.dialect (view c.args.reader.now.value)) c.from_residual-in_err-source.result c.in_err-source.field-0.0 c.from_residual-in_err-source.ensures.1
-    (λ refusal x told. c.in_err-source.ensures.refused refusal x.source (
-      (inside c.args.reader.now.dialect (view c.args.reader.now.value) c.in_ok-rule.rule x c.in_ok-rule.ensures.members c.in_ok-rule.ensures.dialect told).source,
-      first (compare_texts x.source) (compare_texts x.target) told.1,
-      (few_sides x (inside c.args.reader.now.dialect (view c.args.reader.now.value) c.in_ok-rule.rule x c.in_ok-rule.ensures.members c.in_ok-rule.ensures.dialect told).sound).0,
+    handed_on (Decodes c.args.reader.now.mode (view c.args.reader.now.value)) c.from_residual-in_err-source.result c.in_err-source.field-0.0 c.from_residual-in_err-source.ensures.1
+    (λ refusal x decoded. c.in_err-source.ensures.refused refusal x.source (
+      (inside c.args.reader.now.mode (view c.args.reader.now.value) c.in_ok-rule.rule x c.in_ok-rule.ensures.members c.in_ok-rule.ensures.mode decoded).source,
+      first (compare_texts x.source) (compare_texts x.target) decoded.1,
+      (few_sides x (inside c.args.reader.now.mode (view c.args.reader.now.value) c.in_ok-rule.rule x c.in_ok-rule.ensures.members c.in_ok-rule.ensures.mode decoded).sound).0,
     ))
 
 pub returns-in_err-target-clause-refused : goal.returns-in_err-target-clause-refused
 returns-in_err-target-clause-refused c =
-    handed_on (Tells c.args.reader.now.dialect (view c.args.reader.now.value)) c.from_residual-in_err-target.result c.in_err-target.field-0.0 c.from_residual-in_err-target.ensures.1
-    (λ refusal x told. c.in_err-target.ensures.refused refusal x.target (
-      (inside c.args.reader.now.dialect (view c.args.reader.now.value) c.in_ok-rule.rule x c.in_ok-rule.ensures.members c.in_ok-rule.ensures.dialect told).target,
-      second (compare_texts x.source) (compare_texts x.target) told.1,
-      (few_sides x (inside c.args.reader.now.dialect (view c.args.reader.now.value) c.in_ok-rule.rule x c.in_ok-rule.ensures.members c.in_ok-rule.ensures.dialect told).sound).1,
+    handed_on (Decodes c.args.reader.now.mode (view c.args.reader.now.value)) c.from_residual-in_err-target.result c.in_err-target.field-0.0 c.from_residual-in_err-target.ensures.1
+    (λ refusal x decoded. c.in_err-target.ensures.refused refusal x.target (
+      (inside c.args.reader.now.mode (view c.args.reader.now.value) c.in_ok-rule.rule x c.in_ok-rule.ensures.members c.in_ok-rule.ensures.mode decoded).target,
+      second (compare_texts x.source) (compare_texts x.target) decoded.1,
+      (few_sides x (inside c.args.reader.now.mode (view c.args.reader.now.value) c.in_ok-rule.rule x c.in_ok-rule.ensures.members c.in_ok-rule.ensures.mode decoded).sound).1,
     ))
 
 pub returns-in_err-equal-clause-refused : goal.returns-in_err-equal-clause-refused
 returns-in_err-equal-clause-refused c =
-    handed_on (Tells c.args.reader.now.dialect (view c.args.reader.now.value)) c.from_residual-in_err-equal.result c.in_err-equal.field-0.0 c.from_residual-in_err-equal.ensures.1
-    (λ refusal x told. c.in_err-equal.ensures.refused refusal x.equal ((inside c.args.reader.now.dialect (view c.args.reader.now.value) c.in_ok-rule.rule x c.in_ok-rule.ensures.members c.in_ok-rule.ensures.dialect told).equal, all_sure x.equal))
+    handed_on (Decodes c.args.reader.now.mode (view c.args.reader.now.value)) c.from_residual-in_err-equal.result c.in_err-equal.field-0.0 c.from_residual-in_err-equal.ensures.1
+    (λ refusal x decoded. c.in_err-equal.ensures.refused refusal x.equal ((inside c.args.reader.now.mode (view c.args.reader.now.value) c.in_ok-rule.rule x c.in_ok-rule.ensures.members c.in_ok-rule.ensures.mode decoded).equal, all_sure x.equal))
 
--- a rule that tells too much
+-- a rule that says too much
 pub returns-in-Err-clause-refused : goal.returns-in-Err-clause-refused
-returns-in-Err-clause-refused c refusal x told =
+returns-in-Err-clause-refused c refusal x decoded =
     let o = c.in_ok-rule.rule in
     let members = members_view o.members in
     let rule : RuleData = rule_of c.in_ok-source.source.items c.in_ok-target.target.items c.in_ok-equal.equal.items in
-    let has = inside c.args.reader.now.dialect (view c.args.reader.now.value) o x c.in_ok-rule.ensures.members c.in_ok-rule.ensures.dialect told in
-    let source = one_matchers o.dialect (get_member (codes "source") members) x.source rule.source has.source c.in_ok-source.ensures.told in
-    let target = one_matchers o.dialect (get_member (codes "target") members) x.target rule.target has.target c.in_ok-target.ensures.told in
-    let equal = one_or (IsList IsText) (one_list IsText one_text_of) [] (get_member (codes "equal") members) x.equal rule.equal has.equal c.in_ok-equal.ensures.told in
+    let has = inside c.args.reader.now.mode (view c.args.reader.now.value) o x c.in_ok-rule.ensures.members c.in_ok-rule.ensures.mode decoded in
+    let source = one_matchers o.mode (get_member (codes "source") members) x.source rule.source has.source c.in_ok-source.ensures.decoded in
+    let target = one_matchers o.mode (get_member (codes "target") members) x.target rule.target has.target c.in_ok-target.ensures.decoded in
+    let equal = one_or (IsList IsText) (one_list IsText one_text_of) [] (get_member (codes "equal") members) x.equal rule.equal has.equal c.in_ok-equal.ensures.decoded in
     let same : x ≡ rule = λ i. record { source = source i; target = target i; equal = equal i } in
     unmade (rule_fault rule) rule _ c.in-Err.ensures (subst (λ (r : RuleData). rule_fault r ≡ None) same has.sound)

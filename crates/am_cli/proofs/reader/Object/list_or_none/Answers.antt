@@ -4,7 +4,7 @@ use Rattle.std.specs.Prelude.{IsTrue}
 use Rattle.serde_json.specs.Find.{get_member}
 use Rattle.serde_json.specs.View.{members_view, view}
 use Rattle.am_cli.specs.Decoding.{HasOr, IsList}
-use Rattle.am_cli.specs.declared.reader.Dialect.{Dialect}
+use Rattle.am_cli.specs.declared.reader.Mode.{Mode}
 use Rattle.am_cli.proofs.Decoding.{found, narrowed}
 use Rattle.am_cli.proofs.reader.Object.list_or_none.Goals as goal
 
@@ -14,12 +14,12 @@ returns-in-Some-clause-refused g c =
     let name = c.args.name.now in
     let members = members_view c.args.self.now.members in
     let decodes_to = g.T.FromJson.decodes_to in
-    let There = λ (xs : List g.row.T.Denot). IsList (decodes_to member.dialect) (view member.value) xs × IsTrue (list_all g.T.FromJson.never_refused xs) in
-    let Tells = λ (xs : List g.row.T.Denot). HasOr (IsList (decodes_to c.args.self.now.dialect)) [] name members xs × IsTrue (list_all g.T.FromJson.never_refused xs) in
-    narrowed There Tells
-    (λ xs told. (
-      subst (λ (dialect : Dialect). IsList (decodes_to dialect) (view member.value) xs) (sym c.in-Some.ensures.dialect)
-          (found (xs ≡ []) (λ v. IsList (decodes_to c.args.self.now.dialect) v xs) (view member.value) (get_member name members) c.in-Some.ensures.value told.0),
-      told.1,
+    let There = λ (xs : List g.row.T.Denot). IsList (decodes_to member.mode) (view member.value) xs × IsTrue (list_all g.T.FromJson.never_refused xs) in
+    let Decodes = λ (xs : List g.row.T.Denot). HasOr (IsList (decodes_to c.args.self.now.mode)) [] name members xs × IsTrue (list_all g.T.FromJson.never_refused xs) in
+    narrowed There Decodes
+    (λ xs decoded. (
+      subst (λ (mode : Mode). IsList (decodes_to mode) (view member.value) xs) (sym c.in-Some.ensures.mode)
+          (found (xs ≡ []) (λ v. IsList (decodes_to c.args.self.now.mode) v xs) (view member.value) (get_member name members) c.in-Some.ensures.value decoded.0),
+      decoded.1,
     ))
     c.list.result c.list.ensures.refused

@@ -40,12 +40,12 @@ returns-in_err-text-clause-refused c =
     let e : Entry = (c.in-Some.name.now, c.in-Some.value.now) in
     let left = c.next.new.self in
     let all : c.args.self.now.members ≡ done ++ e ∷ left = l.invariant.1 ∙ ap (λ es. done ++ es) c.in-Some.ensures.steps in
-    let Tells = λ (ts : List (Bor (List ℕ) × Bor (List ℕ))). members_view c.args.self.now.members ≡ text_members ts in
-    handed_on Tells c.from_residual.result c.in_err-text.field-0.0 c.from_residual.ensures.1
-    (λ refusal ts told. texts_at done left e ts (sym (ap members_view all) ∙ told)
+    let Decodes = λ (ts : List (Bor (List ℕ) × Bor (List ℕ))). members_view c.args.self.now.members ≡ text_members ts in
+    handed_on Decodes c.from_residual.result c.in_err-text.field-0.0 c.from_residual.ensures.1
+    (λ refusal ts decoded. texts_at done left e ts (sym (ap members_view all) ∙ decoded)
     (sym (c.in_err-text.ensures.text ∙ ap (λ v. as_str (view v)) c.member-member.ensures.value)))
 
 pub returns-in_err-push-clause-refused : goal.returns-in_err-push-clause-refused
 returns-in_err-push-clause-refused c =
-    let Tells = λ (ts : List (Bor (List ℕ) × Bor (List ℕ))). members_view c.args.self.now.members ≡ text_members ts in
-    starved Tells c.from_residual-in_err-push.result c.from_residual-in_err-push.ensures.1
+    let Decodes = λ (ts : List (Bor (List ℕ) × Bor (List ℕ))). members_view c.args.self.now.members ≡ text_members ts in
+    starved Decodes c.from_residual-in_err-push.result c.from_residual-in_err-push.ensures.1

@@ -6,14 +6,14 @@ use Rattle.serde_json.specs.Find.{as_array}
 use Rattle.serde_json.specs.View.{items_view, view}
 use Rattle.serde_json.specs.declared.value.Value.{Value}
 use Rattle.am_cli.specs.Decoding.{DecodeEach, IsList}
-use Rattle.am_cli.specs.declared.reader.Dialect.{Dialect}
+use Rattle.am_cli.specs.declared.reader.Mode.{Mode}
 use Rattle.am_cli.proofs.Decoding.{handed_on, missing, starved}
-use Rattle.am_cli.proofs.Members.{has_all, tell_more, told_list}
+use Rattle.am_cli.proofs.Members.{has_all, decode_more, decoded_list}
 use Rattle.am_cli.proofs.reader.Reader.list.Goals as goal
 
 pub loop-index-preserved : goal.loop-index-preserved
 loop-index-preserved g c =
-    let decodes_to = g.T.FromJson.decodes_to c.args.self.now.dialect in
+    let decodes_to = g.T.FromJson.decodes_to c.args.self.now.mode in
     let values = c.in_ok-values.values.now in
     let i = c.loop-index.index in
     let value = c.index-values-index.result in
@@ -23,12 +23,12 @@ loop-index-preserved g c =
     take_more values i value here ∙ ap (λ (v : Value). take i values ++ v ∷ []) (sym c.index-values-index.is) in
     let read : decodes_to (view value) x =
     subst (λ (v : Value). decodes_to (view v) x) c.item.ensures.value
-    (subst (λ dialect. g.T.FromJson.decodes_to dialect (view c.item.result.value) x) c.item.ensures.dialect c.in_ok-read.ensures.told) in
-    let more = tell_more decodes_to (take i values) c.loop-index.items.items value x c.loop-index.invariant.told read in
+    (subst (λ mode. g.T.FromJson.decodes_to mode (view c.item.result.value) x) c.item.ensures.mode c.in_ok-read.ensures.decoded) in
+    let more = decode_more decodes_to (take i values) c.loop-index.items.items value x c.loop-index.invariant.decoded read in
     let pushed = c.in_ok-push.ensures.items in
     record {
       count = omega (arith, c.in_ok-push.ensures.len, c.loop-index.invariant.count);
-      told = subst (λ xs. DecodeEach decodes_to (items_view (take (i + 1) values)) xs) (sym pushed)
+      decoded = subst (λ xs. DecodeEach decodes_to (items_view (take (i + 1) values)) xs) (sym pushed)
           (subst (λ (vs : List Value). DecodeEach decodes_to (items_view vs) (c.loop-index.items.items ++ x ∷ [])) (sym taken) more);
     }
 
@@ -40,33 +40,33 @@ returns-clause-count g c =
 
 pub returns-in_err-values-clause-refused : goal.returns-in_err-values-clause-refused
 returns-in_err-values-clause-refused g c =
-    let decodes_to = g.T.FromJson.decodes_to c.args.self.now.dialect in
+    let decodes_to = g.T.FromJson.decodes_to c.args.self.now.mode in
     let array = as_array (view c.args.self.now.value) in
-    let Tells = λ (xs : List g.row.T.Denot). IsList decodes_to (view c.args.self.now.value) xs × IsTrue (list_all g.T.FromJson.never_refused xs) in
-    handed_on Tells c.from_residual.result c.in_err-values.field-0.0 c.from_residual.ensures.1
-    (λ refusal xs told. missing (λ items. DecodeEach decodes_to items xs) array c.in_err-values.ensures.items told.0)
+    let Decodes = λ (xs : List g.row.T.Denot). IsList decodes_to (view c.args.self.now.value) xs × IsTrue (list_all g.T.FromJson.never_refused xs) in
+    handed_on Decodes c.from_residual.result c.in_err-values.field-0.0 c.from_residual.ensures.1
+    (λ refusal xs decoded. missing (λ items. DecodeEach decodes_to items xs) array c.in_err-values.ensures.items decoded.0)
 
--- an item that tells nothing that is sure to be read
+-- an item that says nothing that is sure to be read
 pub returns-in_err-read-clause-refused : goal.returns-in_err-read-clause-refused
 returns-in_err-read-clause-refused g c =
-    let decodes_to = g.T.FromJson.decodes_to c.args.self.now.dialect in
+    let decodes_to = g.T.FromJson.decodes_to c.args.self.now.mode in
     let array = as_array (view c.args.self.now.value) in
     let values = c.in_ok-values.values.now in
     let i = c.loop-index.index in
     let value = c.index-values-index.result in
     let here : i < length values = omega arith in
-    let Tells = λ (xs : List g.row.T.Denot). IsList decodes_to (view c.args.self.now.value) xs × IsTrue (list_all g.T.FromJson.never_refused xs) in
-    handed_on Tells c.from_residual-in_err-read.result c.in_err-read.field-0.0 c.from_residual-in_err-read.ensures.1
-    (λ refusal xs told.
-    let at = told_list decodes_to g.T.FromJson.never_refused array values xs i value c.in_ok-values.ensures.items here c.index-values-index.is told.0 told.1 in
+    let Decodes = λ (xs : List g.row.T.Denot). IsList decodes_to (view c.args.self.now.value) xs × IsTrue (list_all g.T.FromJson.never_refused xs) in
+    handed_on Decodes c.from_residual-in_err-read.result c.in_err-read.field-0.0 c.from_residual-in_err-read.ensures.1
+    (λ refusal xs decoded.
+    let at = decoded_list decodes_to g.T.FromJson.never_refused array values xs i value c.in_ok-values.ensures.items here c.index-values-index.is decoded.0 decoded.1 in
     c.in_err-read.ensures.refused refusal at.0 (
-      subst (λ (dialect : Dialect). g.T.FromJson.decodes_to dialect (view c.item.result.value) at.0) (sym c.item.ensures.dialect)
+      subst (λ (mode : Mode). g.T.FromJson.decodes_to mode (view c.item.result.value) at.0) (sym c.item.ensures.mode)
           (subst (λ (v : Value). decodes_to (view v) at.0) (sym c.item.ensures.value) at.1),
       at.2,
     ))
 
 pub returns-in_err-push-clause-refused : goal.returns-in_err-push-clause-refused
 returns-in_err-push-clause-refused g c =
-    let decodes_to = g.T.FromJson.decodes_to c.args.self.now.dialect in
-    let Tells = λ (xs : List g.row.T.Denot). IsList decodes_to (view c.args.self.now.value) xs × IsTrue (list_all g.T.FromJson.never_refused xs) in
-    starved Tells c.from_residual-in_err-push.result c.from_residual-in_err-push.ensures.1
+    let decodes_to = g.T.FromJson.decodes_to c.args.self.now.mode in
+    let Decodes = λ (xs : List g.row.T.Denot). IsList decodes_to (view c.args.self.now.value) xs × IsTrue (list_all g.T.FromJson.never_refused xs) in
+    starved Decodes c.from_residual-in_err-push.result c.from_residual-in_err-push.ensures.1

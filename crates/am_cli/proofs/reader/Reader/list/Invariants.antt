@@ -3,9 +3,9 @@ use Rattle.serde_json.specs.View.{items_view}
 use Rattle.am_cli.specs.Decoding.{DecodeEach}
 use Rattle.am_cli.proofs.reader.Reader.list.Given as goal
 
--- as many items as values so far, and what these tell
+-- as many items as values so far, and what these say
 abbrev pub invariant-loop-index : goal.invariant-loop-index
 invariant-loop-index g l = record {
   count : vec_len l.items ≡ l.index;
-  told : DecodeEach (g.T.FromJson.decodes_to l.self.dialect) (items_view (take l.index l.values)) l.items.items;
+  decoded : DecodeEach (g.T.FromJson.decodes_to l.self.mode) (items_view (take l.index l.values)) l.items.items;
 }

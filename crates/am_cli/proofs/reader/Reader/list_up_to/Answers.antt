@@ -2,15 +2,15 @@ use Rattle.std.proofs.Common.{◌≤◌, length, vec_len, arith}
 use Rattle.std.proofs.lemmas.Result.{IfOk-weaker}
 use Rattle.serde_json.specs.Find.{as_array}
 use Rattle.serde_json.specs.View.{view}
-use Rattle.am_cli.proofs.Members.{counted, told_values}
+use Rattle.am_cli.proofs.Members.{counted, decoded_values}
 use Rattle.am_cli.proofs.reader.Reader.list_up_to.Goals as goal
 
--- a list that tells more than so many
+-- a list that says more than so many
 pub returns-then-branch-most-clause-refused : goal.returns-then-branch-most-clause-refused
-returns-then-branch-most-clause-refused g c = λ refusal xs told.
-    let decodes_to = g.T.FromJson.decodes_to c.args.self.now.dialect in
-    let count = told_values decodes_to (as_array (view c.args.self.now.value)) c.in_ok-array.field-0.now xs c.in_ok-array.ensures.items told.0 in
-    absurd (omega (arith, count, told.2))
+returns-then-branch-most-clause-refused g c = λ refusal xs decoded.
+    let decodes_to = g.T.FromJson.decodes_to c.args.self.now.mode in
+    let count = decoded_values decodes_to (as_array (view c.args.self.now.value)) c.in_ok-array.field-0.now xs c.in_ok-array.ensures.items decoded.0 in
+    absurd (omega (arith, count, decoded.2))
 
 pub returns-clause-bound : goal.returns-clause-bound
 returns-clause-bound g c =

@@ -9,7 +9,7 @@ pub returns-in_err-text-clause-refused : goal.returns-in_err-text-clause-refused
 returns-in_err-text-clause-refused c =
     let value = view c.args.reader.now.value in
     handed_on (λ text. IsText value text × IsTrue true) c.from_residual.result c.in_err-text.field-0.0 c.from_residual.ensures.1
-    (λ refusal text told. no_text value text c.in_err-text.ensures.text told.0)
+    (λ refusal text decoded. no_text value text c.in_err-text.ensures.text decoded.0)
 
 pub returns-in_err-new-clause-refused : goal.returns-in_err-new-clause-refused
 returns-in_err-new-clause-refused c =

@@ -9,24 +9,24 @@ use Rattle.am_cli.proofs.route.Options.read.Goals as goal
 pub returns-in_err-receiver-clause-refused : goal.returns-in_err-receiver-clause-refused
 returns-in_err-receiver-clause-refused c =
     handed_on (DecodesToOptions (members_view c.args.route.now.members)) c.from_residual.result c.in_err-receiver.field-0.0 c.from_residual.ensures.1
-    (λ refusal x told. c.in_err-receiver.ensures.refused refusal x.receiver told.receiver)
+    (λ refusal x decoded. c.in_err-receiver.ensures.refused refusal x.receiver decoded.receiver)
 
 pub returns-in_err-group_by-clause-refused : goal.returns-in_err-group_by-clause-refused
 returns-in_err-group_by-clause-refused c =
     handed_on (DecodesToOptions (members_view c.args.route.now.members)) c.from_residual-in_err-group_by.result c.in_err-group_by.field-0.0 c.from_residual-in_err-group_by.ensures.1
-    (λ refusal x told. c.in_err-group_by.ensures.refused refusal x.group_by told.group_by)
+    (λ refusal x decoded. c.in_err-group_by.ensures.refused refusal x.group_by decoded.group_by)
 
 pub returns-in_err-group_wait-clause-refused : goal.returns-in_err-group_wait-clause-refused
 returns-in_err-group_wait-clause-refused c =
     handed_on (DecodesToOptions (members_view c.args.route.now.members)) c.from_residual-in_err-group_wait.result c.in_err-group_wait.field-0.0 c.from_residual-in_err-group_wait.ensures.1
-    (λ refusal x told. refused_or duration_in 30000 x.group_wait (get_member (codes "group_wait") (members_view c.args.route.now.members)) c.in_err-group_wait.field-0.0 c.in_err-group_wait.ensures told.group_wait)
+    (λ refusal x decoded. refused_or duration_in 30000 x.group_wait (get_member (codes "group_wait") (members_view c.args.route.now.members)) c.in_err-group_wait.field-0.0 c.in_err-group_wait.ensures decoded.group_wait)
 
 pub returns-in_err-group_interval-clause-refused : goal.returns-in_err-group_interval-clause-refused
 returns-in_err-group_interval-clause-refused c =
     handed_on (DecodesToOptions (members_view c.args.route.now.members)) c.from_residual-in_err-group_interval.result c.in_err-group_interval.field-0.0 c.from_residual-in_err-group_interval.ensures.1
-    (λ refusal x told. refused_or interval_in 300000 x.group_interval (get_member (codes "group_interval") (members_view c.args.route.now.members)) c.in_err-group_interval.field-0.0 c.in_err-group_interval.ensures.value told.group_interval)
+    (λ refusal x decoded. refused_or interval_in 300000 x.group_interval (get_member (codes "group_interval") (members_view c.args.route.now.members)) c.in_err-group_interval.field-0.0 c.in_err-group_interval.ensures.value decoded.group_interval)
 
 pub returns-in_err-repeat_interval-clause-refused : goal.returns-in_err-repeat_interval-clause-refused
 returns-in_err-repeat_interval-clause-refused c =
     handed_on (DecodesToOptions (members_view c.args.route.now.members)) c.from_residual-in_err-repeat_interval.result c.in_err-repeat_interval.field-0.0 c.from_residual-in_err-repeat_interval.ensures.1
-    (λ refusal x told. refused_or interval_in 14400000 x.repeat_interval (get_member (codes "repeat_interval") (members_view c.args.route.now.members)) c.in_err-repeat_interval.field-0.0 c.in_err-repeat_interval.ensures.value told.repeat_interval)
+    (λ refusal x decoded. refused_or interval_in 14400000 x.repeat_interval (get_member (codes "repeat_interval") (members_view c.args.route.now.members)) c.in_err-repeat_interval.field-0.0 c.in_err-repeat_interval.ensures.value decoded.repeat_interval)

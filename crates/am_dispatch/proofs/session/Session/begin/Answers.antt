@@ -9,10 +9,10 @@ use Rattle.am_dispatch.proofs.session.Session.begin.Goals as goal
 pub keep-requires-clause-fresh : goal.keep-requires-clause-fresh
 keep-requires-clause-fresh c = fresh_here _ _ c.args.self.now.ours c.in-Ok.ensures.fresh
 
-pub returns-in-Ok-clause-told : goal.returns-in-Ok-clause-told
-returns-in-Ok-clause-told c =
+pub returns-in-Ok-clause-answered : goal.returns-in-Ok-clause-answered
+returns-in-Ok-clause-answered c =
     begins _ _ _ _ _ _ _ _ _ c.in-Ok.ensures.reply c.in-Ok.ensures.recorded (fresh_here _ _ c.args.self.now.ours c.in-Ok.ensures.fresh)
-    c.reserve.ensures.items c.keep.ensures.board c.keep.ensures.tickets c.keep.ensures.told
+    c.reserve.ensures.items c.keep.ensures.board c.keep.ensures.tickets c.keep.ensures.answered
 
 pub returns-in-Ok-clause-refused : goal.returns-in-Ok-clause-refused
 returns-in-Ok-clause-refused c =

@@ -4,24 +4,24 @@ use Rattle.am_dispatch.proofs.Leaving.{lacks_ticket, made_all, not_open_leaves}
 use Rattle.am_dispatch.proofs.Making.{finishes, first_ticket, held_there, made}
 use Rattle.am_dispatch.proofs.session.Session.finish.Goals as goal
 
-pub returns-in-Ok-clause-told : goal.returns-in-Ok-clause-told
-returns-in-Ok-clause-told c =
+pub returns-in-Ok-clause-answered : goal.returns-in-Ok-clause-answered
+returns-in-Ok-clause-answered c =
     finishes _ _ _ _ _ _ _ _
     (first_ticket _ _ _ _ _ c.as_slice.ensures.value c.in-Some.ensures.first
     (held_there _ _ _ _ c.as_slice.ensures.value c.in-Some.ensures.within c.remove-own.ensures.value)) c.remove-own.ensures.items
-    (made _ _ _ _ _ _ _ c.in-Ok.ensures.reply c.in-Ok.ensures.recorded c.tell.ensures.told)
+    (made _ _ _ _ _ _ _ c.in-Ok.ensures.reply c.in-Ok.ensures.recorded c.answer_with.ensures.answered)
 
 pub returns-in-Ok-clause-refused : goal.returns-in-Ok-clause-refused
 returns-in-Ok-clause-refused c =
     let at = first_ticket _ _ _ _ _ c.as_slice.ensures.value c.in-Some.ensures.first
     (held_there _ _ _ _ c.as_slice.ensures.value c.in-Some.ensures.within c.remove-own.ensures.value) in
     made_all _ _ _ (Finish c.args.finishing) _ _
-    (λ _ makes. record { place = _; ticket = _; at = at; makes = makes; tickets = c.remove-own.ensures.items }) (λ e. absurd (cc))
-    c.in-Ok.ensures.reply c.in-Ok.ensures.recorded c.tell.ensures.untold
+    (λ _ makes. record { index = _; ticket = _; at = at; makes = makes; tickets = c.remove-own.ensures.items }) (λ e. absurd (cc))
+    c.in-Ok.ensures.reply c.in-Ok.ensures.recorded c.answer_with.ensures.untold
 
 pub returns-in-Err-clause-refused : goal.returns-in-Err-clause-refused
 returns-in-Err-clause-refused c = record {
-  place = _;
+  index = _;
   ticket = _;
   at = first_ticket _ _ _ _ _ c.as_slice.ensures.value c.in-Some.ensures.first
       (held_there _ _ _ _ c.as_slice.ensures.value c.in-Some.ensures.within c.remove-own.ensures.value);

@@ -5,18 +5,18 @@ use Rattle.am_dispatch.proofs.Leaving.{lacks_row, load_unmade, made_all, row_fou
 use Rattle.am_dispatch.proofs.Making.{loads, made}
 use Rattle.am_dispatch.proofs.session.Session.load.Goals as goal
 
-pub returns-in-Ok-clause-told : goal.returns-in-Ok-clause-told
-returns-in-Ok-clause-told c =
+pub returns-in-Ok-clause-answered : goal.returns-in-Ok-clause-answered
+returns-in-Ok-clause-answered c =
     loads _ _ _ _ _ _ _
     (row_found c.args.self.now c.args.loading _ _ _ c.config.ensures.config c.in_ok-row.ensures c.in-Some.is)
-    (made _ _ _ _ _ _ _ c.in-Ok.ensures.reply c.in-Ok.ensures.recorded c.tell.ensures.told)
+    (made _ _ _ _ _ _ _ c.in-Ok.ensures.reply c.in-Ok.ensures.recorded c.answer_with.ensures.answered)
 
 pub returns-in-Ok-clause-refused : goal.returns-in-Ok-clause-refused
 returns-in-Ok-clause-refused c =
     let is = row_found c.args.self.now c.args.loading _ _ _ c.config.ensures.config c.in_ok-row.ensures c.in-Some.is in
     made_all _ c.args.self.now _ (Load c.args.loading) _ _
     (λ tokens makes. (loads {T = ℕ} {E = ℕ} (Ok 0) _ _ c.args.loading _ [] tokens is makes, refl)) (λ e. absurd (cc))
-    c.in-Ok.ensures.reply c.in-Ok.ensures.recorded c.tell.ensures.untold
+    c.in-Ok.ensures.reply c.in-Ok.ensures.recorded c.answer_with.ensures.untold
 
 pub returns-in-Err-clause-refused : goal.returns-in-Err-clause-refused
 returns-in-Err-clause-refused c =
@@ -26,7 +26,7 @@ returns-in-Err-clause-refused c =
       named = row_found c.args.self.now c.args.loading _ _ _ c.config.ensures.config c.in_ok-row.ensures c.in-Some.is;
       answer = _;
       is = c.in-Err.ensures.cause;
-      told = c.of_load-in-Err.ensures;
+      answered = c.of_load-in-Err.ensures;
     }))
     (c.in-Err.ensures.refused, refl)
 

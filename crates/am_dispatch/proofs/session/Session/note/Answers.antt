@@ -7,17 +7,17 @@ use Rattle.am_dispatch.proofs.Leaving.{lacks_ticket, not_open_leaves, note_refus
 use Rattle.am_dispatch.proofs.Making.{first_ticket, held_there, notes}
 use Rattle.am_dispatch.proofs.session.Session.note.Goals as goal
 
-pub returns-in-Ok-clause-told : goal.returns-in-Ok-clause-told
-returns-in-Ok-clause-told c =
+pub returns-in-Ok-clause-answered : goal.returns-in-Ok-clause-answered
+returns-in-Ok-clause-answered c =
     notes _ _ _ _ _ _ _ _ _ _
     (first_ticket _ _ _ _ _ c.as_slice.ensures.value c.in-Some.ensures.first
-    (held_there _ _ _ _ c.as_slice.ensures.value c.in-Some.ensures.within c.index-own.ensures)) c.in-Some-find_notice.ensures c.ticket.ensures.ticket c.in-Ok.ensures.noted c.tell.ensures.told
+    (held_there _ _ _ _ c.as_slice.ensures.value c.in-Some.ensures.within c.index-own.ensures)) c.in-Some-find_notice.ensures c.ticket.ensures.ticket c.in-Ok.ensures.noted c.answer_with.ensures.answered
 
 pub returns-in-Ok-clause-refused : goal.returns-in-Ok-clause-refused
 returns-in-Ok-clause-refused c =
     let at = first_ticket _ _ _ _ _ c.as_slice.ensures.value c.in-Some.ensures.first
     (held_there _ _ _ _ c.as_slice.ensures.value c.in-Some.ensures.within c.index-own.ensures) in
-    untold_all _ _ _ (Note c.args.noting) c.tell.ensures.untold (λ e. absurd (cc)) (
+    untold_all _ _ _ (Note c.args.noting) c.answer_with.ensures.untold (λ e. absurd (cc)) (
       reply_tokens c.note.new.self.config Noted,
       (notes {T = ℕ} {E = ℕ} (Ok 0) _ _ _ [] (reply_tokens c.note.new.self.config Noted) _ _ _ _ at c.in-Some-find_notice.ensures c.ticket.ensures.ticket c.in-Ok.ensures.noted refl, refl),
     )
@@ -41,10 +41,10 @@ returns-in_default-find_notice-clause-refused c =
     (held_there _ _ _ _ c.as_slice.ensures.value c.in-Some.ensures.within c.index-own.ensures) in
     unmade_leaves _ c.args.self.now _ (Note c.args.noting) (note_unmade NotReady _ c.of_note.ensures)
     (inr (inl record {
-      place = _;
+      index = _;
       ticket = _;
       at = at;
       none = sym (sym c.in_default-find_notice.is ∙ c.find_notice.ensures);
-      told = c.of_note.ensures;
+      answered = c.of_note.ensures;
     }))
     (refl, refl)

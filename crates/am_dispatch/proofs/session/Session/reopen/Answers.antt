@@ -6,22 +6,22 @@ use Rattle.am_dispatch.proofs.Leaving.{unopened_passed, untold_all}
 use Rattle.am_dispatch.proofs.Making.{opens}
 use Rattle.am_dispatch.proofs.session.Session.reopen.Goals as goal
 
-pub returns-clause-told : goal.returns-clause-told
-returns-clause-told c =
+pub returns-clause-answered : goal.returns-clause-answered
+returns-clause-answered c =
     let none : c.replace.new.dest.items ≡ [] = rw c.replace.ensures.after c.new.ensures.items in
-    opens c.told.result c.write_opened.result c.put.new.place c.replace.new.dest.items c.args.asked c.args.answer.now c.write_opened.new.answer c.told.ensures.ok
+    opens c.answered.result c.write_opened.result c.put.new.index c.replace.new.dest.items c.args.requested c.args.answer.now c.write_opened.new.answer c.answered.ensures.ok
     (c.put.ensures ∙ c.in_ok-board.ensures.board) none c.write_opened.ensures
 
 pub returns-clause-refused : goal.returns-clause-refused
 returns-clause-refused c =
     let none : c.replace.new.dest.items ≡ [] = rw c.replace.ensures.after c.new.ensures.items in
     untold_all _ c.args.self.now (record {
-      board = c.put.new.place;
+      board = c.put.new.index;
       tickets = c.replace.new.dest;
       seed = c.args.self.now.seed;
       ours = ap (λ (b : BoardData). b.id) (c.put.ensures ∙ c.in_ok-board.ensures.board);
-    }) (Open c.args.asked) c.told.ensures.err (λ e. absurd (cc)) (opened_tokens c.args.asked.ignored, (c.put.ensures ∙ c.in_ok-board.ensures.board, none, refl))
+    }) (Open c.args.requested) c.answered.ensures.err (λ e. absurd (cc)) (opened_tokens c.args.requested.ignored, (c.put.ensures ∙ c.in_ok-board.ensures.board, none, refl))
 
 pub returns-in_err-board-clause-refused : goal.returns-in_err-board-clause-refused
 returns-in_err-board-clause-refused c =
-    unopened_passed _ _ c.args.self.now c.args.asked c.from_residual.ensures.1 c.in_err-board.ensures.refused
+    unopened_passed _ _ c.args.self.now c.args.requested c.from_residual.ensures.1 c.in_err-board.ensures.refused

@@ -2,17 +2,17 @@ use Rattle.std.proofs.Common.{◌∙◌, [], inl, inr, ℕ, Ok, codes, refl, sym
 use Rattle.am_lines.specs.Reply.{named}
 use Rattle.am_lines.specs.declared.request.Request.TheVariants.{Report}
 use Rattle.am_dispatch.proofs.Leaving.{lacks_ticket, not_open_leaves, report_refused, report_unmade, unmade_leaves, untold_all}
-use Rattle.am_dispatch.proofs.Making.{reports, told_ok}
+use Rattle.am_dispatch.proofs.Making.{reports, answered_ok}
 use Rattle.am_dispatch.proofs.session.Session.report.Goals as goal
 
-pub returns-in-Ok-clause-told : goal.returns-in-Ok-clause-told
-returns-in-Ok-clause-told c =
+pub returns-in-Ok-clause-answered : goal.returns-in-Ok-clause-answered
+returns-in-Ok-clause-answered c =
     reports _ _ _ _ _ _ _ _ c.as_slice.ensures.value c.in-Some.ensures.first c.in-Ok.ensures.ok
-    (told_ok _ _ _ c.told.ensures.ok c.write_named.ensures)
+    (answered_ok _ _ _ c.answered.ensures.ok c.write_named.ensures)
 
 pub returns-in-Ok-clause-refused : goal.returns-in-Ok-clause-refused
 returns-in-Ok-clause-refused c =
-    untold_all _ _ _ (Report c.args.reporting) c.told.ensures.err (λ e. absurd (cc)) (
+    untold_all _ _ _ (Report c.args.reporting) c.answered.ensures.err (λ e. absurd (cc)) (
       named (codes "reported") [],
       (reports {T = ℕ} {E = ℕ} (Ok 0) _ _ _ [] (named (codes "reported") []) _ _ c.as_slice.ensures.value c.in-Some.ensures.first c.in-Ok.ensures.ok refl, refl),
     )

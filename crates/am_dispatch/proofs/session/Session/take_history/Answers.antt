@@ -4,8 +4,8 @@ use Rattle.am_dispatch.proofs.Leaving.{untaken}
 use Rattle.am_dispatch.proofs.Making.{handed_follow, handed_legal}
 use Rattle.am_dispatch.proofs.session.Session.take_history.Goals as goal
 
-pub returns-in-Ok-clause-told : goal.returns-in-Ok-clause-told
-returns-in-Ok-clause-told c = (
+pub returns-in-Ok-clause-answered : goal.returns-in-Ok-clause-answered
+returns-in-Ok-clause-answered c = (
   record {
     board = c.in-Ok.ensures.after;
     follow = handed_follow c.args.self.now.board _ c.in-Ok.ensures.after c.in_ok-line.ensures.follow;

@@ -2,18 +2,18 @@ use Rattle.std.proofs.Common.{codes, subst, sym}
 use Rattle.serde_json.specs.View.{members_view}
 use Rattle.am_cli.specs.Configured.{DecodesToLabels}
 use Rattle.am_cli.specs.Decoding.{Has}
-use Rattle.am_cli.specs.declared.reader.Dialect.{Dialect}
+use Rattle.am_cli.specs.declared.reader.Mode.{Mode}
 use Rattle.am_lines.proofs.request.InsertionFromJson.read.Goals as goal
 
-pub returns-clause-told : goal.returns-clause-told
-returns-clause-told c =
+pub returns-clause-decoded : goal.returns-clause-decoded
+returns-clause-decoded c =
     let members = members_view c.in_ok-call.call.members in
     record {
       members = members;
       object = sym c.in_ok-call.ensures.members;
       now = c.in_ok-now.ensures;
       labels = c.in_ok-labels.labels;
-      has_labels = subst (λ (m : Dialect). Has (DecodesToLabels m) (codes "labels") members c.in_ok-labels.labels) c.in_ok-call.ensures.dialect c.in_ok-labels.ensures;
+      has_labels = subst (λ (m : Mode). Has (DecodesToLabels m) (codes "labels") members c.in_ok-labels.labels) c.in_ok-call.ensures.mode c.in_ok-labels.ensures;
       starts = c.in_ok-starts.starts;
       has_starts = c.in_ok-starts.ensures;
       ends = c.in_ok-ends.ends;

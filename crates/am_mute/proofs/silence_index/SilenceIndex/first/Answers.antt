@@ -1,7 +1,7 @@
 use Rattle.std.proofs.Common.{◌≡◌, length, subst, arith}
 use Rattle.std.proofs.lemmas.Result.{IfOk-weaker}
 use Rattle.am_mute.specs.SilenceIndex.{IsFirst}
-use Rattle.am_mute.proofs.AskedLabels.{IsUnder}
+use Rattle.am_mute.proofs.RequiredLabels.{IsUnder}
 use Rattle.am_mute.proofs.FirstSilences.{first_of_all}
 use Rattle.am_mute.proofs.silence_index.SilenceIndex.first.Goals as goal
 

@@ -1,6 +1,6 @@
 use Rattle.std.proofs.Common.{length}
 use Rattle.am_mute.specs.SilenceIndex.{IsFirst}
-use Rattle.am_mute.proofs.AskedLabels.{IsUnder}
+use Rattle.am_mute.proofs.RequiredLabels.{IsUnder}
 use Rattle.am_mute.proofs.silence_index.SilenceIndex.first.Given as goal
 
 -- the first of those that are found by one of the labels so far

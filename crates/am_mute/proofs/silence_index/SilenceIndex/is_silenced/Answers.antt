@@ -2,7 +2,7 @@ use Rattle.std.proofs.Common.{ap, ◌∙◌, arith}
 use Rattle.std.proofs.lemmas.List.{take_rest}
 use Rattle.std.proofs.lemmas.Result.{IfOk-weaker}
 use Rattle.am_mute.specs.Silence.{is_silenced}
-use Rattle.am_mute.proofs.AskedLabels.{rest_compares, rest_decides}
+use Rattle.am_mute.proofs.RequiredLabels.{rest_compares, rest_decides}
 use Rattle.am_mute.proofs.silence_index.SilenceIndex.is_silenced.Goals as goal
 
 pub returns-clause-value : goal.returns-clause-value

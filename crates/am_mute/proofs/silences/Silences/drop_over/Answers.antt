@@ -21,5 +21,5 @@ returns-clause-count c =
     let parts : length (filter (is_over c.args.t) all) + length (filter (λ s. not (is_over c.args.t s)) all) ≡ length all =
     length-filter_both (is_over c.args.t) (λ s. not (is_over c.args.t s)) (λ s. refl) all in
     let gone = length-filter (is_over c.args.t) all in
-    let told = ap (λ (s : SilenceList). count_by (is_over c.args.t) s.items) c.self.view_is in
-    omega (arith, left, parts, gone, told)
+    let fact = ap (λ (s : SilenceList). count_by (is_over c.args.t) s.items) c.self.view_is in
+    omega (arith, left, parts, gone, fact)

@@ -8,19 +8,19 @@ use Rattle.am_mute.proofs.Learning.{grows_none, grows_twice, has_next, has_none,
 use Rattle.am_mute.proofs.sources.Sources.learn_by.Goals as goal
 use Rattle.am_mute.proofs.sources.Sources.learn_by.Goals.{then-branch+in_ok-is_one_sided+in_ok-put, else-branch}
 
-pub loop-place-preserved : goal.loop-place-preserved
-loop-place-preserved c =
+pub loop-index-preserved : goal.loop-index-preserved
+loop-index-preserved c =
     let number = c.args.number in
     let rule = c.args.rule.now in
     let known = c.args.known.now in
-    let place = c.loop-place.place in
+    let index = c.loop-index.index in
     let first = c.args.self.now in
-    let old = c.loop-place.self in
-    let alert = c.index-known-place.result in
+    let old = c.loop-index.self in
+    let alert = c.index-known-index.result in
     let labels = c.labels-labels.result.now in
     let labelled : labels ≡ alert.labels = c.labels-labels.ensures.labels in
-    let source = c.all_match.ensures.kept ∙ c.loop-place.invariant.0 in
-    let told = c.in_ok-all_match.ensures.value ∙ ap (λ (ms : List MatcherParts). match_all ms labels) c.loop-place.invariant.0 in
+    let source = c.all_match.ensures.kept ∙ c.loop-index.invariant.0 in
+    let fact = c.in_ok-all_match.ensures.value ∙ ap (λ (ms : List MatcherParts). match_all ms labels) c.loop-index.invariant.0 in
     elim c.if-branch.branch [
       | then-branch+in_ok-is_one_sided+in_ok-put w ↦
           let new = w.put.new.self in
@@ -31,24 +31,24 @@ loop-place-preserved c =
           ∙ (ap (λ (s : SourceIndex). values_hash s.seed rule.equal labels) w.self-then-branch.view_is
           ∙ ap (λ seed. values_hash seed rule.equal labels) (sym grows.seed))) in
           let two = w.in_ok-is_one_sided.ensures.value
-          ∙ ap (λ (ms : List MatcherParts). match_all ms labels) c.loop-place.invariant.1 in
-          let next = has_source number rule place labels new w.values_hash.result hashed w.in_ok-put.ensures.all
+          ∙ ap (λ (ms : List MatcherParts). match_all ms labels) c.loop-index.invariant.1 in
+          let next = has_source number rule index labels new w.values_hash.result hashed w.in_ok-put.ensures.all
           w.in_ok-is_one_sided.field-0 two w.in_ok-put.ensures.one_sided in (
             source,
-            w.target-is ∙ (w.all_match-then-branch.ensures.kept ∙ c.loop-place.invariant.1),
-            subst (Grows first) (sym w.self-is) (grows_twice first old new c.loop-place.invariant.2 grows),
-            subst (HasKeysFrom number rule known first.learnt (place + 1)) (sym w.self-is)
-                (has_next number rule known first.learnt place old new grows c.loop-place.invariant.3 c.loop-place-test.true alert
-                c.index-known-place.is (subst (λ ls. HasKeys number rule place ls new) labelled next)),
+            w.target-is ∙ (w.all_match-then-branch.ensures.kept ∙ c.loop-index.invariant.1),
+            subst (Grows first) (sym w.self-is) (grows_twice first old new c.loop-index.invariant.2 grows),
+            subst (HasKeysFrom number rule known first.learnt (index + 1)) (sym w.self-is)
+                (has_next number rule known first.learnt index old new grows c.loop-index.invariant.3 c.loop-index-test.true alert
+                c.index-known-index.is (subst (λ ls. HasKeys number rule index ls new) labelled next)),
           )
       | else-branch w ↦
-          let next = has_none number rule place labels old (sym told ∙ w.if-branch.false) in (
+          let next = has_none number rule index labels old (sym fact ∙ w.if-branch.false) in (
             source,
-            w.target-is ∙ c.loop-place.invariant.1,
-            subst (Grows first) (sym w.self-is) c.loop-place.invariant.2,
-            subst (HasKeysFrom number rule known first.learnt (place + 1)) (sym w.self-is)
-                (has_next number rule known first.learnt place old old (grows_none old) c.loop-place.invariant.3
-                c.loop-place-test.true alert c.index-known-place.is
-                (subst (λ ls. HasKeys number rule place ls old) labelled next)),
+            w.target-is ∙ c.loop-index.invariant.1,
+            subst (Grows first) (sym w.self-is) c.loop-index.invariant.2,
+            subst (HasKeysFrom number rule known first.learnt (index + 1)) (sym w.self-is)
+                (has_next number rule known first.learnt index old old (grows_none old) c.loop-index.invariant.3
+                c.loop-index-test.true alert c.index-known-index.is
+                (subst (λ ls. HasKeys number rule index ls old) labelled next)),
           )
     ]

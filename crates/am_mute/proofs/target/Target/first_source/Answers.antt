@@ -5,10 +5,10 @@ use Rattle.am_mute.specs.Target.{TargetData}
 use Rattle.am_mute.proofs.target.Target.first_source.Goals as goal
 use Rattle.am_mute.proofs.target.Target.first_source.Goals.{In_ok-is_inhibited_by}
 
--- what the target told of the alert
-asked : (c : In_ok-is_inhibited_by) → is_inhibited_by c.args.self.now.rule c.args.self.now.t c.args.self.now.labels
+-- what the target reported of the alert
+holds_required : (c : In_ok-is_inhibited_by) → is_inhibited_by c.args.self.now.rule c.args.self.now.t c.args.self.now.labels
     c.alert-item.result ≡ c.in_ok-is_inhibited_by.field-0
-asked c =
+holds_required c =
     ap (λ (x : TargetData). is_inhibited_by x.rule x.t x.labels c.alert-item.result) (sym c.loop-alert.invariant.1)
     ∙ sym c.in_ok-is_inhibited_by.ensures.value
 
@@ -17,13 +17,13 @@ returns-then-branch-clause-value c =
     let at = (goal.at.returns-then-branch-clause-value c).In_ok-is_inhibited_by in
     let test = is_inhibited_by c.args.self.now.rule c.args.self.now.t c.args.self.now.labels in
     sym (find_here test _ _ c.alert-item.result c.alert-item.result (omega arith) c.alert-item.is c.loop-alert.invariant.0
-    (asked at ∙ c.if-branch.true))
+    (holds_required at ∙ c.if-branch.true))
 
 pub loop-alert-preserved : goal.loop-alert-preserved
 loop-alert-preserved c =
     let at = (goal.at.loop-alert-preserved c).In_ok-is_inhibited_by in
     let test = is_inhibited_by c.args.self.now.rule c.args.self.now.t c.args.self.now.labels in (
       find_none_more test _ _ c.alert-item.result c.alert-item.result (omega arith) c.alert-item.is c.loop-alert.invariant.0
-          (asked at ∙ c.if-branch.false),
+          (holds_required at ∙ c.if-branch.false),
       c.is_inhibited_by.ensures.kept ∙ c.loop-alert.invariant.1,
     )

@@ -10,19 +10,19 @@ use Rattle.am_plans.proofs.expectation.content.read_firing.Goals as goal
 
 pub returns-in-None-clause-refused : goal.returns-in-None-clause-refused
 returns-in-None-clause-refused c =
-    let d = c.args.item.now.dialect in
+    let d = c.args.item.now.mode in
     let members = members_view c.args.item.now.members in
     narrowed (AreSetsIn d (get_member (codes "firing") members)) (AreFiringIn d members)
-    (λ (sets : Option (List (List Label))) told.
-    subst (λ (o : Option Data). AreSetsIn d (option_or o (get_member (codes "firing") members)) sets) (sym c.in-None.ensures.value) told)
+    (λ (sets : Option (List (List Label))) decoded.
+    subst (λ (o : Option Data). AreSetsIn d (option_or o (get_member (codes "firing") members)) sets) (sym c.in-None.ensures.value) decoded)
     c.read_sets.result c.read_sets.ensures.refused
 
 pub returns-in-Some-clause-refused : goal.returns-in-Some-clause-refused
 returns-in-Some-clause-refused c =
-    let d = c.args.item.now.dialect in
+    let d = c.args.item.now.mode in
     let members = members_view c.args.item.now.members in
     narrowed (AreSetsIn d (get_member (codes "exactly") members)) (AreFiringIn d members)
-    (λ (sets : Option (List (List Label))) told.
+    (λ (sets : Option (List (List Label))) decoded.
     subst (λ (o : Option Data). AreSetsIn d o sets) c.in-Some.ensures.value
-    (subst (λ (o : Option Data). AreSetsIn d (option_or o (get_member (codes "firing") members)) sets) (sym c.in-Some.ensures.value) told))
+    (subst (λ (o : Option Data). AreSetsIn d (option_or o (get_member (codes "firing") members)) sets) (sym c.in-Some.ensures.value) decoded))
     c.read_sets-in-Some.result c.read_sets-in-Some.ensures.refused

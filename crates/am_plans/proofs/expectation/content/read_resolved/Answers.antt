@@ -9,9 +9,9 @@ use Rattle.am_plans.proofs.expectation.content.read_resolved.Goals as goal
 
 pub returns-in-None-clause-refused : goal.returns-in-None-clause-refused
 returns-in-None-clause-refused c =
-    let d = c.args.item.now.dialect in
+    let d = c.args.item.now.mode in
     let members = members_view c.args.item.now.members in
     narrowed (AreSetsIn d (get_member (codes "resolved") members)) (AreResolvedIn d members)
-    (λ (sets : Option (List (List Label))) told.
-    found_none (AreSetsIn d (get_member (codes "resolved") members) sets) (λ v. sets ≡ Some []) (get_member (codes "exactly") members) c.in-None.ensures.value told)
+    (λ (sets : Option (List (List Label))) decoded.
+    found_none (AreSetsIn d (get_member (codes "resolved") members) sets) (λ v. sets ≡ Some []) (get_member (codes "exactly") members) c.in-None.ensures.value decoded)
     c.read_sets.result c.read_sets.ensures.refused

@@ -2,7 +2,7 @@ use Rattle.std.proofs.Common.{◌∙◌, sym}
 use Rattle.am_model.specs.declared.config.Config.{Config}
 use Rattle.am_plans.proofs.SomeHave.{one_of_others}
 use Rattle.am_plans.specs.Expected.{has_target}
-use Rattle.am_terms.specs.declared.handover.Handover.{Handover}
+use Rattle.am_terms.specs.declared.dispatcher_change.DispatcherChange.{DispatcherChange}
 use Rattle.am_plans.proofs.expectation.receivers.some_has_target.Goals as goal
 
 pub returns-else-has_target : goal.returns-else-has_target
@@ -10,5 +10,5 @@ returns-else-has_target c =
     let configs = c.args.configs.now in
     let x = c.args.expectation.now in
     c.later_has_target.ensures
-    ∙ sym (one_of_others (λ (config : Config). has_target config x) (λ (h : Handover). h.config) (has_target configs.own.now x) configs.later.now
+    ∙ sym (one_of_others (λ (config : Config). has_target config x) (λ (h : DispatcherChange). h.config) (has_target configs.own.now x) configs.later.now
     (sym c.has_target.ensures ∙ c.if-has_target.false))

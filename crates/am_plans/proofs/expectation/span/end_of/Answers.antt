@@ -14,8 +14,8 @@ returns-clause-last c =
 pub returns-in_err-length-clause-refused : goal.returns-in_err-length-clause-refused
 returns-in_err-length-clause-refused c =
     failed ((to : ℕ) → IsSomeAnd (duration_in (view c.args.within.now.value)) (IsEndOf c.args.from to) → ⊥) c.from_residual.result
-    (λ to told. subst (λ (o : Option ℕ). IsSomeAnd o (IsEndOf c.args.from to)) (sym c.in_err-length.ensures) told)
+    (λ to decoded. subst (λ (o : Option ℕ). IsSomeAnd o (IsEndOf c.args.from to)) (sym c.in_err-length.ensures) decoded)
 
 pub returns-then-length-from-clause-refused : goal.returns-then-length-from-clause-refused
-returns-then-length-from-clause-refused c to told =
-    no_end_of (duration_in (view c.args.within.now.value)) c.args.from to c.in_ok-length.length c.in_ok-length.ensures (omega arith) told
+returns-then-length-from-clause-refused c to decoded =
+    no_end_of (duration_in (view c.args.within.now.value)) c.args.from to c.in_ok-length.length c.in_ok-length.ensures (omega arith) decoded

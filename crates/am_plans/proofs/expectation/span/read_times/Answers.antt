@@ -10,7 +10,7 @@ pub returns-in-None-clause-refused : goal.returns-in-None-clause-refused
 returns-in-None-clause-refused c =
     let members = members_view c.args.item.now.members in
     narrowed (λ (s : ℕ × ℕ). IsFromTo c.args.until c.args.last members s.0 s.1) (λ (s : ℕ × ℕ). IsSpanFrom c.args.until c.args.last members s.0 s.1)
-    (λ s told. found_none (IsFromTo c.args.until c.args.last members s.0 s.1) (λ at. IsAt members at s.0 s.1) (get_member (codes "at") members) c.in-None.ensures.value told)
+    (λ s decoded. found_none (IsFromTo c.args.until c.args.last members s.0 s.1) (λ at. IsAt members at s.0 s.1) (get_member (codes "at") members) c.in-None.ensures.value decoded)
     c.read_from_to.result c.read_from_to.ensures.refused
 
 pub returns-in-Some-clause-refused : goal.returns-in-Some-clause-refused
@@ -18,5 +18,5 @@ returns-in-Some-clause-refused c =
     let members = members_view c.args.item.now.members in
     let at = view c.in-Some.at.value in
     narrowed (λ (s : ℕ × ℕ). IsAt members at s.0 s.1) (λ (s : ℕ × ℕ). IsSpanFrom c.args.until c.args.last members s.0 s.1)
-    (λ s told. found (IsFromTo c.args.until c.args.last members s.0 s.1) (λ a. IsAt members a s.0 s.1) at (get_member (codes "at") members) c.in-Some.ensures.value told)
+    (λ s decoded. found (IsFromTo c.args.until c.args.last members s.0 s.1) (λ a. IsAt members a s.0 s.1) at (get_member (codes "at") members) c.in-Some.ensures.value decoded)
     c.read_at.result c.read_at.ensures.refused

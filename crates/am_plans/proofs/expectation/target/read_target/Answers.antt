@@ -10,5 +10,5 @@ pub returns-in-Some-clause-refused : goal.returns-in-Some-clause-refused
 returns-in-Some-clause-refused c =
     let found = get_member (codes "integration") (members_view c.args.item.now.members) in
     narrowed (λ (t : Option (List ℕ) × Option ℕ). IsTargetOf (view c.in-Some.member.value) t.0 t.1) (λ (t : Option (List ℕ) × Option ℕ). IsTargetIn found t.0 t.1)
-    (λ t told. subst (λ (o : Option Data). IsTargetIn o t.0 t.1) (sym c.in-Some.ensures.value) told)
+    (λ t decoded. subst (λ (o : Option Data). IsTargetIn o t.0 t.1) (sym c.in-Some.ensures.value) decoded)
     c.read_integration.result c.read_integration.ensures.refused

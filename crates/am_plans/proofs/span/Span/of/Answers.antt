@@ -9,8 +9,8 @@ use Rattle.am_cli.specs.Read.{duration_in}
 use Rattle.am_plans.specs.Decoding.{DecodesToSpan}
 use Rattle.am_plans.proofs.span.Span.of.Goals as goal
 
-pub returns-clause-told : goal.returns-clause-told
-returns-clause-told c =
+pub returns-clause-decoded : goal.returns-clause-decoded
+returns-clause-decoded c =
     let members = members_view c.args.object.now.members in
     record {
       from = decoded_or duration_in 0 c.in_ok-from.from (get_member (codes "from") members) c.in_ok-from.ensures;
@@ -21,12 +21,12 @@ returns-clause-told c =
 pub returns-in_err-from-clause-refused : goal.returns-in_err-from-clause-refused
 returns-in_err-from-clause-refused c =
     handed_on (DecodesToSpan (members_view c.args.object.now.members)) c.from_residual.result c.in_err-from.field-0.0 c.from_residual.ensures.1
-    (λ refusal x told. refused_or duration_in 0 x.from (get_member (codes "from") (members_view c.args.object.now.members)) c.in_err-from.field-0.0 c.in_err-from.ensures told.from)
+    (λ refusal x decoded. refused_or duration_in 0 x.from (get_member (codes "from") (members_view c.args.object.now.members)) c.in_err-from.field-0.0 c.in_err-from.ensures decoded.from)
 
 pub returns-in_err-to-clause-refused : goal.returns-in_err-to-clause-refused
 returns-in_err-to-clause-refused c =
     handed_on (DecodesToSpan (members_view c.args.object.now.members)) c.from_residual-in_err-to.result c.in_err-to.field-0.0 c.from_residual-in_err-to.ensures.1
-    (λ refusal x told.
+    (λ refusal x decoded.
     let begins = decoded_or duration_in 0 c.in_ok-from.from (get_member (codes "from") (members_view c.args.object.now.members)) c.in_ok-from.ensures in
-    let same : x.from ≡ c.in_ok-from.from = one_or IsDuration (one_read duration_in) 0 (get_member (codes "from") (members_view c.args.object.now.members)) x.from c.in_ok-from.from told.from begins in
-    c.in_err-to.ensures.refused refusal x.to (told.to, subst (λ (from : ℕ). IfSome x.to (λ to. from < to)) same told.later))
+    let same : x.from ≡ c.in_ok-from.from = one_or IsDuration (one_read duration_in) 0 (get_member (codes "from") (members_view c.args.object.now.members)) x.from c.in_ok-from.from decoded.from begins in
+    c.in_err-to.ensures.refused refusal x.to (decoded.to, subst (λ (from : ℕ). IfSome x.to (λ to. from < to)) same decoded.later))

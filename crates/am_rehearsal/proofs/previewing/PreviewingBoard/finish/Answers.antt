@@ -9,7 +9,7 @@ use Rattle.am_model.specs.declared.record.Reply.TheVariants.{Finished}
 use Rattle.am_model.specs.Records.{entry}
 use Rattle.am_rehearsal.specs.declared.limits.TheConstants.{BOARD_ID}
 use Rattle.am_rehearsal.proofs.Calling.{called_is, uncalled_is}
-use Rattle.am_rehearsal.proofs.Standing.{stands_over}
+use Rattle.am_rehearsal.proofs.PreviewsHold.{holds_over}
 use Rattle.am_rehearsal.proofs.Doing.{input_trace-same}
 use Rattle.am_rehearsal.proofs.previewing.PreviewingBoard.finish.Goals as goal
 
@@ -17,11 +17,11 @@ pub invariant_of-self : goal.invariant_of-self
 invariant_of-self c =
     let was = c.args.self.now in
     let ticket = c.args.own in
-    let stands =
-    stands_over BOARD_ID was.begins.items was.board c.finish_own.new.self (was.ours, was.whole, was.previews) c.finish_own.result
+    let holds =
+    holds_over BOARD_ID was.begins.items was.board c.finish_own.new.self (was.ours, was.whole, was.previews) c.finish_own.result
     (IfOk-weaker c.finish_own.result _ _ (λ finished recorded. (entry 0 (Finish c.args.now ticket.number ticket.outcomes) (Finished finished), refl, recorded)) c.finish_own.ensures.recorded)
     c.finish_own.ensures.refused in
-    record { ours = stands.0; whole = stands.1; previews = stands.2; begun = was.begun }
+    record { ours = holds.0; whole = holds.1; previews = holds.2; begun = was.begun }
 
 pub returns-in-Ok-clause-input_trace : goal.returns-in-Ok-clause-input_trace
 returns-in-Ok-clause-input_trace c =

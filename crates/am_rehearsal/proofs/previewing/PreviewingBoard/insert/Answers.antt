@@ -5,18 +5,18 @@ use Rattle.am_model.specs.declared.record.Reply.TheVariants.{Inserted}
 use Rattle.am_model.specs.Records.{entry}
 use Rattle.am_rehearsal.specs.declared.limits.TheConstants.{BOARD_ID}
 use Rattle.am_rehearsal.proofs.Calling.{called_is}
-use Rattle.am_rehearsal.proofs.Standing.{stands_over}
+use Rattle.am_rehearsal.proofs.PreviewsHold.{holds_over}
 use Rattle.am_rehearsal.proofs.Doing.{input_trace-more}
 use Rattle.am_rehearsal.proofs.previewing.PreviewingBoard.insert.Goals as goal
 
 pub invariant_of-self : goal.invariant_of-self
 invariant_of-self c =
     let was = c.args.self.now in
-    let stands =
-    stands_over BOARD_ID was.begins.items was.board c.insert.new.self (was.ours, was.whole, was.previews) c.insert.result
+    let holds =
+    holds_over BOARD_ID was.begins.items was.board c.insert.new.self (was.ours, was.whole, was.previews) c.insert.result
     (IfOk-weaker c.insert.result _ _ (λ inserted recorded. (entry 0 (Insert c.args.now c.args.alert) (Inserted inserted), refl, recorded)) c.insert.ensures.recorded)
     c.insert.ensures.refused in
-    record { ours = stands.0; whole = stands.1; previews = stands.2; begun = was.begun }
+    record { ours = holds.0; whole = holds.1; previews = holds.2; begun = was.begun }
 
 pub returns-clause-input_trace : goal.returns-clause-input_trace
 returns-clause-input_trace c =

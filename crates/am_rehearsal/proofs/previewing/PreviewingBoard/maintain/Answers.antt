@@ -5,18 +5,18 @@ use Rattle.am_model.specs.declared.record.Reply.TheVariants.{Maintained}
 use Rattle.am_model.specs.Records.{entry}
 use Rattle.am_rehearsal.specs.declared.limits.TheConstants.{BOARD_ID}
 use Rattle.am_rehearsal.proofs.Calling.{called_is}
-use Rattle.am_rehearsal.proofs.Standing.{stands_over}
+use Rattle.am_rehearsal.proofs.PreviewsHold.{holds_over}
 use Rattle.am_rehearsal.proofs.Doing.{input_trace-same}
 use Rattle.am_rehearsal.proofs.previewing.PreviewingBoard.maintain.Goals as goal
 
 pub invariant_of-self : goal.invariant_of-self
 invariant_of-self c =
     let was = c.args.self.now in
-    let stands =
-    stands_over BOARD_ID was.begins.items was.board c.maintain.new.self (was.ours, was.whole, was.previews) c.maintain.result
+    let holds =
+    holds_over BOARD_ID was.begins.items was.board c.maintain.new.self (was.ours, was.whole, was.previews) c.maintain.result
     (IfOk-weaker c.maintain.result _ _ (λ maintained recorded. (entry 0 (Maintain c.args.now) (Maintained maintained), refl, recorded)) c.maintain.ensures.recorded)
     c.maintain.ensures.refused in
-    record { ours = stands.0; whole = stands.1; previews = stands.2; begun = was.begun }
+    record { ours = holds.0; whole = holds.1; previews = holds.2; begun = was.begun }
 
 pub returns-clause-input_trace : goal.returns-clause-input_trace
 returns-clause-input_trace c =

@@ -6,7 +6,7 @@ use Rattle.am_rehearsal.specs.Previews.{takes_group}
 use Rattle.am_rehearsal.specs.Steps.{with_note}
 use Rattle.am_rehearsal.specs.declared.limits.TheConstants.{BOARD_ID}
 use Rattle.am_rehearsal.proofs.Calling.{noted_is}
-use Rattle.am_rehearsal.proofs.Standing.{stands_over}
+use Rattle.am_rehearsal.proofs.PreviewsHold.{holds_over}
 use Rattle.am_rehearsal.specs.Planned.{input_of}
 use Rattle.am_rehearsal.proofs.Doing.{input_trace-same}
 use Rattle.am_rehearsal.proofs.previewing.PreviewingBoard.note.Goals as goal
@@ -14,11 +14,11 @@ use Rattle.am_rehearsal.proofs.previewing.PreviewingBoard.note.Goals as goal
 pub invariant_of-self : goal.invariant_of-self
 invariant_of-self c =
     let was = c.args.self.now in
-    let stands =
-    stands_over BOARD_ID was.begins.items was.board c.note.new.self (was.ours, was.whole, was.previews) c.note.result
+    let holds =
+    holds_over BOARD_ID was.begins.items was.board c.note.new.self (was.ours, was.whole, was.previews) c.note.result
     (on_ok_weaker c.note.result (λ noted. (noted.0, ap (λ (r : Record). takes_group r.reply) noted.1.2, noted.2)) c.note.ensures.noted)
     c.note.ensures.refused in
-    record { ours = stands.0; whole = stands.1; previews = stands.2; begun = was.begun }
+    record { ours = holds.0; whole = holds.1; previews = holds.2; begun = was.begun }
 
 pub returns-in-Ok-clause-input_trace : goal.returns-in-Ok-clause-input_trace
 returns-in-Ok-clause-input_trace c =
@@ -27,5 +27,5 @@ returns-in-Ok-clause-input_trace c =
 
 pub returns-in-Ok-clause-noted : goal.returns-in-Ok-clause-noted
 returns-in-Ok-clause-noted c =
-    noted_is c.args.now c.ticket.result.now c.args.place c.args.self.now.board c.note.new.self c.in-Ok.ensures.cause c.in-Ok.ensures.noted
-    ∙ ap (λ (t : TicketData). with_note c.args.now t c.args.place c.args.self.now.board) c.ticket.ensures.ticket
+    noted_is c.args.now c.ticket.result.now c.args.index c.args.self.now.board c.note.new.self c.in-Ok.ensures.cause c.in-Ok.ensures.noted
+    ∙ ap (λ (t : TicketData). with_note c.args.now t c.args.index c.args.self.now.board) c.ticket.ensures.ticket

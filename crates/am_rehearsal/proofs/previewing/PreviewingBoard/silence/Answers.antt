@@ -4,18 +4,18 @@ use Rattle.am_model.specs.declared.record.Reply.TheVariants.{Silenced}
 use Rattle.am_model.specs.Records.{entry, call_of_silence}
 use Rattle.am_rehearsal.specs.declared.limits.TheConstants.{BOARD_ID}
 use Rattle.am_rehearsal.proofs.Calling.{called_is}
-use Rattle.am_rehearsal.proofs.Standing.{stands_over}
+use Rattle.am_rehearsal.proofs.PreviewsHold.{holds_over}
 use Rattle.am_rehearsal.proofs.Doing.{input_trace-more}
 use Rattle.am_rehearsal.proofs.previewing.PreviewingBoard.silence.Goals as goal
 
 pub invariant_of-self : goal.invariant_of-self
 invariant_of-self c =
     let was = c.args.self.now in
-    let stands =
-    stands_over BOARD_ID was.begins.items was.board c.silence.new.self (was.ours, was.whole, was.previews) c.silence.result
+    let holds =
+    holds_over BOARD_ID was.begins.items was.board c.silence.new.self (was.ours, was.whole, was.previews) c.silence.result
     (IfOk-weaker c.silence.result _ _ (λ silenced recorded. (entry 0 (call_of_silence c.args.now c.args.silence) (Silenced silenced), refl, recorded)) c.silence.ensures.recorded)
     c.silence.ensures.refused in
-    record { ours = stands.0; whole = stands.1; previews = stands.2; begun = was.begun }
+    record { ours = holds.0; whole = holds.1; previews = holds.2; begun = was.begun }
 
 pub returns-clause-input_trace : goal.returns-clause-input_trace
 returns-clause-input_trace c =

@@ -8,7 +8,7 @@ use Rattle.std.proofs.Common.{◌≤◌, ◌*◌, ◌/◌, min}
 use Rattle.std.proofs.Math.Numerals.{suc-eq-add-one}
 use Rattle.am_retry.specs.Attempts.{latest, wait_of}
 use Rattle.am_retry.proofs.Waits.{wait_of-least}
-use Rattle.am_retry.proofs.Steps.{stands_more, time_left-answered, next_is_due}
+use Rattle.am_retry.proofs.Steps.{holds_more, time_left-answered, next_is_due}
 use Rattle.am_retry.proofs.Tries.{tries_more}
 use Rattle.am_retry.proofs.retry.Retry.answer.Goals as goal
 use Rattle.am_retry.proofs.retry.Retry.answer.Goals.{in-Done, in-Never, in-Again}
@@ -37,15 +37,15 @@ invariant_of-self c =
 pub returns-clause-value : goal.returns-clause-value
 returns-clause-value c = search rules
 
-pub returns-clause-stands : goal.returns-clause-stands
-returns-clause-stands c start deadline at responses is stands =
+pub returns-clause-holds : goal.returns-clause-holds
+returns-clause-holds c start deadline at responses is holds =
     let t : Response = record { answer = c.args.answer; ended = c.args.ended } in
     subst (λ (p : Progress). IsAfterResponses start deadline (responses ++ t ∷ []) p) (sym (returns-clause-value c))
-    (stands_more start deadline at responses c.args.self.now c.args.answer c.args.ended is stands)
+    (holds_more start deadline at responses c.args.self.now c.args.answer c.args.ended is holds)
 
 pub returns-clause-tries : goal.returns-clause-tries
-returns-clause-tries c start deadline at responses is stands =
-    tries_more start deadline at responses c.args.self.now c.args.answer c.args.ended is stands
+returns-clause-tries c start deadline at responses is holds =
+    tries_more start deadline at responses c.args.self.now c.args.answer c.args.ended is holds
 
 pub returns-clause-sooner : goal.returns-clause-sooner
 returns-clause-sooner c at is =

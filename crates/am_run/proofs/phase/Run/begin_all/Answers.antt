@@ -7,7 +7,7 @@ use Rattle.am_run.proofs.phase.Run.begin_all.Goals as goal
 
 pub loop-init : goal.loop-init
 loop-init g c = record {
-  keeps = (refl, refl, λ none. none);
+  preserves = (refl, refl, λ none. none);
   begins = λ none. begins_start g.N.Name.terms c.args.at c.args.self.now.main c.args.tickets.now.items;
   well = λ none. none;
 }
@@ -15,13 +15,13 @@ loop-init g c = record {
 pub loop-preserved : goal.loop-preserved
 loop-preserved g c =
     let i = c.loop.invariant in
-    let k = c.begin.ensures.keeps in
+    let k = c.begin.ensures.preserves in
     let ts = c.args.tickets.now.items in
     let us = c.loop.tickets.items in
     let vs = c.begin.new.tickets.items in
     let more : c.begin.result ≡ true = search rules in
     record {
-      keeps = (k.0 ∙ i.keeps.0, k.1 ∙ i.keeps.1, λ none. i.keeps.2 (k.2 none));
+      preserves = (k.0 ∙ i.preserves.0, k.1 ∙ i.preserves.1, λ none. i.preserves.2 (k.2 none));
       begins = λ none.
           begins_more g.N.Name.terms true c.args.at c.args.self.now.main c.loop.self.main c.begin.new.self.main ts us vs (i.begins (k.2 none))
           (subst (λ (b : Bool). Begins g.N.Name.terms true b c.args.at c.loop.self.main c.begin.new.self.main us vs) more (c.begin.ensures.begins none));
@@ -30,7 +30,7 @@ loop-preserved g c =
 
 pub returns-clause-begins : goal.returns-clause-begins
 returns-clause-begins g c none =
-    let k = c.begin.ensures.keeps in
+    let k = c.begin.ensures.preserves in
     let ts = c.args.tickets.now.items in
     let us = c.loop.tickets.items in
     let vs = c.begin.new.tickets.items in

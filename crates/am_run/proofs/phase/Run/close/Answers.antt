@@ -10,14 +10,14 @@ use Rattle.am_run.proofs.phase.Run.close.Goals as goal
 pub returns-clause-main : goal.returns-clause-main
 returns-clause-main g c =
     let run = c.args.self in
-    let stands = λ (p : Seen). IsPrefixViewOf p c.in_ok-close.field-0.history in
-    all_middle stands run.passes.items run.main (lanes_of run) (subst (λ (ps : List Seen). All stands ps) c.in_ok-put_back.ensures.passes c.in_ok-close.ensures.stand)
+    let prefixed = λ (p : Seen). IsPrefixViewOf p c.in_ok-close.field-0.history in
+    all_middle prefixed run.passes.items run.main (lanes_of run) (subst (λ (ps : List Seen). All prefixed ps) c.in_ok-put_back.ensures.passes c.in_ok-close.ensures.prefixed)
 
 pub returns-clause-lanes : goal.returns-clause-lanes
 returns-clause-lanes g c =
     let run = c.args.self in
-    let stands = λ (p : Seen). IsPrefixViewOf p c.in_ok-close.field-0.history in
-    all_last stands run.passes.items run.main (lanes_of run) (subst (λ (ps : List Seen). All stands ps) c.in_ok-put_back.ensures.passes c.in_ok-close.ensures.stand)
+    let prefixed = λ (p : Seen). IsPrefixViewOf p c.in_ok-close.field-0.history in
+    all_last prefixed run.passes.items run.main (lanes_of run) (subst (λ (ps : List Seen). All prefixed ps) c.in_ok-put_back.ensures.passes c.in_ok-close.ensures.prefixed)
 
 pub returns-clause-others : goal.returns-clause-others
 returns-clause-others g c k more =

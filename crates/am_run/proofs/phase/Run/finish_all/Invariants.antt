@@ -1,13 +1,13 @@
 use Rattle.std.proofs.Common.{vec_len}
-use Rattle.am_run.specs.Runs.{GoesOn, Keeps}
+use Rattle.am_run.specs.Runs.{Continues, Preserves}
 use Rattle.am_run.specs.PhaseFaults.{HasNoFault}
 use Rattle.am_run.proofs.lemmas.phases.Turns.{FinishesSoFar}
 use Rattle.am_run.proofs.phase.Run.finish_all.Given as goal
 
 abbrev pub invariant-loop-left : goal.invariant-loop-left
 invariant-loop-left g l = record {
-  keeps : Keeps l.fn.self l.self;
-  goes_on : GoesOn l.fn.self l.self;
+  preserves : Preserves l.fn.self l.self;
+  continues : Continues l.fn.self l.self;
   finished : HasNoFault l.self.faults → FinishesSoFar l.at l.reports l.fn.tickets.items l.left.items l.fn.self.main l.self.main;
 }
 

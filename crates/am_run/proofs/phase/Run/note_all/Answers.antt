@@ -6,12 +6,12 @@ use Rattle.am_run.proofs.phase.Run.note_all.Goals as goal
 pub loop-own-preserved : goal.loop-own-preserved
 loop-own-preserved g c =
     let i = c.loop-own.invariant in
-    let k = c.settle.ensures.keeps in
+    let k = c.settle.ensures.preserves in
     let ts = c.args.tickets.now in
     let own = c.own-item.result in
     record {
-      keeps = (k.0 ∙ i.keeps.0, k.1 ∙ i.keeps.1, λ none. i.keeps.2 (k.2 none));
-      goes_on = (prefix_trans _ _ _ i.goes_on.0 c.settle.ensures.goes_on.0, λ full. i.goes_on.1 (c.settle.ensures.goes_on.1 full));
+      preserves = (k.0 ∙ i.preserves.0, k.1 ∙ i.preserves.1, λ none. i.preserves.2 (k.2 none));
+      continues = (prefix_trans _ _ _ i.continues.0 c.settle.ensures.continues.0, λ full. i.continues.1 (c.settle.ensures.continues.1 full));
       noted = λ none.
           noted_ticket g.N.Name.terms c.args.at c.args.reports.now ts c.loop-own.own-index _ own c.args.self.now.main c.loop-own.self.main c.settle.new.self.main
           refl (omega (arith, c.loop-own-test.true)) c.own-item.is (i.noted (k.2 none)) (c.settle.ensures.noted none);

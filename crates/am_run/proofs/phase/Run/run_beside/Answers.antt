@@ -21,7 +21,7 @@ returns-clause-lanes g c none =
     let xs = c.args.lanes.items in
     let was = c.args.self.now in
     let is = c.hear_couriers.new.self in
-    let kept = c.hear_couriers.ensures.keeps in
+    let kept = c.hear_couriers.ensures.preserves in
     let heard = c.hear_joined.ensures.heard (kept.2 none) in
     let first = rw c.as_mut_slice-lane_states.ensures.value at c.meet_lanes.ensures.met in
     let made = lanes_made g.N.Name.terms at xs _ _ c.run_beside-sent.ensures.lanes heard.1 in
@@ -39,7 +39,7 @@ returns-clause-beside g c none =
     let xs = c.args.lanes.items in
     let was = c.args.self.now in
     let is = c.hear_couriers.new.self in
-    let kept = c.hear_couriers.ensures.keeps in
+    let kept = c.hear_couriers.ensures.preserves in
     let heard = c.hear_joined.ensures.heard (kept.2 none) in
     let first = rw c.as_mut_slice-lane_states.ensures.value at c.meet_lanes.ensures.met in
     let made = lanes_made g.N.Name.terms at xs _ _ c.run_beside-sent.ensures.lanes heard.1 in
@@ -56,10 +56,10 @@ returns-clause-sent g c none =
     let answers = g.C.Answering.answers in
     let jobs : List Job = c.in-Ok.jobs.items in
     let reports = c.hear_couriers.result.items in
-    let told : AllZip (IsSendingOf answers) c.as_slice.result.now reports =
+    let reported : AllZip (IsSendingOf answers) c.as_slice.result.now reports =
     subst (λ r. IfOk r (λ rs. AllZip (IsSendingOf answers) c.as_slice.result.now rs.items)) (c.hear_couriers.ensures.heard none) c.run_beside-sent.ensures.reports
     in
-    let are : AllZip (IsSendingOf answers) jobs reports = subst (λ (js : List Job). AllZip (IsSendingOf answers) js reports) c.as_slice.ensures.value told in
+    let are : AllZip (IsSendingOf answers) jobs reports = subst (λ (js : List Job). AllZip (IsSendingOf answers) js reports) c.as_slice.ensures.value reported in
     let fed = c.hear_couriers.ensures.fed none in
     subst (λ (ns : List NoticeData). AllZip (IsSentFrom answers c.args.at) ns reports) c.in-Ok.ensures.notices
     (sent_each answers c.args.at jobs reports c.in-Ok.ensures.starts fed are)
@@ -68,7 +68,7 @@ pub returns-clause-well : goal.returns-clause-well
 returns-clause-well g c none =
     let was = c.args.self.now in
     let is = c.hear_couriers.new.self in
-    let kept = c.hear_couriers.ensures.keeps in
+    let kept = c.hear_couriers.ensures.preserves in
     let heard = c.hear_joined.ensures.heard (kept.2 none) in
     let long : length c.hear_joined.new.lane_states ≡ was.lane_states.len =
     omega (arith, c.hear_joined.auto.lane_states, c.run_beside-sent.auto.lane_states, c.meet_lanes.auto.lane_states, ap length c.as_mut_slice-lane_states.ensures.value, was.lane_states.ok.0)
@@ -83,7 +83,7 @@ returns-clause-full g c well full =
     let xs = c.args.lanes.items in
     let was = c.args.self.now in
     let is = c.hear_couriers.new.self in
-    let kept = c.hear_couriers.ensures.keeps in
+    let kept = c.hear_couriers.ensures.preserves in
     let ss : List (LaneState g.row.N.Denot) = c.meet_lanes.new.lane_states in
     let us : List (LaneState g.row.N.Denot) = c.run_beside-sent.new.lane_states in
     let any = c.hear_joined.ensures.full well.0 (c.hear_couriers.ensures.full full) in

@@ -10,7 +10,7 @@ use Rattle.am_run.specs.LaneStates.{NoneRefused, passes_in}
 use Rattle.am_run.specs.Stops.{BeginsUntilFull, LanesStopBefore}
 use Rattle.am_run.specs.Steps.{Begins, Finishes, Sends}
 use Rattle.am_run.specs.PhaseFaults.{EndsAsFull, HasNoFault}
-use Rattle.am_run.proofs.lemmas.phases.Steps.{begins_asked, begins_none, same_records}
+use Rattle.am_run.proofs.lemmas.phases.Steps.{begins_requested, begins_none, same_records}
 use Rattle.am_run.proofs.lemmas.phases.Stops.{fault_or_none, stops_at_begin, stops_at_call}
 use Rattle.am_run.proofs.lemmas.phases.Turns.{if_ok, part_taken}
 use Rattle.am_run.proofs.phase.Run.run_phase.Goals as goal
@@ -33,7 +33,7 @@ returns-clause-turn g c =
     let begins : HasNoFault c.if-flush.self.faults → Begins t phase.flush false phase.at p q [] ts =
     elim c.if-flush.branch [
       | then-flush w ↦ λ none.
-          begins_asked t phase.flush phase.at p q c.new-tickets.result.items [] ts c.new-tickets.ensures.items w.if-flush.true
+          begins_requested t phase.flush phase.at p q c.new-tickets.result.items [] ts c.new-tickets.ensures.items w.if-flush.true
           (subst (λ (xs : List TicketData). Begins t true false phase.at p q c.new-tickets.result.items xs) (sym (ap (λ v. v.items) w.tickets-is))
           (subst (λ x. Begins t true false phase.at p x.main c.new-tickets.result.items w.begin_all.new.tickets.items) (sym w.self-is)
           (w.begin_all.ensures.begins (subst (λ x. HasNoFault x.faults) w.self-is none))))
@@ -43,13 +43,13 @@ returns-clause-turn g c =
     in
     let kept : c.if-flush.self.reports ≡ was.reports =
     elim c.if-flush.branch [
-      | then-flush w ↦ ap (λ x. x.reports) w.self-is ∙ w.begin_all.ensures.keeps.1
+      | then-flush w ↦ ap (λ x. x.reports) w.self-is ∙ w.begin_all.ensures.preserves.1
       | else-flush w ↦ ap (λ x. x.reports) w.self-is
     ]
     in
     let lane_states : c.if-flush.self.lane_states ≡ was.lane_states =
     elim c.if-flush.branch [
-      | then-flush w ↦ ap (λ x. x.lane_states) w.self-is ∙ w.begin_all.ensures.keeps.0
+      | then-flush w ↦ ap (λ x. x.lane_states) w.self-is ∙ w.begin_all.ensures.preserves.0
       | else-flush w ↦ ap (λ x. x.lane_states) w.self-is
     ]
     in
@@ -59,15 +59,15 @@ returns-clause-turn g c =
     (λ (ok : IsOk c.verdict.result).
     let more = c.keep.ensures.more (c.verdict.ensures.none.0 ok) in
     let finish = c.finish_all.ensures in
-    let sends : Sends answers t phase.at reports ts us q r = c.send_all-reports.ensures.sent (finish.keeps.2 more.0) in
-    let begun = begins (c.send_all-reports.ensures.lanes (finish.keeps.2 more.0)).0 in
+    let sends : Sends answers t phase.at reports ts us q r = c.send_all-reports.ensures.sent (finish.preserves.2 more.0) in
+    let begun = begins (c.send_all-reports.ensures.lanes (finish.preserves.2 more.0)).0 in
     let finishes : Finishes phase.at reports us r s = subst (λ (rs : List Report). Finishes phase.at rs us r s) c.as_slice.ensures.value (finish.finished more.0) in
-    let same : c.finish_all.new.self.reports.items ≡ was.reports.items = ap (λ v. v.items) (finish.keeps.1 ∙ (c.send_all-reports.ensures.reports ∙ kept)) in
+    let same : c.finish_all.new.self.reports.items ≡ was.reports.items = ap (λ v. v.items) (finish.preserves.1 ∙ (c.send_all-reports.ensures.reports ∙ kept)) in
     let now : since ≡ was.reports.items ++ reports = more.1 ∙ (ap (λ (rs : List Report). rs ++ c.as_slice-2.result.now) same ∙ ap (λ (rs : List Report). was.reports.items ++ rs) c.as_slice-2.ensures.value) in
-    let stay : c.keep.new.self.lane_states ≡ c.send_all-reports.new.self.lane_states = c.keep.ensures.lane_states ∙ finish.keeps.0 in
+    let stay : c.keep.new.self.lane_states ≡ c.send_all-reports.new.self.lane_states = c.keep.ensures.lane_states ∙ finish.preserves.0 in
     let first : RanBefore q r ls ms =
     subst (λ v. RanBefore q r ls (passes_in v.items)) (sym stay)
-    (subst (λ v. RanBefore q r (passes_in v.items) (lanes_of c.send_all-reports.new.self)) lane_states (c.send_all-reports.ensures.beside (finish.keeps.2 more.0)))
+    (subst (λ v. RanBefore q r (passes_in v.items) (lanes_of c.send_all-reports.new.self)) lane_states (c.send_all-reports.ensures.beside (finish.preserves.2 more.0)))
     in
     subst (λ (x : Seen). RunsPhase answers t phase p x ls ms was.reports.items since) (sym c.keep.ensures.main)
     (part_taken answers t phase p q r s ls ms ts us was.reports.items reports since begun sends finishes now first))
@@ -78,8 +78,8 @@ returns-clause-well g c =
     (λ (ok : IsOk c.verdict.result).
     let none = c.verdict.ensures.none.0 ok in
     let finish = c.finish_all.ensures in
-    let stay : c.keep.new.self.lane_states ≡ c.send_all-reports.new.self.lane_states = c.keep.ensures.lane_states ∙ finish.keeps.0 in
-    (none, subst (λ v. NoneRefused v.items) (sym stay) (c.send_all-reports.ensures.well (finish.keeps.2 (c.keep.ensures.more none).0))))
+    let stay : c.keep.new.self.lane_states ≡ c.send_all-reports.new.self.lane_states = c.keep.ensures.lane_states ∙ finish.preserves.0 in
+    (none, subst (λ v. NoneRefused v.items) (sym stay) (c.send_all-reports.ensures.well (finish.preserves.2 (c.keep.ensures.more none).0))))
 
 pub returns-clause-full : goal.returns-clause-full
 returns-clause-full g c =
@@ -98,7 +98,7 @@ returns-clause-full g c =
     let begins : HasNoFault mid.faults → Begins t phase.flush false phase.at p q [] ts =
     elim c.if-flush.branch [
       | then-flush w ↦ λ none.
-          begins_asked t phase.flush phase.at p q c.new-tickets.result.items [] ts c.new-tickets.ensures.items w.if-flush.true
+          begins_requested t phase.flush phase.at p q c.new-tickets.result.items [] ts c.new-tickets.ensures.items w.if-flush.true
           (subst (λ (xs : List TicketData). Begins t true false phase.at p q c.new-tickets.result.items xs) (sym (ap (λ v. v.items) w.tickets-is))
           (subst (λ x. Begins t true false phase.at p x.main c.new-tickets.result.items w.begin_all.new.tickets.items) (sym w.self-is)
           (w.begin_all.ensures.begins (subst (λ x. HasNoFault x.faults) w.self-is none))))
@@ -117,16 +117,16 @@ returns-clause-full g c =
     in
     let lane_states : mid.lane_states ≡ was.lane_states =
     elim c.if-flush.branch [
-      | then-flush w ↦ ap (λ x. x.lane_states) w.self-is ∙ w.begin_all.ensures.keeps.0
+      | then-flush w ↦ ap (λ x. x.lane_states) w.self-is ∙ w.begin_all.ensures.preserves.0
       | else-flush w ↦ ap (λ x. x.lane_states) w.self-is
     ]
     in
     let finish = c.finish_all.ensures in
-    let stay : is.lane_states ≡ sent.lane_states = c.keep.ensures.lane_states ∙ finish.keeps.0 in
-    let goes : IsPrefix r.log is.main.log = subst (λ (x : Seen). IsPrefix r.log x.log) (sym c.keep.ensures.main) finish.goes_on.0 in
+    let stay : is.lane_states ≡ sent.lane_states = c.keep.ensures.lane_states ∙ finish.preserves.0 in
+    let goes : IsPrefix r.log is.main.log = subst (λ (x : Seen). IsPrefix r.log x.log) (sym c.keep.ensures.main) finish.continues.0 in
     IfErr-weaker c.verdict.result _ _
     (λ fault ends refusal well.
-    let full : EndsAsFull sent.faults = finish.goes_on.1 (c.keep.ensures.full (ends refusal)) in
+    let full : EndsAsFull sent.faults = finish.continues.1 (c.keep.ensures.full (ends refusal)) in
     ⊎_elim
     (λ (none : HasNoFault mid.faults).
     let stop : LanesStopBefore t phase.at phase.lanes.items q r (lanes_of mid) (lanes_of sent) =

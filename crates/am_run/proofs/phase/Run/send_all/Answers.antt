@@ -11,19 +11,19 @@ returns-clause-beside g c none =
     let was = c.args.self.now in
     let settled = c.settle_all.ensures in
     let joined = c.run_beside-reports.new.self in
-    let ran = c.run_beside-reports.ensures.beside (settled.keeps.2 none) in
+    let ran = c.run_beside-reports.ensures.beside (settled.preserves.2 none) in
     record {
       joined = joined.main;
-      ran = subst (λ v. RanConcurrently was.main joined.main (lanes_of was) (passes_in v.items)) (sym settled.keeps.0) ran;
+      ran = subst (λ v. RanConcurrently was.main joined.main (lanes_of was) (passes_in v.items)) (sym settled.preserves.0) ran;
       begins = (settled.noted none).made.2;
     }
 
 pub returns-clause-sent : goal.returns-clause-sent
 returns-clause-sent g c none =
     let settled = c.settle_all.ensures in
-    let ran = c.run_beside-reports.ensures.beside (settled.keeps.2 none) in
+    let ran = c.run_beside-reports.ensures.beside (settled.preserves.2 none) in
     record {
-      sent = rw c.as_slice.ensures.value at (c.run_beside-reports.ensures.sent (settled.keeps.2 none));
+      sent = rw c.as_slice.ensures.value at (c.run_beside-reports.ensures.sent (settled.preserves.2 none));
       recorded = rw c.as_slice-2.ensures.value at (settled.recorded none);
       noted = quiet_first g.N.Name.terms _ _ _ _ ran.quiet (rw c.as_slice-2.ensures.value at (settled.noted none));
     }
@@ -33,9 +33,9 @@ returns-clause-full g c well full =
     let was = c.args.self.now in
     let settled = c.settle_all.ensures in
     let joined = c.run_beside-reports.new.self in
-    let stop = c.run_beside-reports.ensures.full well (settled.goes_on.1 full) in
+    let stop = c.run_beside-reports.ensures.full well (settled.continues.1 full) in
     record {
       joined = joined.main;
-      stop = subst (λ v. LanesStop g.N.Name.terms c.args.at c.args.lanes.items was.main joined.main (lanes_of was) (passes_in v.items)) (sym settled.keeps.0) stop;
-      begins = settled.goes_on.0;
+      stop = subst (λ v. LanesStop g.N.Name.terms c.args.at c.args.lanes.items was.main joined.main (lanes_of was) (passes_in v.items)) (sym settled.preserves.0) stop;
+      begins = settled.continues.0;
     }

@@ -5,7 +5,7 @@ use Rattle.serde_json.specs.Find.{get, get_member}
 use Rattle.serde_json.specs.View.{members_view, view}
 use Rattle.am_scenario.proofs.scenario.items.into_member.Goals as goal
 
--- looking a name up in the map is looking it up in what the map stands for
+-- looking a name up in the map is looking it up in what the map represents
 pub returns-in-Object : goal.returns-in-Object
 returns-in-Object c =
     let name = c.args.name.now in

@@ -8,7 +8,7 @@ use Rattle.serde_json.specs.View.{items_view}
 use Rattle.serde_json.specs.declared.value.Value.{Value}
 use Rattle.am_cli.specs.Decoding.{DecodeEach}
 use Rattle.am_cli.proofs.Decoding.{handed_on, starved}
-use Rattle.am_cli.proofs.Members.{tell_more, told_at}
+use Rattle.am_cli.proofs.Members.{decode_more, decoded_at}
 use Rattle.am_scenario.proofs.scenario.items.read_items.Goals as goal
 
 pub loop-value-preserved : goal.loop-value-preserved
@@ -16,10 +16,10 @@ loop-value-preserved g c =
     let decodes_to = g.T.FromOwned.decodes_to in
     let yielded = c.loop-value.yielded in
     let value = c.in-Some.value in
-    let more = tell_more decodes_to yielded c.loop-value.items.items value c.in_ok-read_item.field-0 c.loop-value.invariant.told c.in_ok-read_item.ensures.told in
+    let more = decode_more decodes_to yielded c.loop-value.items.items value c.in_ok-read_item.field-0 c.loop-value.invariant.decoded c.in_ok-read_item.ensures.decoded in
     record {
       count = omega (arith, c.in_ok-push.ensures.len, c.loop-value.invariant.count, length_push yielded value);
-      told = subst (λ xs. DecodeEach decodes_to (items_view (yielded ++ value ∷ [])) xs) (sym c.in_ok-push.ensures.items) more;
+      decoded = subst (λ xs. DecodeEach decodes_to (items_view (yielded ++ value ∷ [])) xs) (sym c.in_ok-push.ensures.items) more;
     }
 
 -- the walk ends where the list does
@@ -29,29 +29,29 @@ returns-clause-count g c =
     let end = YieldsList-end (YieldsList-from_vec {s = c.into_iter-value-iterator.result} c.args.values.items gives.0 (gives.1 ∙ c.args.values.ok.0)) c.loop-value.yielded c.loop-value.value-iterator c.loop-value.yielded_by c.next.result c.next.new.self c.in-None.is c.next.ensures.steps in
     omega (arith, c.loop-value.invariant.count, end.1, c.args.values.ok.0)
 
-pub returns-clause-told : goal.returns-clause-told
-returns-clause-told g c =
+pub returns-clause-decoded : goal.returns-clause-decoded
+returns-clause-decoded g c =
     let gives = c.into_iter-value-iterator.ensures.into_iter_gives in
     let end = YieldsList-end (YieldsList-from_vec {s = c.into_iter-value-iterator.result} c.args.values.items gives.0 (gives.1 ∙ c.args.values.ok.0)) c.loop-value.yielded c.loop-value.value-iterator c.loop-value.yielded_by c.next.result c.next.new.self c.in-None.is c.next.ensures.steps in
     let whole : c.loop-value.yielded ≡ c.args.values.items = sym (map-id c.loop-value.yielded) ∙ end.0 in
     subst (λ (vs : List Value). DecodeEach g.T.FromOwned.decodes_to (items_view vs) c.loop-value.items.items) whole
-    c.loop-value.invariant.told
+    c.loop-value.invariant.decoded
 
--- a value that tells nothing that is sure to be read
+-- a value that says nothing that is sure to be read
 pub returns-in_err-read_item-clause-refused : goal.returns-in_err-read_item-clause-refused
 returns-in_err-read_item-clause-refused g c =
     let decodes_to = g.T.FromOwned.decodes_to in
     let values = c.args.values.items in
     let gives = c.into_iter-value-iterator.ensures.into_iter_gives in
     let turn = YieldsList-turn (YieldsList-from_vec {s = c.into_iter-value-iterator.result} values gives.0 (gives.1 ∙ c.args.values.ok.0)) c.loop-value.yielded c.loop-value.value-iterator c.loop-value.yielded_by c.next.result c.next.new.self c.in-Some.value c.in-Some.is c.next.ensures.steps in
-    let Tells = λ (xs : List g.row.T.Denot). DecodeEach decodes_to (items_view values) xs × IsTrue (list_all g.T.FromOwned.never_refused xs) in
-    handed_on Tells c.from_residual.result c.in_err-read_item.field-0.0 c.from_residual.ensures.1
-    (λ refusal xs told.
-    let at = told_at decodes_to g.T.FromOwned.never_refused values xs (length c.loop-value.yielded) c.in-Some.value turn.0 turn.1 told.0 told.1 in
+    let Decodes = λ (xs : List g.row.T.Denot). DecodeEach decodes_to (items_view values) xs × IsTrue (list_all g.T.FromOwned.never_refused xs) in
+    handed_on Decodes c.from_residual.result c.in_err-read_item.field-0.0 c.from_residual.ensures.1
+    (λ refusal xs decoded.
+    let at = decoded_at decodes_to g.T.FromOwned.never_refused values xs (length c.loop-value.yielded) c.in-Some.value turn.0 turn.1 decoded.0 decoded.1 in
     c.in_err-read_item.ensures.refused refusal at.0 (at.1, at.2))
 
 pub returns-in_err-push-clause-refused : goal.returns-in_err-push-clause-refused
 returns-in_err-push-clause-refused g c =
-    let Tells = λ (xs : List g.row.T.Denot). DecodeEach g.T.FromOwned.decodes_to (items_view c.args.values.items) xs
+    let Decodes = λ (xs : List g.row.T.Denot). DecodeEach g.T.FromOwned.decodes_to (items_view c.args.values.items) xs
     × IsTrue (list_all g.T.FromOwned.never_refused xs) in
-    starved Tells c.from_residual-in_err-push.result c.from_residual-in_err-push.ensures.1
+    starved Decodes c.from_residual-in_err-push.result c.from_residual-in_err-push.ensures.1

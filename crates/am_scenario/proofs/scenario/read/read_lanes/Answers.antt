@@ -6,8 +6,8 @@ use Rattle.serde_json.specs.Find.{get}
 use Rattle.serde_json.specs.View.{view}
 use Rattle.am_cli.proofs.Decoding.{found, narrowed}
 use Rattle.am_cli.specs.Decoding.{IsList}
-use Rattle.am_cli.specs.declared.reader.Dialect.TheVariants.{Lenient}
-use Rattle.am_scenario.proofs.Lists.{listed, refused_under, told_under}
+use Rattle.am_cli.specs.declared.reader.Mode.TheVariants.{Lenient}
+use Rattle.am_scenario.proofs.Lists.{listed, refused_under, decoded_under}
 use Rattle.am_scenario.specs.Decoding.{DecodesToLane, lane_compares_texts}
 use Rattle.am_scenario.specs.declared.scenario.Lane.{Lane}
 use Rattle.am_scenario.specs.declared.scenario.TheConstants.{MAX_LANES}
@@ -15,22 +15,22 @@ use Rattle.am_scenario.proofs.scenario.read.read_lanes.Goals as goal
 
 pub returns-in-Some-clause-bound : goal.returns-in-Some-clause-bound
 returns-in-Some-clause-bound c =
-    told_under (λ xs. vec_len xs ≤ MAX_LANES) c.read_few_lanes.result c.under.result c.under.ensures.told c.read_few_lanes.ensures.bound
+    decoded_under (λ xs. vec_len xs ≤ MAX_LANES) c.read_few_lanes.result c.under.result c.under.ensures.decoded c.read_few_lanes.ensures.bound
 
-pub returns-in-Some-clause-told : goal.returns-in-Some-clause-told
-returns-in-Some-clause-told c =
+pub returns-in-Some-clause-decoded : goal.returns-in-Some-clause-decoded
+returns-in-Some-clause-decoded c =
     let member = get (codes "lanes") (view c.args.phase) in
-    told_under _ c.read_few_lanes.result c.under.result c.under.ensures.told
+    decoded_under _ c.read_few_lanes.result c.under.result c.under.ensures.decoded
     (IfOk-weaker c.read_few_lanes.result _ (λ xs. MatchOption member (xs.items ≡ []) (λ v. IsList (DecodesToLane Lenient) v xs.items))
-    (λ xs told. listed (xs.items ≡ []) (DecodesToLane Lenient) (view c.in-Some.lanes) member xs.items c.in-Some.ensures told) c.read_few_lanes.ensures.told)
+    (λ xs decoded. listed (xs.items ≡ []) (DecodesToLane Lenient) (view c.in-Some.lanes) member xs.items c.in-Some.ensures decoded) c.read_few_lanes.ensures.decoded)
 
 pub returns-in-Some-clause-refused : goal.returns-in-Some-clause-refused
 returns-in-Some-clause-refused c =
     let lanes = view c.in-Some.lanes in
     let member = get (codes "lanes") (view c.args.phase) in
     let There = λ (xs : List Lane). IsList (DecodesToLane Lenient) lanes xs × IsTrue (list_all lane_compares_texts xs) × (length xs ≤ MAX_LANES) in
-    let Tells = λ (xs : List Lane). MatchOption member (xs ≡ []) (λ v. IsList (DecodesToLane Lenient) v xs) × IsTrue (list_all lane_compares_texts xs)
+    let Decodes = λ (xs : List Lane). MatchOption member (xs ≡ []) (λ v. IsList (DecodesToLane Lenient) v xs) × IsTrue (list_all lane_compares_texts xs)
     × (length xs ≤ MAX_LANES) in
-    refused_under Tells c.read_few_lanes.result c.under.result c.under.ensures.refused
-    (narrowed There Tells (λ xs told. (found (xs ≡ []) (λ v. IsList (DecodesToLane Lenient) v xs) lanes member c.in-Some.ensures told.0, told.1, told.2))
+    refused_under Decodes c.read_few_lanes.result c.under.result c.under.ensures.refused
+    (narrowed There Decodes (λ xs decoded. (found (xs ≡ []) (λ v. IsList (DecodesToLane Lenient) v xs) lanes member c.in-Some.ensures decoded.0, decoded.1, decoded.2))
     c.read_few_lanes.result c.read_few_lanes.ensures.refused)

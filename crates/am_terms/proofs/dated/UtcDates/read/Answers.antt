@@ -35,24 +35,24 @@ one_year a b same = (epoch_day_injective a.date b.date (civil_nanos_injective a 
 none_before : (y : ℤ) (n : ℕ) → pos n ≡ y → y <ℤ pos 0 → ⊥
 none_before y n is before = omega (arith, ints, is, before)
 
-pub returns-clause-told : goal.returns-clause-told
-returns-clause-told c =
+pub returns-clause-decoded : goal.returns-clause-decoded
+returns-clause-decoded c =
     let start = c.in_ok-start.start in
     let dt = c.to_datetime.result in
     let at : civil_nanos dt ≡ start.nanosecond = omega (arith, ints, c.to_datetime.ensures) in
     let read : parse_timestamp c.args.text.now ≡ Ok (civil_nanos dt) =
     sym c.parse.ensures.value ∙ read-ok c.parse.result start (sym c.ok.ensures.value ∙ c.in_ok-start.was) ∙ ap Ok (sym at) in
-    in_other_words c.from_utc.result (IsStartAt dt) (IsReadFrom c.args.text.now) (λ s is. (dt, read, is)) c.from_utc.ensures.told
+    in_other_words c.from_utc.result (IsStartAt dt) (IsReadFrom c.args.text.now) (λ s is. (dt, read, is)) c.from_utc.ensures.decoded
 
 pub returns-clause-refused : goal.returns-clause-refused
-returns-clause-refused c none s told =
+returns-clause-refused c none s decoded =
     let start = c.in_ok-start.start in
     let dt = c.to_datetime.result in
     let at : civil_nanos dt ≡ start.nanosecond = omega (arith, ints, c.to_datetime.ensures) in
     let read : parse_timestamp c.args.text.now ≡ Ok (civil_nanos dt) =
     sym c.parse.ensures.value ∙ read-ok c.parse.result start (sym c.ok.ensures.value ∙ c.in_ok-start.was) ∙ ap Ok (sym at) in
-    none_before dt.date.year s.day.year (told.2.year ∙ one_year told.0 dt (same_ok (sym told.1 ∙ read))) (c.from_utc.ensures.refused none)
+    none_before dt.date.year s.day.year (decoded.2.year ∙ one_year decoded.0 dt (same_ok (sym decoded.1 ∙ read))) (c.from_utc.ensures.refused none)
 
 pub returns-in_err-start-clause-refused : goal.returns-in_err-start-clause-refused
-returns-in_err-start-clause-refused c none s told =
-    read-none c.parse.result (civil_nanos told.0) (sym c.ok.ensures.value ∙ c.in_err-start.was) (c.parse.ensures.value ∙ told.1)
+returns-in_err-start-clause-refused c none s decoded =
+    read-none c.parse.result (civil_nanos decoded.0) (sym c.ok.ensures.value ∙ c.in_err-start.was) (c.parse.ensures.value ∙ decoded.1)

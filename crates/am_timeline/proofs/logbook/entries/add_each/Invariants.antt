@@ -10,7 +10,7 @@ use Rattle.am_timeline.proofs.logbook.entries.add_each.Given as goal
 -- the entries of the integrations so far were added
 abbrev pub invariant-loop-integration : goal.invariant-loop-integration
 invariant-loop-integration l =
-    (p i : ℕ) → get same_flush_key l.table (record { place = p; integration = i })
-    ≡ option_or (if (l.place == p) && nat_lt i l.integration
+    (p i : ℕ) → get same_flush_key l.table (record { index = p; integration = i })
+    ≡ option_or (if (l.index == p) && nat_lt i l.integration
     then expiry_of l.config l.group l.t (get same_log_key l.logged (record { group = l.group; integration = i })) else None)
-    (get same_flush_key l.fn.table (record { place = p; integration = i }))
+    (get same_flush_key l.fn.table (record { index = p; integration = i }))

@@ -11,30 +11,30 @@ use Rattle.am_timeline.proofs.ExpiredTable.{table-all, table-more}
 use Rattle.am_timeline.proofs.Reversed.{reverse_more}
 use Rattle.am_timeline.proofs.logbook.entries.expired_entries.Goals as goal
 
-pub loop-place-preserved : goal.loop-place-preserved
-loop-place-preserved c =
+pub loop-index-preserved : goal.loop-index-preserved
+loop-index-preserved c =
     let history = c.args.history.now in
-    let place = c.loop-place.place in
-    let here = c.index-history-place.result in
-    let past = past_of (take place history) in
-    let inside : place < length history = omega (arith, c.loop-place-test.true) in
-    let at : slice_get history place ≡ Some here =
-    slice_get_read history (length history) place here refl inside c.index-history-place.is in
-    let more : past_of (take (place + 1) history) ≡ here ∷ past =
-    reverse_more history place here inside ∙ ap (λ (r : Record). r ∷ past) (sym c.index-history-place.is) in
+    let index = c.loop-index.index in
+    let here = c.index-history-index.result in
+    let past = past_of (take index history) in
+    let inside : index < length history = omega (arith, c.loop-index-test.true) in
+    let at : slice_get history index ≡ Some here =
+    slice_get_read history (length history) index here refl inside c.index-history-index.is in
+    let more : past_of (take (index + 1) history) ≡ here ∷ past =
+    reverse_more history index here inside ∙ ap (λ (r : Record). r ∷ past) (sym c.index-history-index.is) in
     record {
       follows = subst (λ (l : List Record). Follows c.add_record.new.log l) (sym more)
-          (c.in_ok-add_record.ensures past c.loop-place.invariant.follows);
+          (c.in_ok-add_record.ensures past c.loop-index.invariant.follows);
       found = λ p i.
-          c.in_ok-add_expired.ensures past c.loop-place.invariant.follows p i
-          ∙ ap (λ (o : Option ℕ). option_or (if place == p then expired_before c.args.config.now i past here else None) o)
-          (c.loop-place.invariant.found p i)
-          ∙ table-more c.args.config.now history place here p i at;
+          c.in_ok-add_expired.ensures past c.loop-index.invariant.follows p i
+          ∙ ap (λ (o : Option ℕ). option_or (if index == p then expired_before c.args.config.now i past here else None) o)
+          (c.loop-index.invariant.found p i)
+          ∙ table-more c.args.config.now history index here p i at;
     }
 
 pub returns : goal.returns
 returns c =
-    λ place integration.
-    c.loop-place.invariant.found place integration
-    ∙ table-all c.args.config.now c.args.history.now c.loop-place.place place integration
-    (omega (arith, c.loop-place-test.false, c.loop-place.auto.place-end))
+    λ index integration.
+    c.loop-index.invariant.found index integration
+    ∙ table-all c.args.config.now c.args.history.now c.loop-index.index index integration
+    (omega (arith, c.loop-index-test.false, c.loop-index.auto.index-end))

@@ -8,9 +8,9 @@ use Rattle.am_timeline.specs.Log.{Follows}
 use Rattle.am_timeline.proofs.logbook.entries.expired_entries.Given as goal
 
 -- the records so far were followed, and their expired entries added
-abbrev pub invariant-loop-place : goal.invariant-loop-place
-invariant-loop-place l = record {
-  follows : Follows l.log (past_of (take l.place l.history));
-  found : (p i : ℕ) → get same_flush_key l.table (record { place = p; integration = i })
-      ≡ (if nat_lt p l.place then expired l.config l.history p i else None);
+abbrev pub invariant-loop-index : goal.invariant-loop-index
+invariant-loop-index l = record {
+  follows : Follows l.log (past_of (take l.index l.history));
+  found : (p i : ℕ) → get same_flush_key l.table (record { index = p; integration = i })
+      ≡ (if nat_lt p l.index then expired l.config l.history p i else None);
 }

@@ -21,7 +21,7 @@ loop-notice-preserved c =
     let named = same_name name c.args.group.now in
     let old = get same_log_key c.args.logged.now (record { group = name; integration = i }) in
     let so_far : Option LastEntry = get same_log_key c.loop-notice.logged (record { group = name; integration = i }) in
-    let entry : Option LastEntry = Some (Logged c.args.moment) in
+    let entry : Option LastEntry = Some (Logged c.args.time) in
     let inside : j < length notices = omega (arith, c.loop-notice-test.true) in
     elim c.if-is_new_success.branch [
       | then-is_new_success+in_ok-add_entry w ↦

@@ -14,4 +14,4 @@ invariant-loop-notice l =
     ≡ (if same_name name l.group
     && is_logged (λ k. contains same_note_key l.noted (record { number = l.number; integration = k })) l.outcomes i
     (take l.notice-index l.notices)
-    then Some (Logged l.moment) else get same_log_key l.fn.logged (record { group = name; integration = i }))
+    then Some (Logged l.time) else get same_log_key l.fn.logged (record { group = name; integration = i }))

@@ -1,10 +1,10 @@
 use Rattle.std.proofs.Common.{List, slice_get, sym, ap, ◌∙◌}
 use Rattle.am_board.specs.declared.due.DueKey.{DueKey}
-use Rattle.am_board.proofs.lemmas.invariant.DueRings.{key_stands}
+use Rattle.am_board.proofs.lemmas.invariant.DueRings.{key_is_there}
 use Rattle.am_board.proofs.due.ring.DueRing.is_front.Goals as goal
 
 pub returns-then-key-due : goal.returns-then-key-due
 returns-then-key-due c same =
     ap (λ (ks : List DueKey). slice_get ks 0) (sym c.self.view_is)
-    ∙ key_stands c.self.inside.keys.items 0 c.in-Some.key.now c.args.name.now c.args.due c.in-Some.ensures.item.3.0 c.in-Some.ensures.lookup
+    ∙ key_is_there c.self.inside.keys.items 0 c.in-Some.key.now c.args.name.now c.args.due c.in-Some.ensures.item.3.0 c.in-Some.ensures.lookup
     c.if-key-due.true (sym c.eq.ensures ∙ same)

@@ -1,0 +1,57 @@
+//! Times in lines: milliseconds, or the text of a duration. `request` calls it.
+ghost use Rattle.std.specs.Prelude.{◌≡◌, None, IfOk, codes};
+ghost use Rattle.std.specs.Result.{result_ok};
+ghost use Rattle.serde_json.specs.View.{members_view, view};
+ghost use Rattle.am_cli.specs.Decoding.{Has, HasOr};
+ghost use Rattle.am_lines.specs.Request.{IsEnd, IsTime, time_in};
+
+use am_cli::duration::duration;
+use am_cli::fault::InputFault;
+use am_cli::reader::{Object, Reader};
+
+/// Reads a time: a number of milliseconds, or a duration as `4h30m`.
+fn time(reader: &Reader<'_, '_>) -> Result<u64, InputFault>
+    ensures { result_ok result ≡ time_in (view reader.now.value) }
+{
+    if reader.is_text() {
+        duration(reader)
+    } else {
+        reader.number()
+    }
+}
+
+/// Reads a time that must be there.
+pub(crate) fn time_at(object: &Object<'_, '_>, name: &str) -> Result<u64, InputFault>
+    ensures { IfOk result (Has IsTime name.now (members_view object.now.members)) }
+{
+    time(&object.required(name)?)
+}
+
+/// Reads a time, or what it is if the member isn't there.
+pub(crate) fn time_or(object: &Object<'_, '_>, name: &str, absent: u64) -> Result<u64, InputFault>
+    ensures { IfOk result (HasOr IsTime absent name.now (members_view object.now.members)) }
+{
+    match object.optional(name) {
+        None => Ok(absent),
+        Some(member) => time(&member),
+    }
+}
+
+/// Reads when an alert ends, the member `ends`: a time, or `null` for none.
+pub(crate) fn ends(alert: &Object<'_, '_>) -> Result<Option<u64>, InputFault>
+    ensures { IfOk result (HasOr IsEnd None (codes "ends") (members_view alert.now.members)) }
+{
+    match alert.optional("ends") {
+        None => Ok(None),
+        Some(member) => end(&member),
+    }
+}
+
+fn end(member: &Reader<'_, '_>) -> Result<Option<u64>, InputFault>
+    ensures { IfOk result (IsEnd (view member.now.value)) }
+{
+    if member.is_null() {
+        return Ok(None);
+    }
+    Ok(Some(time(member)?))
+}

@@ -1,0 +1,14 @@
+use Rattle.std.proofs.Common.{ap, sym}
+use Rattle.std.proofs.lemmas.Option.{slice_get_read}
+use Rattle.am_rehearsal.specs.Simulations.{scene_in, setting_in}
+use Rattle.am_rehearsal.specs.Scene.{SendingData}
+use Rattle.am_rehearsal.proofs.Stepping.{finish_done}
+use Rattle.am_rehearsal.proofs.play.Simulation.finish.Goals as goal
+
+pub returns-clause-done : goal.returns-clause-done
+returns-clause-done c =
+    let was = c.args.self.now in
+    let s = c.remove-sending.result in
+    finish_done (setting_in was) (scene_in was) c.args.position s c.sending.inside.own c.finish.new.self.board c.finish.new.self.events.items c.remove-sending.new.self.items
+    (slice_get_read was.sendings.items was.sendings.len c.args.position s was.sendings.ok.0 c.requires c.remove-sending.ensures.value)
+    (sym (ap (λ (t : SendingData). t.ticket) c.sending.view_is)) c.finish.ensures.called (ap (λ es. es.items) c.finish.ensures.events) c.remove-sending.ensures.items

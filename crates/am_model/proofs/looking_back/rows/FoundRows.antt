@@ -48,7 +48,7 @@ module _ (config : Config) (id : ℕ) (s : State) (past : List Record) (pass : �
 
 pub finds_rows_past : (config : Config) (id : ℕ) (past : List Record) → IsLegalPast config id past → FindsRows config (state_after config past) past
 finds_rows_past config id [] legal =
-    record { rows = λ name i. refl; known = λ t come test blind. refl; silences = λ t come test blind. refl; returned = tt }
+    record { rows = λ name i. refl; known = λ t come test blind. refl; silences = λ t come test blind. refl; found = tt }
 finds_rows_past config id (r ∷ past) legal =
     let s = state_after config past in
     let after = each config id s past r.pass (steady_past config past) (finds_past config id past legal.1) (finds_rows_past config id past legal.1) in

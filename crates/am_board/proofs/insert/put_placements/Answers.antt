@@ -36,16 +36,16 @@ loop-placement-init c =
       );
     }
 
-pub index-requires-clause-room : goal.index-requires-clause-room
-index-requires-clause-room c =
+pub put_placement-requires-clause-room : goal.put_placement-requires-clause-room
+put_placement-requires-clause-room c =
     (All-pop (λ (p : Placement). HasRoom 1 p.name c.loop-placement.groups.items) c.loop-placement.placements.items c.pop.new.self.items (Some c.in-Some.placement) c.in-Some.ensures.items c.loop-placement.invariant.room).1
 
-pub index-requires-clause-ready : goal.index-requires-clause-ready
-index-requires-clause-ready c =
+pub put_placement-requires-clause-ready : goal.put_placement-requires-clause-ready
+put_placement-requires-clause-ready c =
     (All-pop IsEmptyWithRoom c.loop-placement.placements.items c.pop.new.self.items (Some c.in-Some.placement) c.in-Some.ensures.items c.loop-placement.invariant.ready).1
 
-pub index-requires-clause-found : goal.index-requires-clause-found
-index-requires-clause-found c =
+pub put_placement-requires-clause-found : goal.put_placement-requires-clause-found
+put_placement-requires-clause-found c =
     (All-pop (λ (p : Placement). IsFound c.loop-placement.groups.items (target_of p)) c.loop-placement.placements.items c.pop.new.self.items (Some c.in-Some.placement) c.in-Some.ensures.items c.loop-placement.invariant.found).1
 
 pub loop-placement-preserved : goal.loop-placement-preserved

@@ -1,0 +1,156 @@
+"""Each page is short, and says one thing at a time.
+
+README.md, the other pages at the top and docs/*.md have no sentence above 30 words and no paragraph above 100, outside blocks of code
+and tables, where a code span counts as one word. No row of a table has more than 300 characters. A page has at most 1,800 words outside
+blocks of code, or what BUDGETS says. No word that writers agreed to avoid (`words`), and no link to a file or a heading that isn't there.
+"""
+import re
+from collections.abc import Iterator
+from pathlib import Path
+
+from lib.pages import report
+from lib.pages.contracts import ROOT
+from lib.pages.words import AVOID
+
+SENTENCE, PARAGRAPH, LONG, ROW = 30, 100, 25, 300
+BUDGETS = {"README": 1400, "rules": 2400, "architecture": 1900}
+BUDGET = 1800
+LINK = re.compile(r"\[([^\]]*)\]\(([^)\s]+)\)")
+Found = list[tuple[int, str]]
+
+
+def pages() -> list[Path]:
+    """The pages that people write."""
+    return [*sorted(ROOT.glob("*.md")), *sorted((ROOT / "docs").glob("*.md"))]
+
+
+def plain(text: str) -> str:
+    """The text with a word for each code span, and without comments, with as many lines as before."""
+    return re.sub(r"<!--.*?-->|`[^`]+`", lambda m: ("Code" if m[0][0] == "`" else "") + "\n" * m[0].count("\n"), text, flags=re.DOTALL)
+
+
+def without_blocks(text: str) -> str:
+    """The text with an empty line for each line of a block of code."""
+    inside, lines = False, []
+    for line in text.splitlines():
+        fence = line.lstrip().startswith("```")
+        lines.append("" if inside or fence else line)
+        inside ^= fence
+    return "\n".join(lines)
+
+
+def paragraphs(text: str) -> list[tuple[int, str]]:
+    """The paragraphs and items of lists, each with the line that it begins at."""
+    found: list[tuple[int, list[str]]] = []
+    begun = False
+    for number, line in enumerate(plain(without_blocks(text)).splitlines(), 1):
+        if not line.strip() or line.startswith(("#", "|")):
+            begun = False
+        elif begun and not re.match(r"\s*([-*]|\d+\.)\s", line):
+            found[-1][1].append(line)
+        else:
+            found.append((number, [line]))
+            begun = True
+    return [(number, LINK.sub(r"\1", "\n".join(lines))) for number, lines in found]
+
+
+def count(text: str) -> int:
+    """How many words there are."""
+    return sum(any(c.isalnum() for c in word) for word in text.split())
+
+
+def length(text: str) -> int:
+    """How many words a page has outside blocks of code."""
+    return count(LINK.sub(r"\1", without_blocks(text)))
+
+
+def sentences(text: str) -> Iterator[tuple[int, str]]:
+    """The sentences, each with its line."""
+    for number, paragraph in paragraphs(text):
+        at = 0
+        for stop in [*[it.end() for it in re.finditer(r"[.!?][\"')\]*]*\s+(?=[\"'(\[*]*[A-Z0-9])", paragraph)], len(paragraph)]:
+            yield number + paragraph[:at].count("\n"), paragraph[at:stop]
+            at = stop
+
+
+def anchor_of(heading: str, seen: set[str]) -> str:
+    """The name of a heading, as GitHub makes it behind these, to which it comes."""
+    name = re.sub(r"[^\w\- ]", "", LINK.sub(r"\1", heading).strip().lower()).replace(" ", "-")
+    again = next(it for it in (name, *(f"{name}-{i}" for i in range(1, 100))) if it not in seen)
+    seen.add(again)
+    return again
+
+
+def anchors(text: str) -> set[str]:
+    """The names of the headings."""
+    seen: set[str] = set()
+    for line in without_blocks(text).splitlines():
+        if heading := re.match(r"#+ +(.*)", line):
+            anchor_of(heading[1], seen)
+    return seen
+
+
+def link_fault(page: Path, text: str, target: str) -> str | None:
+    """What is wrong with a link of a page, if anything is."""
+    path, _, anchor = target.partition("#")
+    if re.match(r"[a-z]+:", target):
+        return None
+    file = (page.parent / path).resolve() if path else page
+    if path and not (file.exists() and file.is_relative_to(ROOT)):
+        return f"no file {target}"
+    return f"no heading {target}" if anchor and anchor not in anchors(file.read_text() if path else text) else None
+
+
+def faults_of(page: Path, text: str) -> Found:
+    """The faults of a page, by line."""
+    found: Found = [(n, f"a sentence of {count(it)} words") for n, it in sentences(text) if count(it) > SENTENCE]
+    found += [(n, f"a paragraph of {count(it)} words") for n, it in paragraphs(text) if count(it) > PARAGRAPH]
+    most, words = BUDGETS.get(page.stem, BUDGET), length(text)
+    if words > most:
+        found.append((len(text.splitlines()), f"{words} words, and at most {most} are planned"))
+    for number, line in enumerate(without_blocks(text).splitlines(), 1):
+        if line.startswith("|") and len(line) > ROW:
+            found.append((number, f"a row of {len(line)} characters"))
+    for number, line in enumerate(plain(without_blocks(text)).splitlines(), 1):
+        found += [(number, f"avoid \"{it[0]}\"") for it in AVOID.finditer(LINK.sub(r"\1", line))]
+        found += [(number, fault) for _, target in LINK.findall(line) if (fault := link_fault(page, text, target))]
+    return sorted(found)
+
+
+def self_test() -> None:
+    """Each rule finds its fault in a made text, and only there."""
+    page = ROOT / "docs" / "dispatch.md"
+    words, code = "Word " + "word " * 29, "`a b c`"
+    row = "| " + "word " * 59 + "|\n"
+    good = f"# One `two`: three\n\n{words.strip()}. {words}\n\n- {code} {words.strip()[:-5]}\n- {words}\n\n{row}```\n{words * 9} told\n```\n"
+    good += "[a](#one-two-three), [b](../README.md), [c](https://example.org) and `told`.\n"
+    bad = {good + words + "word.\n": "a sentence of 31 words", "\n\n" + (words + ". ") * 4: "a paragraph of 120 words",
+           "\n- A.\n" * 1801: "1801 words, and at most 1800 are planned", "So\nhe Told\n": 'avoid "Told"', "[a](#two)": "no heading #two",
+           "[`a`](none.md)": "no file none.md", "[a](../../x)": "no file ../../x", "[a](dispatch.md#no-such)": "no heading dispatch.md#no-such",
+           row.replace("|\n", "word |\n"): "a row of 303 characters"}
+    assert not faults_of(page, good), faults_of(page, good)
+    for text, fault in bad.items():
+        assert [it for _, it in faults_of(page, text)] == [fault], (fault, faults_of(page, text))
+    assert faults_of(page, "So\nhe Told\n")[0][0] == 2 and faults_of(page, good + words + "word.\n")[0][0] == 13
+    assert anchors("# A b\n## A b\n# A `b`, c\n") == {"a-b", "a-b-1", "a-b-c"}
+
+
+def measure() -> None:
+    """Prints how long each page is."""
+    total = 0
+    for page in pages():
+        text = page.read_text()
+        lengths = sorted(count(it) for _, it in sentences(text))
+        total += length(text)
+        most = BUDGETS.get(page.stem, BUDGET)
+        print(f"{page.relative_to(ROOT)}: {len(text.encode())} bytes, {length(text)} words of {most}; "
+              f"{len(lengths)} sentences, median {lengths[len(lengths) // 2]}, {sum(it > LONG for it in lengths)} above {LONG} words")
+    print(f"all: {sum(len(it.read_bytes()) for it in pages())} bytes, {total} words")
+
+
+def check() -> bool:
+    """Checks the pages."""
+    self_test()
+    texts = {it: it.read_text() for it in pages()}
+    found = [f"{page.relative_to(ROOT)}:{line}: {fault}" for page, text in texts.items() for line, fault in faults_of(page, text)]
+    return report.verdict("prose", found, f"{len(pages())} pages")

@@ -1,17 +1,20 @@
 #!/usr/bin/env python3
 """Checks the pages: README.md and the others at the top, docs/*.md, and the claims in docs/claims.
 
-    .ci/checks/pages.py [PART ..]         claims, prose, quotes, words; all without a part
+    .ci/checks/pages.py [PART ..]         claims, layers, prose, quotes, words; all without a part
     .ci/checks/pages.py claims --write    makes docs/claims/*.md of docs/claims/*.toml and the sources
+    .ci/checks/pages.py layers --write    makes the diagram of layers in docs/architecture.md
     .ci/checks/pages.py prose --measure   prints how long each page is
 """
 import sys
 from pathlib import Path
 
 sys.path.insert(0, str(Path(__file__).resolve().parents[1]))
-from lib.pages import claims, prose, quotes, words
+from lib.pages import claims, layers, prose, quotes, words
 
-PARTS = {"claims": lambda: claims.check("--write" in sys.argv), "prose": prose.check, "quotes": quotes.check, "words": words.check}
+WRITE = "--write" in sys.argv
+PARTS = {"claims": lambda: claims.check(WRITE), "layers": lambda: layers.check(WRITE), "prose": prose.check, "quotes": quotes.check,
+         "words": words.check}
 
 
 def main() -> None:

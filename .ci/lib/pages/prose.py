@@ -12,9 +12,11 @@ from lib.pages import report
 from lib.pages.contracts import ROOT
 from lib.pages.words import AVOID
 
-SENTENCE, PARAGRAPH, LONG, ROW = 30, 100, 25, 300
-BUDGETS = {"README": 1400, "rules": 2400, "architecture": 1900}
-BUDGET = 1800
+SENTENCE, PARAGRAPH, LONG = 30, 100, 25
+# In words: what a page has at most, and those that have another budget.
+BUDGET, BUDGETS = 1800, {"README": 1200, "rules": 2400, "live": 1850}
+# In characters: what a row of a table has at most, and the pages with a longer one.
+ROW, ROWS = 300, {"live": 310}
 LINK = re.compile(r"\[([^\]]*)\]\(([^)\s]+)\)")
 Found = list[tuple[int, str]]
 
@@ -109,7 +111,7 @@ def faults_of(page: Path, text: str) -> Found:
     if words > most:
         found.append((len(text.splitlines()), f"{words} words, and at most {most} are planned"))
     for number, line in enumerate(without_blocks(text).splitlines(), 1):
-        if line.startswith("|") and len(line) > ROW:
+        if line.startswith("|") and len(line) > ROWS.get(page.stem, ROW):
             found.append((number, f"a row of {len(line)} characters"))
     for number, line in enumerate(plain(without_blocks(text)).splitlines(), 1):
         found += [(number, f"avoid \"{it[0]}\"") for it in AVOID.finditer(LINK.sub(r"\1", line))]

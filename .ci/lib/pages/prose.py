@@ -124,11 +124,13 @@ def self_test() -> None:
     page = ROOT / "docs" / "dispatch.md"
     words, code = "Word " + "word " * 29, "`a b c`"
     row = "| " + "word " * 59 + "|\n"
-    good = f"# One `two`: three\n\n{words.strip()}. {words}\n\n- {code} {words.strip()[:-5]}\n- {words}\n\n{row}```\n{words * 9} told\n```\n"
+    good = f"# One `two`: three\n\n{words.strip()}. {words}\n\n- {code} {words.strip()[:-5]}\n- {words}\n\n"
+    good += f"{row}```\n{words * 9} told\n```\n"
     good += "[a](#one-two-three), [b](../README.md), [c](https://example.org) and `told`.\n"
     bad = {good + words + "word.\n": "a sentence of 31 words", "\n\n" + (words + ". ") * 4: "a paragraph of 120 words",
            "\n- A.\n" * 1801: "1801 words, and at most 1800 are planned", "So\nhe Told\n": 'avoid "Told"', "[a](#two)": "no heading #two",
-           "[`a`](none.md)": "no file none.md", "[a](../../x)": "no file ../../x", "[a](dispatch.md#no-such)": "no heading dispatch.md#no-such",
+           "[`a`](none.md)": "no file none.md", "[a](../../x)": "no file ../../x",
+           "[a](dispatch.md#no-such)": "no heading dispatch.md#no-such",
            row.replace("|\n", "word |\n"): "a row of 303 characters"}
     assert not faults_of(page, good), faults_of(page, good)
     for text, fault in bad.items():

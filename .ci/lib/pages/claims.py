@@ -10,8 +10,8 @@ A file has a title, `about` (what the group is for) and a list of claims. A clai
 - `proofs`: CRATE/PATH for crates/CRATE/proofs/PATH, a folder or a file. An empty list: the tactics found the proof, and no call has a
   folder of its own.
 
-The page has the sentences, and then the clauses and definitions as they are in the sources. Each law, a public function without
-parameters and with an empty body, has a claim.
+The page has the sentences, then the clauses and definitions as they are in the sources, and links to what these use. Each law, a
+public function without parameters and with an empty body, has a claim.
 """
 import re
 import tomllib
@@ -21,8 +21,8 @@ from pathlib import Path
 from typing import Any
 
 from lib.pages import report
-from lib.pages.contracts import (CRATES, ROOT, Call, Definition, calls, definitions, definitions_of, laws, part_of, proof_of, spec_of,
-                                 spread, words)
+from lib.pages.contracts import (CRATES, ROOT, Call, Definition, calls, definitions, definitions_of, laws, part_of, proof_of, scope,
+                                 spec_of, spread, words)
 from lib.pages.prose import SENTENCE, anchor_of, count, plain
 from lib.pages.words import AVOID
 
@@ -183,6 +183,16 @@ def definition_text(name: str, it: Definition) -> str:
     return f"`{name}`, {link(it.file, it.line)}:\n\n```agda\n{it.text}\n```\n"
 
 
+def used_text(shown: list[tuple[str, Definition]], called: list[tuple[str, Call, tuple[str, ...]]]) -> str:
+    """Links to the definitions that what is shown uses, and that aren't shown."""
+    texts = [(it.file, it.plain) for _, it in shown]
+    texts += [(call.file, it.text) for _, call, names in called for it in call.clauses if it.kind == "requires" or it.name in names]
+    used = {name: scope(file)[name] for file, text in texts for name in words(text) & scope(file).keys()}
+    left = sorted(((name, it) for name, it in used.items() if it not in dict(shown).values()), key=lambda it: it[0])
+    links = [f"[`{name}`](../../{it.file.relative_to(ROOT)}#L{it.line})" for name, it in left]
+    return "**Also used:** " + ", ".join(links) + "\n" if links else ""
+
+
 def claim_text(claim: Claim) -> str:
     """The part of a page for a claim."""
     done = resolve(claim)
@@ -196,6 +206,7 @@ def claim_text(claim: Claim) -> str:
     records = [it for it in dict.fromkeys(it for _, it in done.parts) if it not in dict(named).values()]
     named += [(re.findall(r"record ([\w-]+)", it.plain)[0], it) for it in records]
     parts += ["**Definitions.**\n"] * bool(named) + [definition_text(*it) for it in named]
+    parts += [it for it in [used_text(named, done.calls)] if it]
     places = [it for span in claim.proofs for it in spread(span)]
     parts.append("**Proof:** " + (", ".join(link(proof_of(it)) for it in places) if places else "the tactics found it.") + "\n")
     return "\n".join(parts)

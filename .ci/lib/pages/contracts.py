@@ -140,6 +140,17 @@ def definitions_of(crate: str) -> dict[str, Definition]:
     return {name: it for file in files for name, it in definitions(file).items()}
 
 
+@cache
+def scope(file: Path) -> dict[str, Definition]:
+    """The definitions that a source can name: those that it imports from specs/, and its own."""
+    found = dict(definitions(file)) if file.suffix == ".antt" else {}
+    for crate, path, names in re.findall(r"use Rattle\.(am_\w+)\.specs\.([\w.]+)\.\{([^}]*)\}", file.read_text()):
+        spec = CRATES / crate / "specs" / f"{path.replace('.', '/')}.antt"
+        if spec.exists():
+            found.update({it: definitions(spec)[it] for it in re.split(r",\s*", names) if it in definitions(spec)})
+    return found
+
+
 def spread(text: str) -> list[str]:
     """The names that a text with braces means."""
     parts = enumerate(re.split(r"[{}]", text.replace(" ", "")))

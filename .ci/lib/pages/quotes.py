@@ -2,8 +2,8 @@
 
 - A ```rust block is in the file of crates/ that the text before it links to or names last.
 - The commands of a ```sh block run in a folder of links to all that is at the top of the repository, or in `crates/NAME` where the
-  line before names it so. `rt run`, `rt try`, am-run, am-rehearse and ./rehearse are the programs in crates/*/out: with BUILT=yes
-  they have to be there, else commands with them are passed over. So are those of PASSED. A ```yaml or ```json block whose line
+  line before names it so. `rt run`, `rt try`, am-run, am-rehearse, tools/am-* and ./rehearse are the programs in crates/*/out: with
+  BUILT=yes they have to be there, else commands with them are passed over. So are those of PASSED. A ```yaml or ```json block whose line
   before names `NAME.yml` or `NAME.json` is that file.
 - A ``` block without a language that comes next under the same heading is what the commands print, on standard output, or on that
   and then on standard error. Another one is lines of a stored output (examples/, crates/*/stdout) or of such a file. A line `..`
@@ -32,11 +32,12 @@ from lib.pages.contracts import ROOT
 from lib.pages.prose import pages
 
 PASSED = {r"\brt (?!run|try|version|doc)": "it proves for minutes, or changes the sources", r"\.ci/": "the gate runs it by itself",
-          r"valgrind|/usr/bin/time|am_bench|tools/(measure|peer-bench)": "it measures for minutes", r"\bgit ": "it would change the clone"}
+          r"valgrind|/usr/bin/time|am_bench|tools/(measure|peer-bench)": "it measures for minutes",
+          r"tools/package": "the gate tries it by itself", r"\bgit ": "it would change the clone"}
 TOOLS = ("jq", "yq", "amtool")
 FIRST = ["./rehearse play examples/disk-full.yml", "rt ci"]
 RUNS = re.compile(r"\brt (?:run|try)\b(?: --(?= ))?")
-PROGRAM = re.compile(RUNS.pattern + r"|(?<![\w/])(am-run|am-rehearse|\./rehearse)\b|\bout/\w+")
+PROGRAM = re.compile(RUNS.pattern + r"|(?<![\w/])(am-run|am-rehearse|tools/am-\w+|\./rehearse)\b|\bout/\w+")
 
 
 @dataclass(frozen=True)

@@ -15,7 +15,7 @@ from lib.pages.words import AVOID
 # In words: what a sentence and a paragraph have at most, and the pages with a longer sentence.
 SENTENCE, PARAGRAPH, SENTENCES = 25, 100, {"live": 26}
 # In words: what a page has at most, and those that have another budget.
-BUDGET, BUDGETS = 1800, {"README": 1200, "rules": 2400, "live": 1850}
+BUDGET, BUDGETS = 1800, {"README": 1200, "rules": 2400, "live": 1850, "dispatch": 1900}
 # In characters: what a row of a table has at most, and the pages with a longer one.
 ROW, ROWS = 300, {"live": 310}
 # The end of a sentence: behind it begins another, with a capital, a number or the name of a page.
@@ -125,7 +125,7 @@ def faults_of(page: Path, text: str) -> Found:
 
 def self_test() -> None:
     """Each rule finds its fault in a made text, and only there."""
-    page = ROOT / "docs" / "dispatch.md"
+    page = ROOT / "docs" / "story.md"
     words, code = "Word " + "word " * 24, "`a b c`"
     row = "| " + "word " * 59 + "|\n"
     good = f"# One `two`: three\n\n{words.strip()}. a.md {words.strip()[:-5]}\n\n- {code} {words.strip()[:-5]}\n- {words}\n\n"
@@ -134,7 +134,7 @@ def self_test() -> None:
     bad = {good + words + "word.\n": "a sentence of 26 words", "\n\n" + (words + ". ") * 5: "a paragraph of 125 words",
            "\n- A.\n" * 1801: "1801 words, and at most 1800 are planned", "So\nhe Told\n": 'avoid "Told"', "[a](#two)": "no heading #two",
            "[`a`](none.md)": "no file none.md", "[a](../../x)": "no file ../../x",
-           "[a](dispatch.md#no-such)": "no heading dispatch.md#no-such",
+           "[a](story.md#no-such)": "no heading story.md#no-such",
            row.replace("|\n", "word |\n"): "a row of 303 characters"}
     assert not faults_of(page, good), faults_of(page, good)
     for text, fault in bad.items():

@@ -25,7 +25,9 @@ import urllib.request
 import uuid
 from pathlib import Path
 
-from live_board import BOARD, Board, BoardError
+sys.dont_write_bytecode = True
+import programs
+from live_board import Board, BoardError
 from live_carry import groups_of, kept, taken_over
 from live_format import (Config, Refused, can_update, fingerprint, label_key, matcher_lists, merged, message, read_alert, read_config,
                          read_silence, time_text)
@@ -498,7 +500,7 @@ def options():
     parser.add_argument("--web.listen-address", dest="address", default="127.0.0.1:9093")
     parser.add_argument("--web.external-url", dest="external")
     parser.add_argument("--storage.path", dest="storage", default="data")
-    parser.add_argument("--board", default=str(BOARD), help="the program am_dispatch")
+    parser.add_argument("--board", help="the program am_dispatch, if it isn't that of this repository or package")
     return parser.parse_args()
 
 
@@ -518,6 +520,7 @@ def on_signal(number, action, *arguments):
 
 def main():
     asked, clock = options(), RealClock()
+    board = asked.board or str(programs.ready("am_dispatch", "live"))
     read = lambda: Config(read_config(asked.config))
     host, _, port = asked.address.rpartition(":")
     try:
@@ -526,7 +529,7 @@ def main():
         sys.exit(f"live: {asked.address}: {error}")
     try:
         external = asked.external or f"http://{host or 'localhost'}:{port}"
-        live = Live(read(), asked.board, clock, Path(asked.storage), external, lambda text: print(text, file=sys.stderr, flush=True))
+        live = Live(read(), board, clock, Path(asked.storage), external, lambda text: print(text, file=sys.stderr, flush=True))
     except (OSError, ValueError, BoardError, Refused) as error:
         sys.exit(f"live: {asked.config}: {error}")
     Handler.live, Handler.clock, Handler.read = live, clock, staticmethod(read)

@@ -2,9 +2,6 @@
 import contextlib
 import json
 import subprocess
-from pathlib import Path
-
-BOARD = Path(__file__).resolve().parent.parent / "crates/am_dispatch/out/am_dispatch"
 
 
 class BoardError(Exception):

@@ -1,4 +1,5 @@
 """Alertmanager's formats, for live.py: the configuration, times, alerts, silences, and the bodies of webhooks."""
+import contextlib
 import itertools
 import json
 import re
@@ -6,8 +7,8 @@ import subprocess
 from datetime import datetime, timedelta, timezone
 from pathlib import Path
 
-ROOT = Path(__file__).resolve().parent.parent
-REHEARSE = ROOT / "crates/am_rehearse/out/am_rehearse"
+import programs
+
 UNITS = {"ms": 1, "s": 1000, "m": 60_000, "h": 3_600_000, "d": 86_400_000, "w": 604_800_000, "y": 31_536_000_000}
 NEVER = "0001-01-01T00:00:00Z"
 EPOCH = datetime(1970, 1, 1, tzinfo=timezone.utc)
@@ -52,18 +53,19 @@ def hooks_of(receiver):
 
 
 def read_config(path):
-    """The value of a configuration, as JSON. YAML is read by am-rehearse where it is built, else by PyYAML where that is there."""
+    """The value of a configuration, as JSON. YAML is read by am-rehearse where there is one, else by PyYAML where that is there; else
+    am-rehearse is built for it."""
     if path.endswith(".json"):
         return json.loads(Path(path).read_text(encoding="utf-8"))
-    if REHEARSE.exists():
-        ran = subprocess.run([REHEARSE, "json", path], capture_output=True, text=True, check=False)
+    program, yaml = programs.at_hand("am_rehearse"), None
+    if not program:
+        with contextlib.suppress(ImportError):
+            import yaml
+    if not yaml:
+        ran = subprocess.run([program or programs.ready("am_rehearse", "live"), "json", path], capture_output=True, text=True, check=False)
         if ran.returncode:
             raise ValueError(ran.stderr.strip())
         return json.loads(ran.stdout)
-    try:
-        import yaml
-    except ImportError:
-        raise ValueError(f"{path}: to read YAML, build am-rehearse (./rehearse --version) or install PyYAML; or give JSON") from None
     try:
         return yaml.safe_load(Path(path).read_text(encoding="utf-8"))
     except yaml.YAMLError as error:

@@ -7,6 +7,10 @@ use serde_json::Value;
 use std::alloc::{AllocError, Global};
 
 /// How a value is wrong.
+///
+/// It has the variants of `am_cli`'s `FaultKind`, and `Bounds` has limits of several crates: this crate
+/// stands on none of them, so that it can be proved beside them. `am_console` makes both, by a match
+/// over `FaultKind` and from the limits' own constants.
 #[derive(Clone, Copy, PartialEq, Eq)]
 pub enum Wrong {
     /// A field that must be there isn't.

@@ -155,6 +155,8 @@ fn window_of(carryover: Carryover) -> u64
     }
 }
 
+/// Returns whether silences come to a new dispatcher. They come wherever the log does today
+/// (`carries_log`), but are another file of Alertmanager's.
 fn carries_silences(carryover: Carryover) -> bool
     ensures { result ≡ carries_silences carryover }
 {

@@ -73,7 +73,7 @@ impl Spans {
 
     /// These spans. Refused in this order:
     ///
-    /// - `BadOrder`: a span is empty, or doesn't begin behind the end of the one before, so that
+    /// - `BadOrder`: a span is empty, or doesn't begin behind the end of the one before, so
     ///   they overlap or touch.
     /// - `TooMany`: there are more than 8,192.
     /// - `BadTime`: one ends behind 10^15 ms.

@@ -1,4 +1,4 @@
-//! What a new dispatcher of a rehearsal is reported before its own plans. Callers of `play_span` put it
+//! What a new dispatcher of a rehearsal is given before its own plans. Callers of `play_span` put it
 //! before the plans of the next dispatcher.
 //!
 //! The plans that were done are gone through from the end. So the first action of a label set or of

@@ -28,7 +28,7 @@ pub enum RehearseFault {
     AllRefused {
         faults: Faults,
     },
-    /// Memory was refused.
+    /// Out of memory.
     #[error("am-rehearse: no memory")]
     NoMemory,
     /// A write failed. Some of the output may have been written.

@@ -4,7 +4,7 @@
 //! Flushes are alike where a reader sees the same lines, so the texts of these are compared. A value that stood for them would have
 //! to say again what each line shows. Where the previews alone say that two are alike (`alike`), no text is made.
 //!
-//! Begins are looked at once, from the first one on. A table has the last flush of each group so far, so that the lines of no more
+//! Begins are looked at once, from the first one on. A table has the last flush of each group so far, so the lines of no more
 //! than one flush of each group are in memory. Cost: the lines of each begin whose preview isn't like the last one of its group.
 ghost use Rattle.std.specs.Prelude.{◌≡◌, ◌+◌, ◌<◌, ◌&&◌, ◌++◌, ◌∷◌, [], IfOk, IfSome, IsTrue, OnOk, Some, if◌then◌else◌};
 ghost use Rattle.std.specs.Prelude.{length, string_bytes};

@@ -139,7 +139,7 @@ pub report_refused : (s : Session) (x : Reporting) (pointer : ℕ) (cause : Repo
     → HasFaultAt s.tickets.items pointer x.integration x.outcome cause → IsOfReport cause f → IsReportRefused s x f
 report_refused s x pointer cause f seen same first at is =
     record {
-      pointer = pointer;
+      index = pointer;
       ticket = at.0;
       at = first_ticket x.ticket s.tickets.items seen pointer at.0 same first at.1;
       cause = cause;
@@ -155,7 +155,7 @@ pub note_refused : (s : Session) (x : Noting) (pointer : ℕ) (ticket noted : Ti
     → IsOfNote answer f → IsNoteRefused s x f
 note_refused s x pointer ticket noted notice answer f at noticed same is answered =
     record {
-      pointer = pointer;
+      index = pointer;
       ticket = ticket;
       at = at;
       notice = notice;

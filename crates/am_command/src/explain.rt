@@ -8,9 +8,9 @@ use std::alloc::{AllocError, Global};
 
 /// How a value is wrong.
 ///
-/// It has the variants of `am_cli`'s `FaultKind`, and `Bounds` has limits of several crates: this crate
-/// stands on none of them, so that it can be proved beside them. `am_console` makes both, by a match
-/// over `FaultKind` and from the limits' own constants.
+/// It has the variants of `am_cli`'s `FaultKind`, and `Bounds` has limits of several crates. This crate
+/// needs none of them, and is proved while they are. `am_console` makes both, by a match over `FaultKind`
+/// and from the limits' own constants.
 #[derive(Clone, Copy, PartialEq, Eq)]
 pub enum Wrong {
     /// A field that must be there isn't.

@@ -1,5 +1,5 @@
 -- The open flushes of a state are those of its past, and its groups are due as their last begins say, after each legal past.
-use Rattle.std.proofs.Common.{◌≡◌, ℕ, ◌+◌, ◌≤◌, Bool, true, false, cond, not, ◌&&◌, ◌||◌, Option, Some, None, List, [], ◌∷◌, refl, sym, ap, ◌∙◌, subst, arith, if◌then◌else◌}
+use Rattle.std.proofs.Common.{◌≡◌, ℕ, Bool, true, false, cond, not, ◌&&◌, ◌||◌, Option, Some, None, List, [], ◌∷◌, refl, sym, ap, ◌∙◌, subst, arith, if◌then◌else◌}
 use Rattle.std.specs.Prelude.{◌==◌}
 use Rattle.std.specs.List.{list_any}
 use Rattle.std.specs.Option.{option_map}
@@ -7,7 +7,6 @@ use Rattle.std.proofs.Math.Bool.{or-false}
 use Rattle.std.proofs.lemmas.Bool.{false≢true, eqb-true, ne_eqb}
 use Rattle.std.proofs.lemmas.Cmp.{nat_eq_equiv}
 use Rattle.std.proofs.lemmas.List.Folds.{list_any-append}
-use Rattle.am_alerts.specs.AlertData.{AlertData}
 use Rattle.am_alerts.specs.LabelOrder.{same_label_set_equiv}
 use Rattle.am_alerts.specs.declared.labels.Label.{Label}
 use Rattle.am_mute.specs.Silence.{silence_of}
@@ -29,9 +28,9 @@ use Rattle.am_model.specs.Finish.{finished, after_finish, after_finish_of}
 use Rattle.am_model.specs.Forget.{forgotten}
 use Rattle.am_model.specs.Insert.{inserted}
 use Rattle.am_model.specs.Laws.{last_begin_after}
-use Rattle.am_model.specs.Load.{may_load, loaded}
+use Rattle.am_model.specs.Load.{loaded}
 use Rattle.am_model.specs.Maintenance.{silenced, maintained}
-use Rattle.am_model.specs.Note.{with_note, may_note, after_note, noted}
+use Rattle.am_model.specs.Note.{with_note, may_note, after_note}
 use Rattle.am_model.specs.Records.{entry}
 use Rattle.am_model.specs.Replay.{reply, after_call}
 use Rattle.am_model.specs.State.{MemberState, GroupState, FlushState, State, time, same_name, members_in, flush_numbered}

@@ -1,9 +1,9 @@
 -- Whoever is due a page from a time on is told by the latest time, the slack and the hold, where each flush succeeds.
 use Rattle.std.proofs.Common.{◌≡◌, ℕ, ◌+◌, ◌<◌, ◌≤◌, Bool, true, false, cond, not, ◌&&◌, ◌||◌, Option, Some, None, ◌⊎◌, inl, inr, List, [], ◌∷◌, refl, sym, ap, ◌∙◌, subst, arith}
 use Rattle.std.specs.Prelude.{◌==◌}
-use Rattle.std.specs.List.{AllByRecursion, list_any, list_all}
+use Rattle.std.specs.List.{AllByRecursion, list_all}
 use Rattle.std.specs.Option.{option_or}
-use Rattle.std.proofs.lemmas.Bool.{false≢true, and_from, and_parts, eqb-true, or_right}
+use Rattle.std.proofs.lemmas.Bool.{false≢true, and_from, and_parts, eqb-true}
 use Rattle.std.proofs.lemmas.Cmp.{nat_eq_equiv}
 use Rattle.am_alerts.specs.Labels.{same_label_set}
 use Rattle.am_alerts.specs.declared.labels.Label.{Label}
@@ -24,7 +24,7 @@ use Rattle.am_model.specs.Notice.{NoticeData}
 use Rattle.am_model.specs.look_back.Entry.{begins_group, logs, begin_named, notified_and_succeeded, row_of_flush, row_of_begin, firing_in, resolved_in}
 use Rattle.am_model.specs.look_back.Interval.{found_empty}
 use Rattle.am_model.specs.look_back.Laws.{EveryLegalHistory, LogsDelivered, IsNoticeFound, IsReplyFound, IsOneFlushAtATime, number_in, has_open, begun_at}
-use Rattle.am_model.specs.look_back.Past.{AtEach, past_of, time_at, is_flush, is_flush_of, is_quiet, is_finish, is_note, is_maintenance, takes, notices_in, begin_of, has_begun, has_finished, was_noted, succeeded}
+use Rattle.am_model.specs.look_back.Past.{AtEach, past_of, time_at, is_flush, is_flush_of, is_finish, is_note, is_maintenance, takes, notices_in, begin_of, has_begun, has_finished, was_noted, succeeded}
 use Rattle.am_model.specs.look_back.Presence.{all_succeeded_at}
 use Rattle.am_model.proofs.lists.Distinct.{all_from, all_to, all-weaker}
 use Rattle.am_model.proofs.looking_back.LooksBack.{histories_look_back}
@@ -36,7 +36,7 @@ use Rattle.am_paging.proofs.Dropped.{no_page_is_dropped}
 use Rattle.am_paging.proofs.OpenFlushes.{is_begin, flush-begins, open-has, unnoted, neither}
 use Rattle.am_paging.proofs.Paged.{IsTold, at_begin, any-follows, call_paged}
 use Rattle.am_paging.proofs.PagesInTime.{paged-before}
-use Rattle.am_paging.proofs.Standing.{never, one-is, alive, open-begun, open-bound}
+use Rattle.am_paging.proofs.Standing.{one-is, alive, open-bound}
 
 -- ---- words
 

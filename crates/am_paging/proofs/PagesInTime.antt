@@ -1,5 +1,5 @@
 -- Whoever is due a page from a time on is paged by the latest time and the slack.
-use Rattle.std.proofs.Common.{◌≡◌, ℕ, ◌+◌, ◌<◌, ◌≤◌, max, Bool, true, false, cond, not, ◌&&◌, Option, Some, None, ◌⊎◌, inl, inr, List, [], ◌∷◌, refl, sym, ap, ◌∙◌, subst, arith, if◌then◌else◌}
+use Rattle.std.proofs.Common.{◌≡◌, ℕ, ◌+◌, ◌<◌, ◌≤◌, max, Bool, true, false, cond, not, ◌&&◌, Option, Some, None, ◌⊎◌, inl, inr, List, [], ◌∷◌, refl, sym, ap, ◌∙◌, subst, arith}
 use Rattle.std.specs.Prelude.{nat_le}
 use Rattle.std.specs.Option.{IfSome, is_none, option_map_or}
 use Rattle.std.proofs.lemmas.Bool.{false≢true, and_parts, not-true, leb-true, leb-false}
@@ -19,11 +19,12 @@ use Rattle.am_model.specs.look_back.Past.{AtEach, past_of, time_at, takes}
 use Rattle.am_model.specs.look_back.Presence.{goes_to, last_insert, presence}
 use Rattle.am_model.proofs.looking_back.LooksBack.{histories_look_back}
 use Rattle.am_model.proofs.looking_back.Pasts.{IsLegalPast, legal_past}
-use Rattle.am_paging.specs.InTime.{is_finish_of, ended_at, IsOnTime, latest, AtSome, past_until, begun_by, IsDueOnTime, IsBegunFor, PagesComeInTime, WaitsAreBounded}
+use Rattle.am_paging.specs.InTime.{ended_at, IsOnTime, latest, AtSome, past_until, begun_by, IsDueOnTime, IsBegunFor, PagesComeInTime, WaitsAreBounded}
 use Rattle.am_paging.specs.Paging.{is_due_a_page, Pages}
 use Rattle.am_paging.proofs.Dropped.{no_page_is_dropped}
-use Rattle.am_paging.proofs.DueMoments.{IsDueBy, group_after, due-later, due-step, due-within}
-use Rattle.am_paging.proofs.Standing.{never, not-found_empty, not-missing, open-begun, finish-open, ended-before, ended-step, begun-bound, new-bound, open-bound}
+use Rattle.am_paging.proofs.DueMoments.{IsDueBy, due-later, due-step, due-within}
+use Rattle.am_paging.proofs.GroupSteps.{group_after}
+use Rattle.am_paging.proofs.Standing.{not-found_empty, not-missing, open-begun, finish-open, ended-before, ended-step, begun-bound, new-bound, open-bound}
 use Rattle.am_paging.proofs.Unresolved.{fires-there}
 
 -- ---- words

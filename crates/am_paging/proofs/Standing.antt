@@ -1,6 +1,6 @@
 -- A group that has an alert, or was begun: it is there, it is due in time, and its open flush and its last finish came in time.
 use Rattle.std.proofs.Common.{◌≡◌, ℕ, ◌+◌, ◌≤◌, max, Bool, true, false, cond, not, ◌&&◌, ◌||◌, Option, Some, None, List, [], ◌∷◌, refl, sym, ap, ◌∙◌, subst, arith}
-use Rattle.std.specs.Prelude.{find, is_some, unwrap_or}
+use Rattle.std.specs.Prelude.{find, unwrap_or}
 use Rattle.std.specs.List.{list_any, AllByRecursion}
 use Rattle.std.specs.Option.{IfSome, option_map}
 use Rattle.std.proofs.lemmas.Bool.{false≢true, or_left, or_right}
@@ -13,28 +13,26 @@ use Rattle.am_model.specs.declared.record.Call.{Call}
 use Rattle.am_model.specs.declared.record.Call.TheVariants.{Insert, Silence, Begin, Finish, Maintain, Forget, Load, Note}
 use Rattle.am_model.specs.declared.record.Record.{Record}
 use Rattle.am_model.specs.Configured.{route_of}
-use Rattle.am_model.specs.Insert.{wait_of}
 use Rattle.am_model.specs.Laws.{IsBegunAt}
-use Rattle.am_model.specs.State.{MemberState, GroupState, FlushState, is_named, has_group, members_in, same_name, is_flushing}
-use Rattle.am_model.specs.look_back.Entry.{begins_group, present_in}
+use Rattle.am_model.specs.State.{MemberState, GroupState, FlushState, is_named, same_name}
+use Rattle.am_model.specs.look_back.Entry.{present_in}
 use Rattle.am_model.specs.look_back.Interval.{found_empty}
 use Rattle.am_model.specs.look_back.Laws.{member_with, number_in, has_open, begun_at, IsOneFlushAtATime}
-use Rattle.am_model.specs.look_back.Past.{AtEach, replay_past, time_at, is_flush_of, is_quiet, is_finish, is_maintenance, takes, begin_of, has_begun, has_finished}
+use Rattle.am_model.specs.look_back.Past.{replay_past, time_at, is_flush_of, is_quiet, is_finish, is_maintenance, takes, has_finished}
 use Rattle.am_model.specs.look_back.Presence.{presence}
 use Rattle.am_model.proofs.legal.Begins.{RespectsIntervals}
 use Rattle.am_model.proofs.legal.ConsistentGroups.{members_of, members_of-in, IsAlive}
 use Rattle.am_model.proofs.legal.ConsistentState.{IsOpen}
-use Rattle.am_model.proofs.legal.EachCall.{inside}
 use Rattle.am_model.proofs.lists.Distinct.{all-find, find-passes}
-use Rattle.am_model.proofs.lists.Sets.{any-find}
 use Rattle.am_model.proofs.looking_back.Pasts.{state_after, IsLegalPast, replay_of_past}
 use Rattle.am_model.proofs.looking_back.alerts.AlertSets.{present-found}
 use Rattle.am_model.proofs.looking_back.alerts.FoundAlerts.{steady_past, finds_past, members-found}
 use Rattle.am_model.proofs.looking_back.flushes.FlushesOnce.{open-group}
-use Rattle.am_model.proofs.states.Alike.{same_name-is, same_name_equiv}
+use Rattle.am_model.proofs.states.Alike.{same_name-is}
 use Rattle.am_paging.specs.InTime.{is_finish_of, ended_at, IsOnTime}
 use Rattle.am_paging.proofs.Counted.{empty-found, counts_past}
-use Rattle.am_paging.proofs.DueMoments.{IsDueBy, group_after}
+use Rattle.am_paging.proofs.DueMoments.{IsDueBy}
+use Rattle.am_paging.proofs.GroupSteps.{group_after}
 use Rattle.am_paging.proofs.OpenFlushes.{open-has}
 
 -- nothing is both

@@ -1,11 +1,11 @@
 -- Worked histories of drivers that are on time, and of drivers that aren't: the hypotheses are met, and each is needed.
 use Rattle.std.proofs.Common.{◌≡◌, ℕ, ◌+◌, ◌<◌, ◌≤◌, true, false, Some, None, List, [], ◌∷◌, ◌++◌, refl, sym, arith}
-use Rattle.std.specs.Prelude.{codes}
-use Rattle.std.proofs.lemmas.Bool.{false≢true}
+use Rattle.std.specs.Prelude.{codes, ◌==◌}
+use Rattle.std.proofs.lemmas.Bool.{false≢true, and_from}
 use Rattle.am_alerts.specs.AlertData.{AlertData}
 use Rattle.am_alerts.specs.declared.labels.Label.{Label}
 use Rattle.am_alerts.specs.declared.matcher.Operator.TheVariants.{Equal}
-use Rattle.am_retry.specs.declared.outcome.Outcome.TheVariants.{Delivered}
+use Rattle.am_retry.specs.declared.outcome.Outcome.TheVariants.{Delivered, Refused}
 use Rattle.am_model.specs.declared.record.Call.TheVariants.{Silence}
 use Rattle.am_model.specs.declared.record.Record.{Record}
 use Rattle.am_model.specs.declared.record.Reply.TheVariants.{Silenced}
@@ -13,11 +13,11 @@ use Rattle.am_model.specs.Records.{entry}
 use Rattle.am_model.specs.Replay.{IsLegal}
 use Rattle.am_model.specs.look_back.Entry.{entry_in}
 use Rattle.am_model.specs.look_back.Laws.{begun_at}
-use Rattle.am_model.specs.look_back.Past.{AtEach, past_of, time_at, takes}
+use Rattle.am_model.specs.look_back.Past.{AtEach, past_of, time_at}
 use Rattle.am_model.specs.look_back.Presence.{goes_to}
 use Rattle.am_model.proofs.examples.Base.{base, named, instance, fires, group, group_a, a, insert, nothing_due, quiet, flush_hook, finish}
-use Rattle.am_paging.specs.InTime.{IsOnTime, WasOnTime, waits_since, latest, past_until, begun_by, IsDueOnTime}
-use Rattle.am_paging.specs.Paging.{is_due_a_page, pages}
+use Rattle.am_paging.specs.InTime.{IsOnTime, WasOnTime, waits_since, latest, begun_by, asked_at, IsDueOnTime, Succeeds}
+use Rattle.am_paging.specs.Paging.{is_due_a_page, pages, reports_page}
 
 abbrev labels_a : List Label
 labels_a = named (codes "A")
@@ -195,6 +195,72 @@ heard_late = omega arith
 
 heard_paged : pages 0 labels_a begin_a.reply ≡ true
 heard_paged = refl
+
+-- a little later, it was delivered in time: the finish reports it
+abbrev told : List Record
+told = heard ++ nothing_due 336_000 ∷ []
+
+told_legal : IsLegal base 7 told
+told_legal = (refl, (refl, (refl, (refl, (refl, (refl, tt))))))
+
+told_on_time : AtEach DueOnTime (past_of told)
+told_on_time = (λ _. (record { begins = λ e. omega arith; ends = λ e. absurd (false≢true e) }, refl), heard_on_time)
+
+told_succeeds : AtEach (Succeeds group_a 100_000) (past_of told)
+told_succeeds = (
+  λ _ f number e. absurd (false≢true f),
+  (
+    λ _ f number e. and_from (1 == number) true e refl,
+    (λ _ f number e. absurd (false≢true f), (λ _ f number e. absurd (false≢true f), (λ _ f number e. absurd (false≢true f), (λ _ f number e. absurd (false≢true f), tt)))),
+  ),
+)
+
+told_late : 332_000 + 3_000 < time_at (past_of told)
+told_late = omega arith
+
+told_reported : reports_page group_a 0 labels_a (past_of (silenced ++ begin_a ∷ [])) (finish 333_000 1 ((0, Delivered) ∷ []) 1 0).call ≡ true
+told_reported = refl
+
+-- left out: that it succeeds; the notice is refused, and nobody is told
+abbrev refused : List Record
+refused = silenced ++ begin_a ∷ finish 333_000 1 ((0, Refused) ∷ []) 0 0 ∷ []
+
+refused_legal : IsLegal base 7 (refused ++ nothing_due 336_000 ∷ [])
+refused_legal = (refl, (refl, (refl, (refl, (refl, (refl, tt))))))
+
+refused_unreported : reports_page group_a 0 labels_a (past_of (silenced ++ begin_a ∷ [])) (finish 333_000 1 ((0, Refused) ∷ []) 0 0).call ≡ false
+refused_unreported = refl
+
+refused_entry : entry_in base group_a 0 (past_of refused) ≡ None
+refused_entry = refl
+
+-- left out: that it is on time; A is due from 0 on, and its group is begun after 32 seconds
+slow_due : is_due_a_page base group_a labels_a 40_000 (past_of (insert 0 a 1 1 1 ∷ [])) ≡ true
+slow_due = refl
+
+slow_by : begun_by base group_a 3_000 0 (past_of (insert 0 a 1 1 1 ∷ slow ∷ [])) + 2_000 ≡ 32_000
+slow_by = refl
+
+-- ---- a driver that asks: at 31 seconds it begins the group, and hears that nothing more is due; for two seconds it need not ask again
+
+abbrev asks : List Record
+asks = insert 0 a 1 1 1 ∷ nothing_due 29_000 ∷ flush_hook 31_000 1 group_a 331_000 (a ∷ []) [] ∷ nothing_due 31_000 ∷ []
+
+asks_legal : IsLegal base 7 (asks ++ finish 33_000 1 ((0, Delivered) ∷ []) 1 0 ∷ [])
+asks_legal = (refl, (refl, (refl, (refl, (refl, tt)))))
+
+asks_at : asked_at (past_of asks) ≡ 31_000
+asks_at = refl
+
+-- left out: that it asked; 11 seconds after the last answer, the group is late
+asks_seldom : asked_at (past_of (insert 0 a 1 1 1 ∷ nothing_due 29_000 ∷ [])) ≡ 29_000
+asks_seldom = refl
+
+seldom_late : OnTime slow (past_of (insert 0 a 1 1 1 ∷ nothing_due 29_000 ∷ [])) → ⊥
+seldom_late on = by (on.begins refl)
+  where
+    by : 40_000 ≤ 30_000 + 2_000 → ⊥
+    by h = absurd (omega (arith, h))
 
 -- left out: that it is due; the silence stays, all is on time, and nobody is notified
 abbrev unheard : List Record

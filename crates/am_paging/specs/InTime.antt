@@ -8,6 +8,9 @@ use Rattle.am_model.specs.declared.group.GroupName.{GroupName}
 use Rattle.am_model.specs.declared.record.Call.{Call}
 use Rattle.am_model.specs.declared.record.Call.TheVariants.{Insert, Silence, Begin, Finish, Maintain, Forget, Load, Note}
 use Rattle.am_model.specs.declared.record.Record.{Record}
+use Rattle.am_model.specs.declared.record.Reply.{Reply}
+use Rattle.am_model.specs.declared.record.Reply.TheVariants.{Inserted, Silenced, NothingDue, Quiet, Flush}
+use Rattle.am_model.specs.declared.record.Reply.TheVariants.{Finished, Maintained, Forgotten, Loaded, Noted}
 use Rattle.am_model.specs.Configured.{route_of, integrations_of}
 use Rattle.am_model.specs.Insert.{wait_of}
 use Rattle.am_model.specs.State.{is_named}
@@ -36,18 +39,50 @@ abbrev pub ended_at : GroupName → Past → ℕ
 ended_at name [] = 0
 ended_at name (r ∷ past) = if is_finish_of name past r.call then time_at (r ∷ past) else ended_at name past
 
--- a record is on time for a group: where no flush of the group is open, it comes no later than the slack after the group is due and its
--- last flush is finished; where one is open, it comes no later than the hold after the group was begun
+-- where no flush of a group is open, a record comes no later than the slack after the group is due and its last flush is finished
+abbrev pub BeginsOnTime : ℕ → Config → GroupName → Record → Past → Type 0
+BeginsOnTime slack config name r past =
+    has_open name past ≡ false
+    → IfSome (find (is_named name) (replay_past config past).groups) (λ g. time_at (r ∷ past) ≤ max g.due (ended_at name past) + slack)
+
+-- where one is open, it comes no later than the hold after the group was begun
+abbrev pub EndsOnTime : ℕ → Config → GroupName → Record → Past → Type 0
+EndsOnTime hold config name r past = has_open name past ≡ true → IfSome (begun_at config name past) (λ begun. time_at (r ∷ past) ≤ begun + hold)
+
+-- a record is on time for a group
 pub record IsOnTime (slack hold : ℕ) (config : Config) (name : GroupName) (r : Record) (past : Past) : Type 0 where
-  pub begins : has_open name past ≡ false
-      → IfSome (find (is_named name) (replay_past config past).groups) (λ g. time_at (r ∷ past) ≤ max g.due (ended_at name past) + slack)
-  pub ends : has_open name past ≡ true → IfSome (begun_at config name past) (λ begun. time_at (r ∷ past) ≤ begun + hold)
+  pub begins : BeginsOnTime slack config name r past
+  pub ends : EndsOnTime hold config name r past
 
 -- each record since the last begin of a group was on time for it
 abbrev pub WasOnTime : ℕ → ℕ → Config → GroupName → Past → Type 0
 WasOnTime slack hold config name [] = Unit {0}
 WasOnTime slack hold config name (r ∷ past) =
     takes name r.reply ≡ false → IsOnTime slack hold config name r past × WasOnTime slack hold config name past
+
+-- whether a reply is that nothing is due
+abbrev pub is_nothing_due : Reply → Bool
+is_nothing_due (Inserted inserted) = false
+is_nothing_due (Silenced silenced) = false
+is_nothing_due NothingDue = true
+is_nothing_due (Quiet group removed) = false
+is_nothing_due (Flush group opened) = false
+is_nothing_due (Finished finished) = false
+is_nothing_due (Maintained maintained) = false
+is_nothing_due (Forgotten forgotten) = false
+is_nothing_due (Loaded loaded) = false
+is_nothing_due Noted = false
+
+-- when a begin answered last that nothing is due; 0 if none did
+abbrev pub asked_at : Past → ℕ
+asked_at [] = 0
+asked_at (r ∷ past) = if is_nothing_due r.reply then time_at (r ∷ past) else asked_at past
+
+-- a record begins on time for each group, where a begin answered at most the slack ago that nothing is due
+abbrev pub AskingIsOnTime : Config → List Record → Type 0
+AskingIsOnTime config history =
+    (slack : ℕ) (name : GroupName)
+    → AtEach (λ r past. time_at (r ∷ past) ≤ asked_at past + slack → BeginsOnTime slack config name r past) (past_of history)
 
 -- ---- nobody waits longer
 

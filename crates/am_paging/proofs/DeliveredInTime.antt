@@ -25,12 +25,10 @@ use Rattle.am_model.specs.look_back.Entry.{begins_group, logs, begin_named, noti
 use Rattle.am_model.specs.look_back.Interval.{found_empty}
 use Rattle.am_model.specs.look_back.Laws.{EveryLegalHistory, LogsDelivered, IsNoticeFound, IsReplyFound, IsOneFlushAtATime, number_in, has_open, begun_at}
 use Rattle.am_model.specs.look_back.Past.{AtEach, past_of, time_at, is_flush, is_flush_of, is_finish, is_note, is_maintenance, takes, notices_in, begin_of, has_begun, has_finished, was_noted, succeeded}
-use Rattle.am_model.specs.look_back.Presence.{all_succeeded_at}
 use Rattle.am_model.proofs.lists.Distinct.{all_from, all_to, all-weaker}
 use Rattle.am_model.proofs.looking_back.LooksBack.{histories_look_back}
 use Rattle.am_model.proofs.looking_back.Pasts.{IsLegalPast, legal_past}
-use Rattle.am_paging.specs.InTime.{is_finish_of, IsOnTime, AtSome, begun_by, IsDueOnTime, IsBegunFor, Succeeds, HearsBy, PagesAreDeliveredInTime}
-use Rattle.am_paging.specs.Logged.{finishes_all}
+use Rattle.am_paging.specs.InTime.{is_finish_of, IsOnTime, AtSome, begun_by, IsDueOnTime, IsBegunFor, reaches, finishes_for, Succeeds, HearsBy, PagesAreDeliveredInTime}
 use Rattle.am_paging.specs.Paging.{lists, pages, reports_page, HasHeard}
 use Rattle.am_paging.proofs.Dropped.{no_page_is_dropped}
 use Rattle.am_paging.proofs.OpenFlushes.{is_begin, flush-begins, open-has, unnoted, neither}
@@ -161,25 +159,28 @@ module _ (config : Config) (name : GroupName) (labels : List Label) (i : ℕ) wh
       let own = listing t (begin_of n past) (at_begin (IsTold config) n past told) paged in
       (call_paged config name i t labels own.row None own.member past told r.call (delivered name i logged) (ap (λ begin. option_or (row_of_begin config t i begin) None) is ∙ ap (λ o. option_or o None) own.logged)).1
 
-  -- the finish of its flush of which all succeeded logs it, unless it was noted
-  notified-succeeds : (n : ℕ) (outcomes : List (ℕ × Outcome)) (whole begin : List Record) → pages_at begin ≡ true → all_succeeded_at n outcomes whole begin ≡ true → notified_and_succeeded n outcomes whole i begin ≡ true
+  -- the finish of its flush that reaches the integration logs it, unless it was noted
+  notified-succeeds : (n : ℕ) (outcomes : List (ℕ × Outcome)) (whole begin : List Record) → pages_at begin ≡ true → reaches i n outcomes whole begin ≡ true → notified_and_succeeded n outcomes whole i begin ≡ true
   notified-succeeds n outcomes whole [] paged all = absurd (false≢true paged)
   notified-succeeds n outcomes whole (r ∷ past) paged all =
-      any-follows (λ x. succeeded n outcomes whole x ≡ true) (λ x. (x.integration == i) && lists labels x) (λ x. (x.integration == i) && succeeded n outcomes whole x)
-      (λ x s e. and_from (x.integration == i) (succeeded n outcomes whole x) (and_parts (x.integration == i) (lists labels x) e).0 s)
-      (notices_in r.reply) (all-pass (succeeded n outcomes whole) (notices_in r.reply) all) paged
+      any-follows (λ x. (not (x.integration == i) || succeeded n outcomes whole x) ≡ true) (λ x. (x.integration == i) && lists labels x) (λ x. (x.integration == i) && succeeded n outcomes whole x)
+      (λ x s e. own (x.integration == i) (succeeded n outcomes whole x) (and_parts (x.integration == i) (lists labels x) e).0 s)
+      (notices_in r.reply) (all-pass (λ x. not (x.integration == i) || succeeded n outcomes whole x) (notices_in r.reply) all) paged
+    where
+      own : (a b : Bool) → a ≡ true → (not a || b) ≡ true → (a && b) ≡ true
+      own true b e f = f
+      own false b e f = absurd (false≢true e)
 
-  finish-logs : (n : ℕ) (past : List Record) (c : Call) → is_finish n c ≡ true → finishes_all n past c ≡ true → begins_group name (begin_of n past) ≡ true → pages_at (begin_of n past) ≡ true → was_noted n i past ≡ false
+  finish-logs : (n : ℕ) (past : List Record) (c : Call) → is_finish n c ≡ true → finishes_for i past c ≡ true → begins_group name (begin_of n past) ≡ true → pages_at (begin_of n past) ≡ true → was_noted n i past ≡ false
       → (logs name i past c ≡ true) × (begin_named past c ≡ begin_of n past)
   finish-logs n past (Insert now alert) is all begun paged unnoted = absurd (false≢true is)
   finish-logs n past (Silence now id matchers start end) is all begun paged unnoted = absurd (false≢true is)
   finish-logs n past (Begin now) is all begun paged unnoted = absurd (false≢true is)
   finish-logs n past (Finish now m outcomes) is all begun paged unnoted =
       let own : m ≡ n = eqb-true m n is in
-      let done : all_succeeded_at m outcomes past (begin_of m past) ≡ true = (and_parts (m == n) (all_succeeded_at m outcomes past (begin_of m past)) all).1 in
       let here : pages_at (begin_of m past) ≡ true = ap (λ k. pages_at (begin_of k past)) own ∙ paged in (
         and_from (begins_group name (begin_of m past)) (notified_and_succeeded m outcomes past i (begin_of m past) && not (was_noted m i past)) (ap (λ k. begins_group name (begin_of k past)) own ∙ begun)
-            (and_from (notified_and_succeeded m outcomes past i (begin_of m past)) (not (was_noted m i past)) (notified-succeeds m outcomes past (begin_of m past) here done) (ap (λ k. not (was_noted k i past)) own ∙ ap not unnoted)),
+            (and_from (notified_and_succeeded m outcomes past i (begin_of m past)) (not (was_noted m i past)) (notified-succeeds m outcomes past (begin_of m past) here all) (ap (λ k. not (was_noted k i past)) own ∙ ap not unnoted)),
         ap (λ k. begin_of k past) own,
       )
   finish-logs n past (Maintain now) is all begun paged unnoted = absurd (false≢true is)
@@ -246,7 +247,7 @@ module _ (config : Config) (name : GroupName) (labels : List Label) (i : ℕ) wh
         )
 
     -- a record more, which is on time
-    step-paging : (n : ℕ) (r : Record) (past : List Record) → IsLegalPast config id past → IsOneFlushAtATime r past → AtEach (IsTold config) past → LogsDelivered r past → (x < time_at (r ∷ past) → IsOnTime slack hold config name r past) → Succeeds name x r past
+    step-paging : (n : ℕ) (r : Record) (past : List Record) → IsLegalPast config id past → IsOneFlushAtATime r past → AtEach (IsTold config) past → LogsDelivered r past → (x < time_at (r ∷ past) → IsOnTime slack hold config name r past) → Succeeds name i x r past
         → IsPaging n past → Hears (r ∷ past)
     step-paging n r past legal once told delivered on succeeds p = by_call (is_finish n r.call) (is_note n i r.call) refl refl
       where
@@ -298,7 +299,7 @@ module _ (config : Config) (name : GroupName) (labels : List Label) (i : ℕ) wh
 
         by_call : (f k : Bool) → is_finish n r.call ≡ f → is_note n i r.call ≡ k → Hears (r ∷ past)
         by_call true k is note_is =
-            let own = finish-logs n past r.call is (succeeds after (finish-of r.call is) n is) p.begun p.paged p.unnoted_still in
+            let own = finish-logs n past r.call is (succeeds after (finish-of r.call is)) p.begun p.paged p.unnoted_still in
             by_report (logs-page n r past told delivered p.paged own.1 own.0)
         by_call false true is note_is =
             let own = note-logs n past r.call note_is p.begun in
@@ -329,30 +330,34 @@ module _ (config : Config) (id : ℕ) (name : GroupName) (labels : List Label) (
   abbrev is : List (ℕ × Integration)
   is = integrations_of config name
 
-  hears : (past : List Record) → IsLegalPast config id past → AtEach IsOneFlushAtATime past → AtEach (IsTold config) past → AtEach LogsDelivered past → AtEach (IsDueOnTime slack hold config name labels x) past → AtEach (Succeeds name x) past
-      → AtSome (IsBegunFor config name labels x by) past → AllByRecursion (λ i. Hears config name labels i.0 id slack hold x by past) is
-  hears [] legal once told delivered due succeeds some = absurd some
-  hears (r ∷ past) legal once told delivered due succeeds (inl here) =
+  abbrev HearsIf : ℕ × Integration → List Record → Type 0
+  HearsIf i past = AtEach (Succeeds name i.0 x) past → Hears config name labels i.0 id slack hold x by past
+
+  hears : (past : List Record) → IsLegalPast config id past → AtEach IsOneFlushAtATime past → AtEach (IsTold config) past → AtEach LogsDelivered past → AtEach (IsDueOnTime slack hold config name labels x) past
+      → AtSome (IsBegunFor config name labels x by) past → AllByRecursion (λ i. HearsIf i past) is
+  hears [] legal once told delivered due some = absurd some
+  hears (r ∷ past) legal once told delivered due (inl here) =
       let Told : ℕ × Integration → Type 0 = λ i. (pages i.0 labels r.reply ≡ true) ⊎ HasHeard config name i.0 labels (time_at (r ∷ past)) past in
-      all-weaker Told (λ i. Hears config name labels i.0 id slack hold x by (r ∷ past)) (λ i h. begin-hears config name labels i.0 id slack hold x by r past legal once here.taken here.after here.in_time h) is (all_to Told is here.told)
-  hears (r ∷ past) legal once told delivered due succeeds (inr there) =
-      all-weaker (λ i. Hears config name labels i.0 id slack hold x by past) (λ i. Hears config name labels i.0 id slack hold x by (r ∷ past)) (λ i h. step i h) is
-      (hears past legal.1 once.1 told.1 delivered.1 due.1 succeeds.1 there)
+      all-weaker Told (λ i. HearsIf i (r ∷ past)) (λ i h _. begin-hears config name labels i.0 id slack hold x by r past legal once here.taken here.after here.in_time h) is (all_to Told is here.told)
+  hears (r ∷ past) legal once told delivered due (inr there) =
+      all-weaker (λ i. HearsIf i past) (λ i. HearsIf i (r ∷ past)) (λ i h succeeds. step i succeeds.0 (h succeeds.1)) is
+      (hears past legal.1 once.1 told.1 delivered.1 due.1 there)
     where
-      step : (i : ℕ × Integration) → Hears config name labels i.0 id slack hold x by past → Hears config name labels i.0 id slack hold x by (r ∷ past)
-      step i (inl heard) = inl (inr heard)
-      step i (inr open_one) = step-paging config name labels i.0 id slack hold x by open_one.0 r past legal.1 once.0 told.1 delivered.0 (λ after. (due.0 after).0) succeeds.0 open_one.1
+      step : (i : ℕ × Integration) → Succeeds name i.0 x r past → Hears config name labels i.0 id slack hold x by past → Hears config name labels i.0 id slack hold x by (r ∷ past)
+      step i succeeds (inl heard) = inl (inr heard)
+      step i succeeds (inr open_one) = step-paging config name labels i.0 id slack hold x by open_one.0 r past legal.1 once.0 told.1 delivered.0 (λ after. (due.0 after).0) succeeds open_one.1
 
 pub pages_are_delivered_in_time : EveryLegalHistory PagesAreDeliveredInTime
-pages_are_delivered_in_time config id history legal slack hold x name labels due succeeds late =
+pages_are_delivered_in_time config id history legal slack hold x name labels due late =
     let past = past_of history in
     let back = histories_look_back config id history legal in
     let legals = legal_past config id history legal in
     let by : ℕ = begun_by config name hold x past + slack in
     let some = paged-before config id name labels slack hold x past legals back.once (no_page_is_dropped config id history legal) due (omega (arith, late)) in
-    all_from (λ i. AtSome (HearsBy config name i.0 labels x (by + hold)) past) (integrations_of config name)
-    (all-weaker (λ i. Hears config name labels i.0 id slack hold x by past) (λ i. AtSome (HearsBy config name i.0 labels x (by + hold)) past) (λ i h. ends i.0 by past late h) (integrations_of config name)
-    (hears config id name labels slack hold x by past legals back.once back.notices back.only_delivered due succeeds some))
+    let Told : ℕ × Integration → Type 0 = λ i. AtEach (Succeeds name i.0 x) past → AtSome (HearsBy config name i.0 labels x (by + hold)) past in
+    all_from Told (integrations_of config name)
+    (all-weaker (λ i. HearsIf config id name labels slack hold x by i past) Told (λ i h succeeds. ends i.0 by past late (h succeeds)) (integrations_of config name)
+    (hears config id name labels slack hold x by past legals back.once back.notices back.only_delivered due some))
   where
     ends : (i by : ℕ) (past : List Record) → by + hold < time_at past → Hears config name labels i id slack hold x by past → AtSome (HearsBy config name i labels x (by + hold)) past
     ends i by past late (inl heard) = heard

@@ -1,7 +1,7 @@
 -- Worked histories of drivers that are on time, and of drivers that aren't: the hypotheses are met, and each is needed.
 use Rattle.std.proofs.Common.{◌≡◌, ℕ, ◌+◌, ◌<◌, ◌≤◌, true, false, Some, None, List, [], ◌∷◌, ◌++◌, refl, sym, arith}
-use Rattle.std.specs.Prelude.{codes, ◌==◌}
-use Rattle.std.proofs.lemmas.Bool.{false≢true, and_from}
+use Rattle.std.specs.Prelude.{codes}
+use Rattle.std.proofs.lemmas.Bool.{false≢true}
 use Rattle.am_alerts.specs.AlertData.{AlertData}
 use Rattle.am_alerts.specs.declared.labels.Label.{Label}
 use Rattle.am_alerts.specs.declared.matcher.Operator.TheVariants.{Equal}
@@ -16,7 +16,7 @@ use Rattle.am_model.specs.look_back.Laws.{begun_at}
 use Rattle.am_model.specs.look_back.Past.{AtEach, past_of, time_at}
 use Rattle.am_model.specs.look_back.Presence.{goes_to}
 use Rattle.am_model.proofs.examples.Base.{base, named, instance, fires, group, group_a, a, insert, nothing_due, quiet, flush_hook, finish}
-use Rattle.am_paging.specs.InTime.{IsOnTime, WasOnTime, waits_since, latest, begun_by, asked_at, IsDueOnTime, Succeeds}
+use Rattle.am_paging.specs.InTime.{IsOnTime, WasOnTime, waits_since, latest, begun_by, asked_at, IsDueOnTime, finishes_for, Succeeds}
 use Rattle.am_paging.specs.Paging.{is_due_a_page, pages, reports_page}
 
 abbrev labels_a : List Label
@@ -206,13 +206,10 @@ told_legal = (refl, (refl, (refl, (refl, (refl, (refl, tt))))))
 told_on_time : AtEach DueOnTime (past_of told)
 told_on_time = (λ _. (record { begins = λ e. omega arith; ends = λ e. absurd (false≢true e) }, refl), heard_on_time)
 
-told_succeeds : AtEach (Succeeds group_a 100_000) (past_of told)
+told_succeeds : AtEach (Succeeds group_a 0 100_000) (past_of told)
 told_succeeds = (
-  λ _ f number e. absurd (false≢true f),
-  (
-    λ _ f number e. and_from (1 == number) true e refl,
-    (λ _ f number e. absurd (false≢true f), (λ _ f number e. absurd (false≢true f), (λ _ f number e. absurd (false≢true f), (λ _ f number e. absurd (false≢true f), tt)))),
-  ),
+  λ _ f. absurd (false≢true f),
+  (λ _ f. refl, (λ _ f. absurd (false≢true f), (λ _ f. absurd (false≢true f), (λ _ f. absurd (false≢true f), (λ _ f. absurd (false≢true f), tt))))),
 )
 
 told_late : 332_000 + 3_000 < time_at (past_of told)
@@ -227,6 +224,13 @@ refused = silenced ++ begin_a ∷ finish 333_000 1 ((0, Refused) ∷ []) 0 0 ∷
 
 refused_legal : IsLegal base 7 (refused ++ nothing_due 336_000 ∷ [])
 refused_legal = (refl, (refl, (refl, (refl, (refl, (refl, tt))))))
+
+refused_fails : finishes_for 0 (past_of (silenced ++ begin_a ∷ [])) (finish 333_000 1 ((0, Refused) ∷ []) 0 0).call ≡ false
+refused_fails = refl
+
+-- that is of one integration: another isn't asked about
+refused_other : finishes_for 1 (past_of (silenced ++ begin_a ∷ [])) (finish 333_000 1 ((0, Refused) ∷ []) 0 0).call ≡ true
+refused_other = refl
 
 refused_unreported : reports_page group_a 0 labels_a (past_of (silenced ++ begin_a ∷ [])) (finish 333_000 1 ((0, Refused) ∷ []) 0 0).call ≡ false
 refused_unreported = refl

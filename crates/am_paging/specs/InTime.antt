@@ -1,8 +1,10 @@
 -- InTime: where a driver is on time for a group, none of its alerts waits for a notice longer than a bound.
-use Rattle.std.specs.Prelude.{◌≡◌, ℕ, ◌+◌, ◌<◌, ◌≤◌, max, Bool, true, false, ◌⊎◌, All, List, [], ◌∷◌, Option, Some, None, find, nat_le}
+use Rattle.std.specs.Prelude.{◌≡◌, ℕ, ◌+◌, ◌<◌, ◌≤◌, max, Bool, true, false, not, ◌||◌, ◌==◌, ◌⊎◌, All, List, [], ◌∷◌, Option, Some, None, find, nat_le}
 use Rattle.std.specs.Prelude.{if◌then◌else◌}
+use Rattle.std.specs.List.{list_all}
 use Rattle.std.specs.Option.{IfSome, option_or}
 use Rattle.am_alerts.specs.declared.labels.Label.{Label}
+use Rattle.am_retry.specs.declared.outcome.Outcome.{Outcome}
 use Rattle.am_model.specs.declared.config.Config.{Config}
 use Rattle.am_model.specs.declared.group.GroupName.{GroupName}
 use Rattle.am_model.specs.declared.record.Call.{Call}
@@ -16,9 +18,8 @@ use Rattle.am_model.specs.Insert.{wait_of}
 use Rattle.am_model.specs.State.{is_named}
 use Rattle.am_model.specs.look_back.Entry.{begins_group}
 use Rattle.am_model.specs.look_back.Laws.{has_open, begun_at}
-use Rattle.am_model.specs.look_back.Past.{Past, AtEach, past_of, replay_past, time_at, is_finish, takes, begin_of}
+use Rattle.am_model.specs.look_back.Past.{Past, AtEach, past_of, replay_past, time_at, takes, notices_in, begin_of, succeeded}
 use Rattle.am_model.specs.look_back.Presence.{goes_to, inserts}
-use Rattle.am_paging.specs.Logged.{finishes_all}
 use Rattle.am_paging.specs.Paging.{is_due_a_page, pages, reports_page, HasHeard}
 
 -- ---- a driver that is on time
@@ -158,10 +159,26 @@ WaitsAreBounded =
 
 -- ---- and are delivered in time
 
--- all notices of a flush of a group that a record after x finishes succeeded
-abbrev pub Succeeds : GroupName → ℕ → Record → Past → Type 0
-Succeeds name x r past =
-    x < time_at (r ∷ past) → is_finish_of name past r.call ≡ true → (number : ℕ) → is_finish number r.call ≡ true → finishes_all number past r.call ≡ true
+-- whether what the flush at the head notified an integration of succeeded, where its finish has these outcomes and this past
+abbrev pub reaches : ℕ → ℕ → List (ℕ × Outcome) → Past → Past → Bool
+reaches integration number outcomes finish_past [] = false
+reaches integration number outcomes finish_past (r ∷ past) =
+    list_all (λ n. not (n.integration == integration) || succeeded number outcomes finish_past n) (notices_in r.reply)
+
+-- whether a call finishes a flush, and what this notified an integration of succeeded
+abbrev pub finishes_for : ℕ → Past → Call → Bool
+finishes_for integration past (Insert now alert) = false
+finishes_for integration past (Silence now id matchers start end) = false
+finishes_for integration past (Begin now) = false
+finishes_for integration past (Finish now number outcomes) = reaches integration number outcomes past (begin_of number past)
+finishes_for integration past (Maintain now) = false
+finishes_for integration past (Forget now) = false
+finishes_for integration past (Load now row) = false
+finishes_for integration past (Note now number i outcome) = false
+
+-- where a record after x finishes a flush of a group, what this notified an integration of succeeded
+abbrev pub Succeeds : GroupName → ℕ → ℕ → Record → Past → Type 0
+Succeeds name integration x r past = x < time_at (r ∷ past) → is_finish_of name past r.call ≡ true → finishes_for integration past r.call ≡ true
 
 -- a record after x and by a time reports delivered a notice of a group for an integration that lists a label set, or takes the group and the
 -- integration has heard of the label set
@@ -171,13 +188,13 @@ pub record HearsBy (config : Config) (name : GroupName) (integration : ℕ) (lab
   pub told : (reports_page name integration labels past r.call ≡ true)
       ⊎ ((takes name r.reply ≡ true) × HasHeard config name integration labels (time_at (r ∷ past)) past)
 
--- where a label set is due a page from x on until after the latest time, the slack and the hold, each record after x is on time, and each
--- flush of the group that is finished then succeeds, each integration of its receiver is told by then
+-- where a label set is due a page from x on until after the latest time, the slack and the hold, and each record after x is on time, each
+-- integration of the receiver is told by then for which each flush of the group that is finished after x succeeds
 abbrev pub PagesAreDeliveredInTime : Config → List Record → Type 0
 PagesAreDeliveredInTime config history =
     (slack hold x : ℕ) (name : GroupName) (labels : List Label)
     → AtEach (IsDueOnTime slack hold config name labels x) (past_of history)
-    → AtEach (Succeeds name x) (past_of history)
     → begun_by config name hold x (past_of history) + slack + hold < time_at (past_of history)
-    → All (λ i. AtSome (HearsBy config name i.0 labels x (begun_by config name hold x (past_of history) + slack + hold)) (past_of history))
+    → All (λ i. AtEach (Succeeds name i.0 x) (past_of history)
+    → AtSome (HearsBy config name i.0 labels x (begun_by config name hold x (past_of history) + slack + hold)) (past_of history))
     (integrations_of config name)

@@ -1,4 +1,4 @@
--- Whoever is due a page from a time on is told by the latest time, the slack and the hold, where each flush succeeds.
+-- Whoever is due a page from a time on is notified by the latest time, the slack and the hold, where each flush succeeds.
 use Rattle.std.proofs.Common.{◌≡◌, ℕ, ◌+◌, ◌<◌, ◌≤◌, Bool, true, false, cond, not, ◌&&◌, ◌||◌, Option, Some, None, ◌⊎◌, inl, inr, List, [], ◌∷◌, refl, sym, ap, ◌∙◌, subst, arith}
 use Rattle.std.specs.Prelude.{◌==◌}
 use Rattle.std.specs.List.{AllByRecursion, list_all}
@@ -32,7 +32,7 @@ use Rattle.am_paging.specs.InTime.{is_finish_of, IsOnTime, AtSome, begun_by, IsD
 use Rattle.am_paging.specs.Paging.{lists, pages, reports_page, HasHeard}
 use Rattle.am_paging.proofs.Dropped.{no_page_is_dropped}
 use Rattle.am_paging.proofs.OpenFlushes.{is_begin, flush-begins, open-has, unnoted, neither}
-use Rattle.am_paging.proofs.Paged.{IsTold, at_begin, any-follows, call_paged}
+use Rattle.am_paging.proofs.Paged.{IsReached, at_begin, any-follows, call_paged}
 use Rattle.am_paging.proofs.PagesInTime.{paged-before}
 use Rattle.am_paging.proofs.Standing.{one-is, alive, open-bound}
 
@@ -148,16 +148,16 @@ module _ (config : Config) (name : GroupName) (labels : List Label) (i : ℕ) wh
   reply-listed t begun before (reply_is.Loaded loaded) found paged = absurd (false≢true paged)
   reply-listed t begun before reply_is.Noted found paged = absurd (false≢true paged)
 
-  listing : (t : ℕ) (begin : List Record) → AtEach (IsTold config) begin → pages_at begin ≡ true → IsListed (row_of_begin config t i begin)
-  listing t [] told paged = absurd (false≢true paged)
-  listing t (r ∷ past) told paged = reply-listed t (time_at (r ∷ past)) past r.reply told.0 paged
+  listing : (t : ℕ) (begin : List Record) → AtEach (IsReached config) begin → pages_at begin ≡ true → IsListed (row_of_begin config t i begin)
+  listing t [] reached paged = absurd (false≢true paged)
+  listing t (r ∷ past) reached paged = reply-listed t (time_at (r ∷ past)) past r.reply reached.0 paged
 
   -- a record that logs it reports the page
-  logs-page : (n : ℕ) (r : Record) (past : List Record) → AtEach (IsTold config) past → LogsDelivered r past → pages_at (begin_of n past) ≡ true → begin_named past r.call ≡ begin_of n past → logs name i past r.call ≡ true → reports_page name i labels past r.call ≡ true
-  logs-page n r past told delivered paged is logged =
+  logs-page : (n : ℕ) (r : Record) (past : List Record) → AtEach (IsReached config) past → LogsDelivered r past → pages_at (begin_of n past) ≡ true → begin_named past r.call ≡ begin_of n past → logs name i past r.call ≡ true → reports_page name i labels past r.call ≡ true
+  logs-page n r past reached delivered paged is logged =
       let t = time_at (r ∷ past) in
-      let own = listing t (begin_of n past) (at_begin (IsTold config) n past told) paged in
-      (call_paged config name i t labels own.row None own.member past told r.call (delivered name i logged) (ap (λ begin. option_or (row_of_begin config t i begin) None) is ∙ ap (λ o. option_or o None) own.logged)).1
+      let own = listing t (begin_of n past) (at_begin (IsReached config) n past reached) paged in
+      (call_paged config name i t labels own.row None own.member past reached r.call (delivered name i logged) (ap (λ begin. option_or (row_of_begin config t i begin) None) is ∙ ap (λ o. option_or o None) own.logged)).1
 
   -- the finish of its flush that reaches the integration logs it, unless it was noted
   notified-succeeds : (n : ℕ) (outcomes : List (ℕ × Outcome)) (whole begin : List Record) → pages_at begin ≡ true → reaches i n outcomes whole begin ≡ true → notified_and_succeeded n outcomes whole i begin ≡ true
@@ -225,7 +225,7 @@ module _ (config : Config) (name : GroupName) (labels : List Label) (i : ℕ) wh
     -- a begin that pages
     begin-hears : (r : Record) (past : List Record) → IsLegalPast config id (r ∷ past) → AtEach IsOneFlushAtATime (r ∷ past) → takes name r.reply ≡ true → x < time_at (r ∷ past) → time_at (r ∷ past) ≤ by
         → (pages i labels r.reply ≡ true) ⊎ HasHeard config name i labels (time_at (r ∷ past)) past → Hears (r ∷ past)
-    begin-hears r past legal once taken after in_time (inr heard) = inl (inl (record { after = after; in_time = omega (arith, in_time); told = inr (taken, heard) }))
+    begin-hears r past legal once taken after in_time (inr heard) = inl (inl (record { after = after; in_time = omega (arith, in_time); reached = inr (taken, heard) }))
     begin-hears r past legal once taken after in_time (inl paged) =
         let n : ℕ = number_in r.reply in
         let is = flush-is r.reply taken paged in
@@ -247,9 +247,9 @@ module _ (config : Config) (name : GroupName) (labels : List Label) (i : ℕ) wh
         )
 
     -- a record more, which is on time
-    step-paging : (n : ℕ) (r : Record) (past : List Record) → IsLegalPast config id past → IsOneFlushAtATime r past → AtEach (IsTold config) past → LogsDelivered r past → (x < time_at (r ∷ past) → IsOnTime slack hold config name r past) → Succeeds name i x r past
+    step-paging : (n : ℕ) (r : Record) (past : List Record) → IsLegalPast config id past → IsOneFlushAtATime r past → AtEach (IsReached config) past → LogsDelivered r past → (x < time_at (r ∷ past) → IsOnTime slack hold config name r past) → Succeeds name i x r past
         → IsPaging n past → Hears (r ∷ past)
-    step-paging n r past legal once told delivered on succeeds p = by_call (is_finish n r.call) (is_note n i r.call) refl refl
+    step-paging n r past legal once reached delivered on succeeds p = by_call (is_finish n r.call) (is_note n i r.call) refl refl
       where
         t : ℕ
         t = time_at (r ∷ past)
@@ -264,7 +264,7 @@ module _ (config : Config) (name : GroupName) (labels : List Label) (i : ℕ) wh
         in_time = let held = open-bound config id name slack hold r past legal (on after) (time_at (begin_of n past)) p.last opens in let first = p.in_time in omega (arith, held, first)
 
         by_report : reports_page name i labels past r.call ≡ true → Hears (r ∷ past)
-        by_report reported = inl (inl (record { after = after; in_time = in_time; told = inl reported }))
+        by_report reported = inl (inl (record { after = after; in_time = in_time; reached = inl reported }))
 
         other : is_flush n r.reply ≡ false
         other = no (is_flush n r.reply) refl
@@ -300,10 +300,10 @@ module _ (config : Config) (name : GroupName) (labels : List Label) (i : ℕ) wh
         by_call : (f k : Bool) → is_finish n r.call ≡ f → is_note n i r.call ≡ k → Hears (r ∷ past)
         by_call true k is note_is =
             let own = finish-logs n past r.call is (succeeds after (finish-of r.call is)) p.begun p.paged p.unnoted_still in
-            by_report (logs-page n r past told delivered p.paged own.1 own.0)
+            by_report (logs-page n r past reached delivered p.paged own.1 own.0)
         by_call false true is note_is =
             let own = note-logs n past r.call note_is p.begun in
-            by_report (logs-page n r past told delivered p.paged own.1 own.0)
+            by_report (logs-page n r past reached delivered p.paged own.1 own.0)
         by_call false false is note_is =
             let same : begin_of n past ≡ begin_of n (r ∷ past) = sym (ap (λ b. cond b (r ∷ past) (begin_of n past)) other) in
             inr (
@@ -333,19 +333,19 @@ module _ (config : Config) (id : ℕ) (name : GroupName) (labels : List Label) (
   abbrev HearsIf : ℕ × Integration → List Record → Type 0
   HearsIf i past = AtEach (Succeeds name i.0 x) past → Hears config name labels i.0 id slack hold x by past
 
-  hears : (past : List Record) → IsLegalPast config id past → AtEach IsOneFlushAtATime past → AtEach (IsTold config) past → AtEach LogsDelivered past → AtEach (IsDueOnTime slack hold config name labels x) past
+  hears : (past : List Record) → IsLegalPast config id past → AtEach IsOneFlushAtATime past → AtEach (IsReached config) past → AtEach LogsDelivered past → AtEach (IsDueOnTime slack hold config name labels x) past
       → AtSome (IsBegunFor config name labels x by) past → AllByRecursion (λ i. HearsIf i past) is
-  hears [] legal once told delivered due some = absurd some
-  hears (r ∷ past) legal once told delivered due (inl here) =
-      let Told : ℕ × Integration → Type 0 = λ i. (pages i.0 labels r.reply ≡ true) ⊎ HasHeard config name i.0 labels (time_at (r ∷ past)) past in
-      all-weaker Told (λ i. HearsIf i (r ∷ past)) (λ i h _. begin-hears config name labels i.0 id slack hold x by r past legal once here.taken here.after here.in_time h) is (all_to Told is here.told)
-  hears (r ∷ past) legal once told delivered due (inr there) =
+  hears [] legal once reached delivered due some = absurd some
+  hears (r ∷ past) legal once reached delivered due (inl here) =
+      let Reached : ℕ × Integration → Type 0 = λ i. (pages i.0 labels r.reply ≡ true) ⊎ HasHeard config name i.0 labels (time_at (r ∷ past)) past in
+      all-weaker Reached (λ i. HearsIf i (r ∷ past)) (λ i h _. begin-hears config name labels i.0 id slack hold x by r past legal once here.taken here.after here.in_time h) is (all_to Reached is here.reached)
+  hears (r ∷ past) legal once reached delivered due (inr there) =
       all-weaker (λ i. HearsIf i past) (λ i. HearsIf i (r ∷ past)) (λ i h succeeds. step i succeeds.0 (h succeeds.1)) is
-      (hears past legal.1 once.1 told.1 delivered.1 due.1 there)
+      (hears past legal.1 once.1 reached.1 delivered.1 due.1 there)
     where
       step : (i : ℕ × Integration) → Succeeds name i.0 x r past → Hears config name labels i.0 id slack hold x by past → Hears config name labels i.0 id slack hold x by (r ∷ past)
       step i succeeds (inl heard) = inl (inr heard)
-      step i succeeds (inr open_one) = step-paging config name labels i.0 id slack hold x by open_one.0 r past legal.1 once.0 told.1 delivered.0 (λ after. (due.0 after).0) succeeds open_one.1
+      step i succeeds (inr open_one) = step-paging config name labels i.0 id slack hold x by open_one.0 r past legal.1 once.0 reached.1 delivered.0 (λ after. (due.0 after).0) succeeds open_one.1
 
 pub pages_are_delivered_in_time : EveryLegalHistory PagesAreDeliveredInTime
 pages_are_delivered_in_time config id history legal slack hold x name labels due late =
@@ -354,9 +354,9 @@ pages_are_delivered_in_time config id history legal slack hold x name labels due
     let legals = legal_past config id history legal in
     let by : ℕ = begun_by config name hold x past + slack in
     let some = paged-before config id name labels slack hold x past legals back.once (no_page_is_dropped config id history legal) due (omega (arith, late)) in
-    let Told : ℕ × Integration → Type 0 = λ i. AtEach (Succeeds name i.0 x) past → AtSome (HearsBy config name i.0 labels x (by + hold)) past in
-    all_from Told (integrations_of config name)
-    (all-weaker (λ i. HearsIf config id name labels slack hold x by i past) Told (λ i h succeeds. ends i.0 by past late (h succeeds)) (integrations_of config name)
+    let Reached : ℕ × Integration → Type 0 = λ i. AtEach (Succeeds name i.0 x) past → AtSome (HearsBy config name i.0 labels x (by + hold)) past in
+    all_from Reached (integrations_of config name)
+    (all-weaker (λ i. HearsIf config id name labels slack hold x by i past) Reached (λ i h succeeds. ends i.0 by past late (h succeeds)) (integrations_of config name)
     (hears config id name labels slack hold x by past legals back.once back.notices back.only_delivered due some))
   where
     ends : (i by : ℕ) (past : List Record) → by + hold < time_at past → Hears config name labels i id slack hold x by past → AtSome (HearsBy config name i labels x (by + hold)) past

@@ -22,7 +22,7 @@ use Rattle.am_model.proofs.looking_back.Pasts.{IsLegalPast, legal_past}
 use Rattle.am_paging.specs.InTime.{ended_at, IsOnTime, latest, AtSome, past_until, begun_by, IsDueOnTime, IsBegunFor, PagesComeInTime, WaitsAreBounded}
 use Rattle.am_paging.specs.Paging.{is_due_a_page, Pages}
 use Rattle.am_paging.proofs.Dropped.{no_page_is_dropped}
-use Rattle.am_paging.proofs.DueMoments.{IsDueBy, due-later, due-step, due-within}
+use Rattle.am_paging.proofs.DueTimes.{IsDueBy, due-later, due-step, due-within}
 use Rattle.am_paging.proofs.GroupSteps.{group_after}
 use Rattle.am_paging.proofs.Standing.{not-found_empty, not-missing, open-begun, finish-open, ended-before, ended-step, begun-bound, new-bound, open-bound}
 use Rattle.am_paging.proofs.Unresolved.{fires-there}
@@ -68,8 +68,8 @@ module _ (config : Config) (id : ℕ) (name : GroupName) (labels : List Label) (
   at-least (Some u) = omega arith
 
   -- at x
-  stands-at : (past : List Record) → IsLegalPast config id past → time_at past ≤ x → past_until x past ≡ past → IsStanding past
-  stands-at past legal come until =
+  rests-at : (past : List Record) → IsLegalPast config id past → time_at past ≤ x → past_until x past ≡ past → IsStanding past
+  rests-at past legal come until =
       let last = ended-before config id name past in
       let least = at-least (begun_at config name past) in
       record {
@@ -86,9 +86,9 @@ module _ (config : Config) (id : ℕ) (name : GroupName) (labels : List Label) (
       ended-step config id name (max x (u + hold)) r past before
       (λ f. let held : time_at (r ∷ past) ≤ u + hold = open-bound config id name slack hold r past legal on u is (finish-open config id name r past once f) in omega (arith, held))
 
-  stands : (past : List Record) → IsLegalPast config id past → AtEach IsOneFlushAtATime past → AtEach (IsDueOnTime slack hold config name labels x) past → AtEach (IsUnbegun name x) past → IsStanding past
-  stands [] legal once due unbegun = stands-at [] legal (omega arith) refl
-  stands (r ∷ past) legal once due unbegun = by (nat_le (time_at (r ∷ past)) x) refl (stands past legal.1 once.1 due.1 unbegun.1)
+  rests : (past : List Record) → IsLegalPast config id past → AtEach IsOneFlushAtATime past → AtEach (IsDueOnTime slack hold config name labels x) past → AtEach (IsUnbegun name x) past → IsStanding past
+  rests [] legal once due unbegun = rests-at [] legal (omega arith) refl
+  rests (r ∷ past) legal once due unbegun = by (nat_le (time_at (r ∷ past)) x) refl (rests past legal.1 once.1 due.1 unbegun.1)
     where
       later : nat_le (time_at (r ∷ past)) x ≡ false → IsStanding past → IsStanding (r ∷ past)
       later is before =
@@ -107,14 +107,14 @@ module _ (config : Config) (id : ℕ) (name : GroupName) (labels : List Label) (
           }
 
       by : (b : Bool) → nat_le (time_at (r ∷ past)) x ≡ b → IsStanding past → IsStanding (r ∷ past)
-      by true is before = stands-at (r ∷ past) legal (leb-true (time_at (r ∷ past)) x is) (ap (λ b. cond b (r ∷ past) (past_until x past)) is)
+      by true is before = rests-at (r ∷ past) legal (leb-true (time_at (r ∷ past)) x is) (ap (λ b. cond b (r ∷ past) (past_until x past)) is)
       by false is before = later is before
 
   -- so a record after x that is on time comes by the latest time and the slack
   bound : (r : Record) (past : List Record) → IsLegalPast config id past → AtEach IsOneFlushAtATime past → x < time_at (r ∷ past) → AtEach (IsDueOnTime slack hold config name labels x) (r ∷ past) → AtEach (IsUnbegun name x) past
       → time_at (r ∷ past) ≤ begun_by config name hold x past + slack
   bound r past legal once after due unbegun =
-      by (begun_at config name past) refl (stands past legal once due.1 unbegun)
+      by (begun_at config name past) refl (rests past legal once due.1 unbegun)
     where
       on : IsOnTime slack hold config name r past
       on = (due.0 after).0
@@ -140,8 +140,8 @@ module _ (config : Config) (id : ℕ) (name : GroupName) (labels : List Label) (
   by_then past = begun_by config name hold x past + slack
 
   paged : (past : List Record) → IsLegalPast config id past → AtEach IsOneFlushAtATime past → AtEach (Pages config) past → AtEach (IsDueOnTime slack hold config name labels x) past → AtEach (IsUnbegun name x) past ⊎ IsPaged (by_then past) past
-  paged [] legal once told due = inl tt
-  paged (r ∷ past) legal once told due = by (nat_le (time_at (r ∷ past)) x) refl (paged past legal.1 once.1 told.1 due.1)
+  paged [] legal once reached due = inl tt
+  paged (r ∷ past) legal once reached due = by (nat_le (time_at (r ∷ past)) x) refl (paged past legal.1 once.1 reached.1 due.1)
     where
       choose : nat_le (time_at (r ∷ past)) x ≡ false → AtEach (IsUnbegun name x) past → (b : Bool) → takes name r.reply ≡ b → AtEach (IsUnbegun name x) (r ∷ past) ⊎ IsPaged (by_then past) (r ∷ past)
       choose is unbegun true taken =
@@ -150,7 +150,7 @@ module _ (config : Config) (id : ℕ) (name : GroupName) (labels : List Label) (
             taken = taken;
             after = after;
             in_time = bound r past legal.1 once.1 after due unbegun;
-            told = told.0 name labels taken (due.0 after).1;
+            reached = reached.0 name labels taken (due.0 after).1;
           }))
       choose is unbegun false other = inl (λ after. other, unbegun)
 
@@ -166,8 +166,8 @@ module _ (config : Config) (id : ℕ) (name : GroupName) (labels : List Label) (
 
   -- and a record later than the bound comes after one that pages
   pub paged-before : (past : List Record) → IsLegalPast config id past → AtEach IsOneFlushAtATime past → AtEach (Pages config) past → AtEach (IsDueOnTime slack hold config name labels x) past → by_then past < time_at past → IsPaged (by_then past) past
-  paged-before [] legal once told due late = absurd (omega (arith, late))
-  paged-before (r ∷ past) legal once told due late = by (paged (r ∷ past) legal once told due)
+  paged-before [] legal once reached due late = absurd (omega (arith, late))
+  paged-before (r ∷ past) legal once reached due late = by (paged (r ∷ past) legal once reached due)
     where
       by : AtEach (IsUnbegun name x) (r ∷ past) ⊎ IsPaged (by_then (r ∷ past)) (r ∷ past) → IsPaged (by_then (r ∷ past)) (r ∷ past)
       by (inr some) = some

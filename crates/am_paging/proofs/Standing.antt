@@ -31,7 +31,7 @@ use Rattle.am_model.proofs.looking_back.flushes.FlushesOnce.{open-group}
 use Rattle.am_model.proofs.states.Alike.{same_name-is}
 use Rattle.am_paging.specs.InTime.{is_finish_of, ended_at, IsOnTime}
 use Rattle.am_paging.proofs.Counted.{empty-found, counts_past}
-use Rattle.am_paging.proofs.DueMoments.{IsDueBy}
+use Rattle.am_paging.proofs.DueTimes.{IsDueBy}
 use Rattle.am_paging.proofs.GroupSteps.{group_after}
 use Rattle.am_paging.proofs.OpenFlushes.{open-has}
 

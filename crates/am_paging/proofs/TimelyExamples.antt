@@ -29,7 +29,7 @@ b = fires (instance (codes "A") (codes "2")) 33_000
 abbrev OnTime : Record → List Record → Type 0
 OnTime = IsOnTime 2_000 3_000 base group_a
 
--- ---- A at 0, begun a second late; B while the flush is open; finished within the hold; begun again as late as it may be
+-- ---- A at 0, begun a second late; B while the flush is open; finished within the hold; begun again as late as it can be
 
 abbrev second : List Record
 second =
@@ -197,28 +197,28 @@ heard_paged : pages 0 labels_a begin_a.reply ≡ true
 heard_paged = refl
 
 -- a little later, it was delivered in time: the finish reports it
-abbrev told : List Record
-told = heard ++ nothing_due 336_000 ∷ []
+abbrev reached : List Record
+reached = heard ++ nothing_due 336_000 ∷ []
 
-told_legal : IsLegal base 7 told
-told_legal = (refl, (refl, (refl, (refl, (refl, (refl, tt))))))
+reached_legal : IsLegal base 7 reached
+reached_legal = (refl, (refl, (refl, (refl, (refl, (refl, tt))))))
 
-told_on_time : AtEach DueOnTime (past_of told)
-told_on_time = (λ _. (record { begins = λ e. omega arith; ends = λ e. absurd (false≢true e) }, refl), heard_on_time)
+reached_on_time : AtEach DueOnTime (past_of reached)
+reached_on_time = (λ _. (record { begins = λ e. omega arith; ends = λ e. absurd (false≢true e) }, refl), heard_on_time)
 
-told_succeeds : AtEach (Succeeds group_a 0 100_000) (past_of told)
-told_succeeds = (
+reached_succeeds : AtEach (Succeeds group_a 0 100_000) (past_of reached)
+reached_succeeds = (
   λ _ f. absurd (false≢true f),
   (λ _ f. refl, (λ _ f. absurd (false≢true f), (λ _ f. absurd (false≢true f), (λ _ f. absurd (false≢true f), (λ _ f. absurd (false≢true f), tt))))),
 )
 
-told_late : 332_000 + 3_000 < time_at (past_of told)
-told_late = omega arith
+reached_late : 332_000 + 3_000 < time_at (past_of reached)
+reached_late = omega arith
 
-told_reported : reports_page group_a 0 labels_a (past_of (silenced ++ begin_a ∷ [])) (finish 333_000 1 ((0, Delivered) ∷ []) 1 0).call ≡ true
-told_reported = refl
+reached_reported : reports_page group_a 0 labels_a (past_of (silenced ++ begin_a ∷ [])) (finish 333_000 1 ((0, Delivered) ∷ []) 1 0).call ≡ true
+reached_reported = refl
 
--- left out: that it succeeds; the notice is refused, and nobody is told
+-- left out: that it succeeds; the notice is refused, and nobody is notified
 abbrev refused : List Record
 refused = silenced ++ begin_a ∷ finish 333_000 1 ((0, Refused) ∷ []) 0 0 ∷ []
 

@@ -21,7 +21,7 @@ use Rattle.am_model.proofs.legal.EachCall.{inside}
 use Rattle.am_model.proofs.looking_back.LooksBack.{histories_look_back}
 use Rattle.am_model.proofs.looking_back.Pasts.{IsLegalPast, legal_past, last_insert-labels}
 use Rattle.am_paging.specs.InTime.{ended_at, WasOnTime, waits_since, latest, WaitsInTime, NobodyWaitsLonger}
-use Rattle.am_paging.proofs.DueMoments.{IsDueBy, due-step, due-within}
+use Rattle.am_paging.proofs.DueTimes.{IsDueBy, due-step, due-within}
 use Rattle.am_paging.proofs.GroupSteps.{group_after}
 use Rattle.am_paging.proofs.OpenFlushes.{neither}
 use Rattle.am_paging.proofs.Standing.{never, not-found_empty, not-missing, open-begun, finish-open, ended-before, ended-step, begun-bound, new-bound, open-bound}

@@ -140,7 +140,7 @@ pub record IsBegunFor (config : Config) (name : GroupName) (labels : List Label)
   pub taken : takes name r.reply ≡ true
   pub after : x < time_at (r ∷ past)
   pub in_time : time_at (r ∷ past) ≤ by
-  pub told : All (λ i. (pages i.0 labels r.reply ≡ true) ⊎ HasHeard config name i.0 labels (time_at (r ∷ past)) past) (integrations_of config name)
+  pub reached : All (λ i. (pages i.0 labels r.reply ≡ true) ⊎ HasHeard config name i.0 labels (time_at (r ∷ past)) past) (integrations_of config name)
 
 -- where a label set is due a page from x on until after the latest time and the slack, and each record after x is on time, one of these
 -- pages by then
@@ -185,11 +185,11 @@ Succeeds name integration x r past = x < time_at (r ∷ past) → is_finish_of n
 pub record HearsBy (config : Config) (name : GroupName) (integration : ℕ) (labels : List Label) (x by : ℕ) (r : Record) (past : Past) : Type 0 where
   pub after : x < time_at (r ∷ past)
   pub in_time : time_at (r ∷ past) ≤ by
-  pub told : (reports_page name integration labels past r.call ≡ true)
+  pub reached : (reports_page name integration labels past r.call ≡ true)
       ⊎ ((takes name r.reply ≡ true) × HasHeard config name integration labels (time_at (r ∷ past)) past)
 
 -- where a label set is due a page from x on until after the latest time, the slack and the hold, and each record after x is on time, each
--- integration of the receiver is told by then for which each flush of the group that is finished after x succeeds
+-- integration of the receiver is notified by then for which each flush of the group that is finished after x succeeds
 abbrev pub PagesAreDeliveredInTime : Config → List Record → Type 0
 PagesAreDeliveredInTime config history =
     (slack hold x : ℕ) (name : GroupName) (labels : List Label)

@@ -143,7 +143,7 @@ def differences(real, ours):
             if near:
                 other.remove(min(near, key=lambda it: abs(it[0] - line[0])))
                 one.remove(line)
-        found += [f"only Alertmanager: {it[0]:.2f} {it[1]}" for it in one] + [f"only live.py: {it[0]:.2f} {it[1]}" for it in other]
+        found += [f"only Alertmanager: {it[0]:.2f} {it[1]}" for it in one] + [f"only ours: {it[0]:.2f} {it[1]}" for it in other]
     return found
 
 

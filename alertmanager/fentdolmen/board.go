@@ -78,8 +78,7 @@ func (b *board) submit(calls ...call) *batch {
 	defer b.mtx.Unlock()
 	t.now = b.now()
 	if b.err != nil || b.closing || len(calls) == 0 {
-		t.err = b.err
-		if b.closing && t.err == nil {
+		if t.err = b.err; b.closing {
 			t.err = errClosed
 		}
 		close(t.done)

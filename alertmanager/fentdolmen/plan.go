@@ -214,7 +214,8 @@ func (p *plan) place(k keptRow, now, offset int64) []row {
 			continue
 		}
 		for _, name := range p.names[routeID{k.RouteKey, k.Receiver}] {
-			out = append(out, row{groupID{name, k.Labels}, p.receivers[k.Receiver], position, k.Integration, moment, expiry, k.Firing, k.Resolved})
+			out = append(out, row{groupID{name, k.Labels}, p.receivers[k.Receiver], position, k.Integration, moment, expiry,
+				append([]model.LabelSet{}, k.Firing...), append([]model.LabelSet{}, k.Resolved...)})
 		}
 	}
 	return out

@@ -49,9 +49,7 @@ func (c *clock) board(t time.Time, offset int64) int64 {
 // until is how long it is until a time of the board.
 func (c *clock) until(ms int64) time.Duration { return time.Duration(ms-c.now()) * time.Millisecond }
 
-// wallClock and steadyClock are those of the machine.
-func wallClock() int64 { return time.Now().UnixMilli() }
-
+// steadyClock counts the milliseconds since the machine started. wallClock is in a file of its own, since tests have another one.
 func steadyClock() int64 {
 	var t unix.Timespec
 	if unix.ClockGettime(unix.CLOCK_BOOTTIME, &t) != nil {

@@ -60,11 +60,12 @@ type dispatcher struct {
 	mirror mirror
 	room   room
 
-	isFull  bool // of run alone: as many flushes are open as the board can have
-	wake    chan struct{}
-	isLong  chan struct{}
-	stop    chan struct{}
-	running sync.WaitGroup
+	followed int64 // of upkeep alone: the clock\'s offset that the silences and the saved log have
+	isFull   bool  // of run alone: as many flushes are open as the board can have
+	wake     chan struct{}
+	isLong   chan struct{}
+	stop     chan struct{}
+	running  sync.WaitGroup
 }
 
 func newDispatcher(o *options, m *metrics, sends *notify.Metrics, silences *silence.Silences, book *logbook, history *historyFile, c *clock, logger log.Logger) *dispatcher {
@@ -152,7 +153,7 @@ func (d *dispatcher) flushDue() time.Duration {
 	if s == nil {
 		return longest
 	}
-	for {
+	for !d.isStopped() {
 		var next nextDue
 		if s.board.ask(nextDueCall(), &next) != nil || next.At == nil {
 			return longest
@@ -165,6 +166,16 @@ func (d *dispatcher) flushDue() time.Duration {
 		if !d.begin(s) {
 			return longest
 		}
+	}
+	return longest
+}
+
+func (d *dispatcher) isStopped() bool {
+	select {
+	case <-d.stop:
+		return true
+	default:
+		return false
 	}
 }
 

@@ -142,10 +142,8 @@ func (d *dispatcher) broken(b *board, fault error) {
 	d.down = fault
 	d.mtx.Unlock()
 	for wait := 100 * time.Millisecond; ; wait *= 2 {
-		select {
-		case <-d.stop:
+		if d.isStopped() {
 			return
-		default:
 		}
 		err := d.replace(s, s.plan, s.mark)
 		if err == nil {

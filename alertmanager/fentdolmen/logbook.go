@@ -6,19 +6,22 @@ import (
 	"sync"
 )
 
-// entry is a row as a line of the file. heard is when it came from a peer, in the board's time.
+// entry is a row as a line of the file. heard is when it came from a peer, in the board's time. offset is the clock's, by which a row of
+// our own got its times.
 type entry struct {
-	line                  []byte
-	moment, expiry, heard int64
+	line           []byte
+	moment, expiry int64
+	heard, offset  int64
 }
 
 // logbook has the last row of each group and integration.
 type logbook struct {
 	mtx  sync.Mutex
 	rows map[string]entry
-	// added are the lines since the file was last written to; wake has room for one word that there are some.
-	added [][]byte
-	wake  chan struct{}
+	// added are the lines since the file was last written to; wake has room for one word that there are some. moved: older lines changed.
+	added   [][]byte
+	isMoved bool
+	wake    chan struct{}
 }
 
 func newLogbook() *logbook {
@@ -26,10 +29,10 @@ func newLogbook() *logbook {
 }
 
 // put adds a row of our own: it replaces what was there, also if the wall clock was set back meanwhile.
-func (l *logbook) put(k keptRow) []byte {
+func (l *logbook) put(k keptRow, offset int64) []byte {
 	line := lineOf(k)
 	l.mtx.Lock()
-	l.set(k, line, 0)
+	l.set(k, entry{line, k.Moment, k.Expiry, 0, offset})
 	l.mtx.Unlock()
 	l.poke()
 	return line
@@ -42,7 +45,7 @@ func (l *logbook) merge(k keptRow, now int64) bool {
 	old, ok := l.rows[k.id()]
 	isNew := !ok || old.moment < k.Moment
 	if isNew {
-		l.set(k, line, now)
+		l.set(k, entry{line, k.Moment, k.Expiry, now, 0})
 	}
 	l.mtx.Unlock()
 	l.poke()
@@ -57,9 +60,9 @@ func lineOf(k keptRow) []byte {
 	return append(line, '\n')
 }
 
-func (l *logbook) set(k keptRow, line []byte, heard int64) {
-	l.rows[k.id()] = entry{line, k.Moment, k.Expiry, heard}
-	l.added = append(l.added, line)
+func (l *logbook) set(k keptRow, it entry) {
+	l.rows[k.id()] = it
+	l.added = append(l.added, it.line)
 }
 
 func (l *logbook) poke() {
@@ -69,20 +72,49 @@ func (l *logbook) poke() {
 	}
 }
 
-// take returns the lines that were added since the last call.
-func (l *logbook) take() [][]byte {
+// take returns the lines that were added since the last call, and whether older ones changed.
+func (l *logbook) take() ([][]byte, bool) {
 	l.mtx.Lock()
 	defer l.mtx.Unlock()
 	lines := l.added
 	l.added = nil
-	return lines
+	return lines, l.isMoved
+}
+
+// move gives our own rows the times of another offset, after the wall clock was set: a later start finds them as long ago as they were.
+func (l *logbook) move(offset int64) {
+	l.mtx.Lock()
+	old := make(map[string]entry, len(l.rows))
+	for id, it := range l.rows {
+		if it.heard == 0 && it.offset != offset {
+			old[id] = it
+		}
+	}
+	l.mtx.Unlock()
+	moved := make(map[string]entry, len(old))
+	for id, it := range old {
+		var k keptRow
+		if by := it.offset - offset; json.Unmarshal(it.line, &k) == nil {
+			k.Moment, k.Expiry = k.Moment+by, k.Expiry+by
+			moved[id] = entry{lineOf(k), k.Moment, k.Expiry, 0, offset}
+		}
+	}
+	l.mtx.Lock()
+	for id, it := range moved {
+		if now := l.rows[id]; len(now.line) > 0 && &now.line[0] == &old[id].line[0] { // (nothing was put there meanwhile)
+			l.rows[id] = it
+		}
+	}
+	l.isMoved = true
+	l.mtx.Unlock()
+	l.poke()
 }
 
 // whole forgets what is over, and returns the lines of all rows. The next take has what is added from then on.
 func (l *logbook) whole(now int64) [][]byte {
 	l.mtx.Lock()
 	defer l.mtx.Unlock()
-	l.added = nil
+	l.added, l.isMoved = nil, false
 	lines := make([][]byte, 0, len(l.rows))
 	for id, it := range l.rows {
 		if it.expiry <= now {

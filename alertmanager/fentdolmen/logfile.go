@@ -60,7 +60,7 @@ func openLogFile(path string, book *logbook, now func() int64, logger log.Logger
 		level.Error(f.logger).Log("msg", "lines of the notification log aren't rows: dropped", "lines", bad-1)
 	}
 	for _, k := range rows {
-		book.rows[k.id()] = entry{lineOf(k), k.Moment, k.Expiry, 0}
+		book.rows[k.id()] = entry{lineOf(k), k.Moment, k.Expiry, 0, 0}
 	}
 	if f.file, err = os.OpenFile(path, os.O_CREATE|os.O_RDWR, 0o666); err == nil {
 		err = f.cut()
@@ -149,7 +149,12 @@ func (f *logFile) close() {
 
 // append writes what was added. After a fault nothing of it is in the file, but all of it in the logbook.
 func (f *logFile) append() {
-	text := bytes.Join(f.book.take(), nil)
+	lines, isMoved := f.book.take()
+	if isMoved {
+		f.shorten()
+		return
+	}
+	text := bytes.Join(lines, nil)
 	if len(text) == 0 {
 		return
 	}

@@ -51,7 +51,7 @@ func TestTornLinesAreDropped(t *testing.T) {
 		if rows, lines := len(f.book.rows), strings.Count(whole[:cut], "\n"); rows != lines || *faults != 0 {
 			t.Fatalf("%d rows of %d bytes with %d lines", rows, cut, lines)
 		}
-		f.book.put(kept("C", 3, 5000))
+		f.book.put(kept("C", 3, 5000), 0)
 		f.append()
 		f.file.Close()
 		if again, _ := opened(t, path); len(again.book.rows) != strings.Count(whole[:cut], "\n")+1 {
@@ -82,10 +82,10 @@ func TestRowsAreWrittenAndTheFileIsShortened(t *testing.T) {
 	path := filepath.Join(t.TempDir(), "log")
 	f, _ := opened(t, path)
 	go f.run()
-	f.book.put(kept("over", 1, 900))
-	f.book.put(kept("A", 1, 5000))
+	f.book.put(kept("over", 1, 900), 0)
+	f.book.put(kept("A", 1, 5000), 0)
 	waitFor(t, func() bool { return strings.Contains(textOf(path), `"A"`) })
-	f.book.put(kept("A", 2, 5000))
+	f.book.put(kept("A", 2, 5000), 0)
 	waitFor(t, func() bool { return strings.Contains(textOf(path), `"moment":2`) })
 	f.close()
 	if text := textOf(path); text != string(lineOf(kept("A", 2, 5000))) {
@@ -104,9 +104,9 @@ func TestAFaultOfTheDiskIsSeenAndMended(t *testing.T) {
 	f.file.Close() // (each write fails from now on)
 	os.RemoveAll(folder)
 	go f.run()
-	f.book.put(kept("A", 1, 5000))
+	f.book.put(kept("A", 1, 5000), 0)
 	waitFor(t, f.isFailed)
-	f.book.put(kept("B", 2, 5000))
+	f.book.put(kept("B", 2, 5000), 0)
 	os.Mkdir(folder, 0o777)
 	waitFor(t, func() bool { return !f.isFailed() })
 	f.close()
@@ -115,9 +115,27 @@ func TestAFaultOfTheDiskIsSeenAndMended(t *testing.T) {
 	}
 }
 
+// TestTheClockMovesRows: a row from before the jump, one from after it, and one of a peer.
+func TestTheClockMovesRows(t *testing.T) {
+	l := newLogbook()
+	l.put(kept("A", 10_000, 50_000), 0)
+	l.put(kept("B", 4_000, 44_000), 7_000)
+	l.merge(kept("C", 3_000, 43_000), 1)
+	l.move(7_000)
+	for name, moment := range map[string]int64{"A": 3_000, "B": 4_000, "C": 3_000} {
+		rows, _ := decodeRows([][]byte{l.rows[kept(name, 0, 0).id()].line})
+		if len(rows) != 1 || rows[0].Moment != moment || rows[0].Expiry != moment+40_000 {
+			t.Errorf("%s: %v", name, rows)
+		}
+	}
+	if _, isMoved := l.take(); !isMoved {
+		t.Error("the file isn't written anew")
+	}
+}
+
 func TestRowsOfPeers(t *testing.T) {
 	l := newLogbook()
-	l.put(kept("A", 5, 5000))
+	l.put(kept("A", 5, 5000), 0)
 	if l.merge(kept("A", 5, 5000), 77) || l.merge(kept("A", 4, 5000), 77) || !l.merge(kept("A", 6, 5000), 77) {
 		t.Error("not the later row is kept")
 	}
@@ -128,7 +146,7 @@ func TestRowsOfPeers(t *testing.T) {
 	if k, ok := l.heardSince(id, 77); !ok || k.Moment != 6 {
 		t.Error("it came in time")
 	}
-	l.put(kept("A", 3, 5000))
+	l.put(kept("A", 3, 5000), 0)
 	if _, ok := l.heardSince(id, 1); ok {
 		t.Error("a row of our own came from no peer")
 	}

@@ -138,7 +138,7 @@ func TestRowsReachTheBoard(t *testing.T) {
 	a.StartsAt = time.Now().Add(-time.Hour)
 	now := d.clock.now()
 	k, _ := d.session().keep(row{groupID{"root", a.Labels}, "", 0, "webhook", now - 60000, now + 60000, []model.LabelSet{a.Labels}, nil}, 0)
-	d.book.put(k)
+	d.book.put(k, 0)
 	if err := (dispatched{d.alerts, d}).Put(a); err != nil {
 		t.Fatal(err)
 	}

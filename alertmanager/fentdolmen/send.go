@@ -161,11 +161,12 @@ func (d *dispatcher) finish(f *sending) {
 // keep puts the row of a success into the logbook, and sends it to the peers.
 func (d *dispatcher) keep(f *sending, n notice, moment int64, isOurs bool) {
 	r := row{f.Group, "", n.Integration, n.Kind, moment, expiry(f.route, moment), labelsOf(n.Firing), labelsOf(n.Resolved)}
-	k, ok := f.plan.keep(r, d.clock.offset())
+	offset := d.clock.offset()
+	k, ok := f.plan.keep(r, offset)
 	if !ok {
 		return
 	}
-	line := d.book.put(k)
+	line := d.book.put(k, offset)
 	if isOurs {
 		d.cluster.broadcast(line)
 	}

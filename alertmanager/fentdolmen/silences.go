@@ -17,10 +17,9 @@ import (
 
 // mirror is what the board has of the silences. Its lock is taken under that of the silences: never ask for them with it held.
 type mirror struct {
-	mtx    sync.Mutex
-	has    map[string]mirrored
-	last   int64 // the greatest number that was given
-	offset int64 // of the clock, when all were passed on last
+	mtx  sync.Mutex
+	has  map[string]mirrored
+	last int64 // the greatest number that was given
 }
 
 // mirrored is a silence that the board has: its number there, its last change and its end.
@@ -135,9 +134,6 @@ func (d *dispatcher) settleSilence(s *session, id string, t *batch) {
 
 // syncSilences passes all silences on that aren't over, and those that the board has.
 func (d *dispatcher) syncSilences(s *session) {
-	d.mirror.mtx.Lock()
-	d.mirror.offset = d.clock.offset()
-	d.mirror.mtx.Unlock()
 	all, _, err := d.silences.Query()
 	if err != nil {
 		level.Error(d.logger).Log("msg", "silences not read", "err", err)
@@ -150,16 +146,17 @@ func (d *dispatcher) syncSilences(s *session) {
 	}
 }
 
-// followClock passes all silences on again after the wall clock was set: they end when their ends are there by the new one.
+// followClock passes all silences on again after the wall clock was set: they end when their ends are there by the new one. And the saved
+// log gets the times of the new one.
 func (d *dispatcher) followClock() {
-	d.mirror.mtx.Lock()
-	jump := d.clock.offset() - d.mirror.offset
-	d.mirror.mtx.Unlock()
-	s := d.session()
+	offset, s := d.clock.offset(), d.session()
+	jump := offset - d.followed
 	if s == nil || jump == 0 {
 		return
 	}
+	d.followed = offset
 	level.Warn(d.logger).Log("msg", "the wall clock was set", "ahead", time.Duration(-jump)*time.Millisecond)
+	d.book.move(offset)
 	d.syncSilences(s)
 }
 

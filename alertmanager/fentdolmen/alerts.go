@@ -13,9 +13,10 @@ import (
 	"github.com/prometheus/alertmanager/types"
 )
 
-// inserts are alerts that were queued for the board together.
+// inserts are alerts that were queued for the board together, and those that it isn't given.
 type inserts struct {
-	alerts []*types.Alert
+	alerts, kept []*types.Alert
+	errs         []error
 	*batch
 }
 
@@ -58,22 +59,65 @@ func (d *dispatcher) PostDelete(*types.Alert)           {}
 
 // insert queues alerts, with `putting` held.
 func (d *dispatcher) insert(s *session, alerts []*types.Alert) inserts {
-	offset, calls := d.clock.offset(), make([]call, 0, len(alerts))
+	out, calls := inserts{}, make([]call, 0, len(alerts))
 	for _, a := range alerts {
-		starts := d.clock.board(a.StartsAt, offset)
-		var ends *int64
-		if !a.EndsAt.IsZero() {
-			end := d.clock.board(a.EndsAt, offset)
-			ends = &end
+		c, err := d.insertOf(a)
+		if err != nil {
+			out.kept, out.errs = append(out.kept, a), append(out.errs, err)
+			continue
 		}
-		calls = append(calls, insertCall(a.Labels, starts, ends))
+		out.alerts, calls = append(out.alerts, a), append(calls, c)
 	}
 	d.mtx.Lock()
-	for _, a := range alerts {
+	for _, a := range out.alerts {
 		d.known[a.Fingerprint()] = a
 	}
 	d.mtx.Unlock()
-	return inserts{alerts, s.board.submit(calls...)}
+	out.batch = s.board.submit(calls...)
+	return out
+}
+
+// insertOf is the call for an alert: an error if the board can't have it, or if boards ended at it.
+func (d *dispatcher) insertOf(a *types.Alert) (call, error) {
+	if err := tooLarge(a.Labels); err != nil {
+		return call{}, err
+	}
+	offset, starts := d.clock.offset(), int64(0)
+	var ends *int64
+	starts = d.clock.board(a.StartsAt, offset)
+	if !a.EndsAt.IsZero() {
+		end := d.clock.board(a.EndsAt, offset)
+		ends = &end
+	}
+	c := insertCall(a.Labels, starts, ends)
+	return c, d.culprits.check(c)
+}
+
+// culprits counts the boards that ended at the same insert or silence. After the second one it is kept from the next ones, so that no
+// request can end all of them.
+type culprits struct {
+	mtx    sync.Mutex
+	counts map[string]int
+}
+
+func (c *culprits) add(subject string) {
+	c.mtx.Lock()
+	defer c.mtx.Unlock()
+	if c.counts == nil {
+		c.counts = map[string]int{}
+	}
+	if subject != "" {
+		c.counts[subject]++
+	}
+}
+
+func (c *culprits) check(it call) error {
+	c.mtx.Lock()
+	defer c.mtx.Unlock()
+	if len(c.counts) == 0 || c.counts[it.subject()] < 2 {
+		return nil
+	}
+	return &refusal{it.name, "/" + it.name, "culprit", "two boards ended at it"}
 }
 
 // settle waits for the answers to inserts. What was rejected at a limit is tried once more, after what is over was removed.
@@ -92,22 +136,21 @@ func (d *dispatcher) settle(s *session, queued inserts) error {
 
 // rejected waits for inserts. It returns the alerts that the board rejected, the kinds of refusals, and all of these as an error.
 func (d *dispatcher) rejected(s *session, queued inserts) (left []*types.Alert, kinds map[string]bool, err error) {
-	answers, gone := queued.wait()
-	if gone != nil {
-		return nil, nil, nil // (the next board gets these alerts from the provider)
-	}
 	var all types.MultiError
-	for i, line := range answers {
-		if !bytes.HasPrefix(line, errorField) {
-			continue
-		}
-		if kinds == nil {
-			kinds = map[string]bool{}
-		}
-		err := s.board.decode(queued.calls[i], line, nil)
+	kinds = map[string]bool{}
+	add := func(a *types.Alert, err error) {
 		kinds[d.count(err)] = true
-		left = append(left, queued.alerts[i])
+		left = append(left, a)
 		all.Add(err)
+	}
+	for i, a := range queued.kept {
+		add(a, queued.errs[i])
+	}
+	answers, _ := queued.wait() // (if the board is gone, the next one gets these alerts from the provider)
+	for i, line := range answers {
+		if bytes.HasPrefix(line, errorField) {
+			add(queued.alerts[i], s.board.decode(queued.calls[i], line, nil))
+		}
 	}
 	if all.Len() > 0 {
 		err = &all

@@ -39,6 +39,8 @@ type board struct {
 	calls   int
 	closing bool
 	err     error
+	// culprit is the subject of the call that waited for its answer when the board ended.
+	culprit string
 
 	// broken is called once, if the process ends by itself or doesn't keep to the protocol.
 	broken func(*board, error)
@@ -210,6 +212,9 @@ func (b *board) fail(err error) {
 	if isFirst {
 		b.err = err
 		b.waiting = nil
+		if len(waiting) > 0 {
+			b.culprit = waiting[0].calls[len(waiting[0].answers)].subject()
+		}
 		for _, t := range waiting {
 			t.err = err
 			close(t.done)

@@ -69,6 +69,21 @@ func configCall(value map[string]interface{}) (call, error) {
 	return call{name: "alertmanager", args: args[1 : len(args)-1], answers: []string{"opened"}}, nil
 }
 
+// mostLabels and mostBytes bound what is sent of an alert: the board rejects more, but it would read all of it first.
+const mostLabels, mostBytes = 64, 1 << 20
+
+// tooLarge is the refusal of an alert that isn't sent, nil of another one.
+func tooLarge(labels model.LabelSet) error {
+	bytes := 0
+	for name, value := range labels {
+		bytes += len(name) + len(value)
+	}
+	if len(labels) <= mostLabels && bytes <= mostBytes {
+		return nil
+	}
+	return &refusal{"insert", "/insert/labels", "value", fmt.Sprintf("%d labels of %d bytes, and there can be %d of %d", len(labels), bytes, mostLabels, mostBytes)}
+}
+
 // insertCall inserts an alert, with times of the board.
 func insertCall(labels model.LabelSet, starts int64, ends *int64) call {
 	args := make([]byte, 0, 64*(len(labels)+1))
@@ -106,6 +121,19 @@ func finishCall(ticket int64) call {
 func loadCall(r row) (call, error) {
 	value, err := json.Marshal(r)
 	return call{name: "load", timed: true, args: append([]byte(`"row":`), value...), answers: []string{"loaded"}}, err
+}
+
+// subject is what an insert or a silence is about, without its number and its times. Of another call it is empty.
+func (c call) subject() string {
+	end := bytes.LastIndex(c.args, []byte(`,"starts":`))
+	begin := bytes.Index(c.args, []byte(`"matchers":`))
+	switch {
+	case c.name == "insert" && end >= 0:
+		return string(c.args[:end])
+	case c.name == "silence" && begin >= 0 && begin < end:
+		return string(c.args[begin:end])
+	}
+	return ""
 }
 
 // appendLine appends the line of a call.

@@ -57,8 +57,9 @@ type dispatcher struct {
 	known   map[model.Fingerprint]*types.Alert
 	refused map[model.Fingerprint]struct{}
 
-	mirror mirror
-	room   room
+	mirror   mirror
+	room     room
+	culprits culprits
 
 	followed int64 // of upkeep alone: the clock\'s offset that the silences and the saved log have
 	isFull   bool  // of run alone: as many flushes are open as the board can have

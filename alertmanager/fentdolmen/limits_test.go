@@ -3,6 +3,7 @@ package main
 import (
 	"fmt"
 	"testing"
+	"time"
 
 	"github.com/prometheus/client_golang/prometheus/testutil"
 	"github.com/prometheus/common/model"
@@ -75,6 +76,38 @@ func TestABoardThatEndsIsStartedAgainWithAllAlerts(t *testing.T) {
 	}
 	if got := testutil.ToFloat64(d.metrics.restarts); got != 1 {
 		t.Errorf("%v restarts are counted", got)
+	}
+}
+
+func TestAnAlertThatEndsBoardsEndsTwo(t *testing.T) {
+	d := testDispatcher(t, fake(t, "poison"), oneReceiver)
+	put := dispatched{d.alerts, d}
+	if err := put.Put(alert("alertname=1")); err != nil {
+		t.Fatal(err)
+	}
+	put.Put(alert("alertname=poison"))
+	waitFor(t, func() bool { return testutil.ToFloat64(d.metrics.restarts) == 2 && d.isDown() == nil })
+	again := alert("alertname=poison")
+	again.EndsAt = again.EndsAt.Add(time.Minute)
+	if err := put.Put(again, alert("alertname=2")); err == nil {
+		t.Error("no error for an alert that boards ended at")
+	}
+	if err := put.Put(alert("alertname=3")); err != nil || testutil.ToFloat64(d.metrics.restarts) != 2 {
+		t.Error("the third board isn't there: ", err)
+	}
+}
+
+func TestTooLargeAlertsArentSent(t *testing.T) {
+	large := model.LabelSet{}
+	for i := 0; i <= mostLabels; i++ {
+		large[model.LabelName(fmt.Sprint("l", i))] = "x"
+	}
+	if tooLarge(large) == nil || tooLarge(model.LabelSet{"a": model.LabelValue(make([]byte, mostBytes))}) == nil {
+		t.Error("no error")
+	}
+	delete(large, "l0")
+	if err := tooLarge(large); err != nil {
+		t.Error(err)
 	}
 }
 

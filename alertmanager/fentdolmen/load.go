@@ -138,6 +138,7 @@ func (d *dispatcher) broken(b *board, fault error) {
 	}
 	level.Error(d.logger).Log("msg", "the board is gone: a new one goes on from the notification log", "err", fault)
 	d.metrics.restarts.Inc()
+	d.culprits.add(b.culprit)
 	d.mtx.Lock()
 	d.down = fault
 	d.mtx.Unlock()

@@ -245,7 +245,7 @@ func (p *program) serve() int {
 	}
 	p.prefix = "/" + strings.Trim(p.prefix, "/")
 	reload, served := make(chan chan error), make(chan error, 1)
-	server := newServer(p.api, p.options, p.metrics, reload, readiness(p.dispatcher, p.file))
+	server := newServer(p.api, p.options, p.metrics, reload, readiness(p.dispatcher, p.file), p.logger)
 	go func() { served <- web.ListenAndServe(server, p.options.web, p.logger) }()
 	defer server.Close()
 	hup, term := make(chan os.Signal, 1), make(chan os.Signal, 1)

@@ -34,7 +34,8 @@ func TestMain(m *testing.M) {
 }
 
 // fakeBoard answers lines as am-dispatch does, but for one thing. `names` and `groups`: after three alerts no other is accepted until
-// forget or maintain was called. `huge`: no alert with a label x is. The others are faults of the protocol.
+// forget or maintain was called. `huge`: no alert with a label x is. `poison`: it ends at an alert of this name. The others are faults of the
+// protocol.
 func fakeBoard(how string) {
 	in, had := bufio.NewScanner(os.Stdin), map[string]bool{}
 	for in.Scan() {
@@ -45,6 +46,8 @@ func fakeBoard(how string) {
 			switch {
 			case name == "insert" && how == "huge" && bytes.Contains(args["labels"], []byte(`"x"`)):
 				answer = `{"error":{"pointer":"/insert/labels","kind":"value","message":"too long"}}`
+			case name == "insert" && how == "poison" && bytes.Contains(args["labels"], []byte("poison")):
+				return
 			case name == "insert" && isNew && len(had) >= 3 && (how == "names" || how == "groups"):
 				answer = map[string]string{"names": `{"error":{"pointer":"/insert","kind":"TooManyNames","message":"no more"}}`,
 					"groups": `{"error":{"pointer":"/insert","kind":"TooManyGroups","message":"no more"}}`}[how]

@@ -111,8 +111,17 @@ func (d *dispatcher) silence(s *session, it *silencepb.Silence) {
 		matchers = append(matchers, matcher{m.Name, operators[m.Type], m.Pattern})
 	}
 	c := silenceCall(id, matchers, d.clock.board(it.StartsAt, offset), d.clock.board(it.EndsAt, offset))
-	t := s.board.submit(c)
+	err := d.culprits.check(c)
+	var t *batch
+	if err == nil {
+		t = s.board.submit(c)
+	}
 	d.mirror.mtx.Unlock()
+	if err != nil {
+		d.count(err)
+		level.Error(d.logger).Log("msg", "silence without effect", "silence", it.Id, "err", err)
+		return
+	}
 	go d.settleSilence(s, it.Id, t)
 }
 

@@ -7,9 +7,12 @@ import (
 	"net/http"
 	"net/url"
 	"os"
+	"runtime/debug"
 	"strings"
 	"time"
 
+	"github.com/go-kit/log"
+	"github.com/go-kit/log/level"
 	"github.com/prometheus/client_golang/prometheus"
 	"github.com/prometheus/client_golang/prometheus/promhttp"
 	"github.com/prometheus/common/route"
@@ -25,7 +28,7 @@ const (
 )
 
 // newServer serves the API and the user interface below a prefix.
-func newServer(a *api.API, o *options, m *metrics, reload chan chan error, ready func() (int, string)) *http.Server {
+func newServer(a *api.API, o *options, m *metrics, reload chan chan error, ready func() (int, string), logger log.Logger) *http.Server {
 	router := route.New().WithInstrumentation(func(name string, h http.HandlerFunc) http.HandlerFunc {
 		labels := prometheus.Labels{"handler": name}
 		return promhttp.InstrumentHandlerDuration(m.requests.MustCurryWith(labels),
@@ -42,7 +45,24 @@ func newServer(a *api.API, o *options, m *metrics, reload chan chan error, ready
 		w.WriteHeader(status)
 		fmt.Fprint(w, text)
 	})
-	return &http.Server{Handler: http.MaxBytesHandler(pages, mostBody), ReadHeaderTimeout: headerWithin, ReadTimeout: requestWithin}
+	return &http.Server{Handler: recovering(http.MaxBytesHandler(pages, mostBody), logger), ReadHeaderTimeout: headerWithin, ReadTimeout: requestWithin}
+}
+
+// recovering answers a request that the API panics at, such as a list of alerts with a null in it.
+func recovering(pages http.Handler, logger log.Logger) http.Handler {
+	return http.HandlerFunc(func(w http.ResponseWriter, r *http.Request) {
+		defer func() {
+			fault := recover()
+			if fault == http.ErrAbortHandler {
+				panic(fault)
+			}
+			if fault != nil {
+				level.Error(logger).Log("msg", "a request can't be handled", "path", r.URL.Path, "fault", fault, "stack", string(debug.Stack()))
+				http.Error(w, "this request can't be handled", http.StatusInternalServerError)
+			}
+		}()
+		pages.ServeHTTP(w, r)
+	})
 }
 
 // readiness is 503 without a board. A log that can't be saved is said, but pages go out: nobody may stop sending alerts for it.

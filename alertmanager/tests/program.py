@@ -52,7 +52,7 @@ class Hook(http.server.BaseHTTPRequestHandler):
 
 
 class Program:
-    """A `fentdolmen` with its folder, which can be started again."""
+    """A `fentdolmen` with its folder, which can be started again. With `-` for the board it is another program, such as the real one."""
 
     def __init__(self, program, board, config, folder=None, words=(), environment=None):
         self.folder = Path(folder or tempfile.mkdtemp(prefix="fentdolmen-"))
@@ -65,7 +65,7 @@ class Program:
 
     def start(self):
         words = [self.program, f"--config.file={self.folder}/alertmanager.yml", f"--storage.path={self.data}", "--cluster.listen-address=",
-                 f"--web.listen-address=127.0.0.1:{self.port}", f"--board={self.board}", *self.words]
+                 f"--web.listen-address=127.0.0.1:{self.port}", *[f"--board={self.board}"] * (self.board != "-"), *self.words]
         with open(self.folder / "log", "ab") as log:
             self.child = subprocess.Popen(words, stdout=log, stderr=log, env={**os.environ, **self.environment})
         for _ in range(1200):

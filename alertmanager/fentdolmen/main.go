@@ -245,7 +245,9 @@ func (p *program) serve() int {
 	}
 	p.prefix = "/" + strings.Trim(p.prefix, "/")
 	reload, served := make(chan chan error), make(chan error, 1)
-	server := newServer(p.api, p.options, p.metrics, reload, readiness(p.dispatcher, p.file), p.logger)
+	silences := &trial{program: p.board, now: p.dispatcher.clock.now}
+	defer silences.close()
+	server := newServer(p.api, p.options, p.metrics, reload, readiness(p.dispatcher, p.file), silences, p.logger)
 	go func() { served <- web.ListenAndServe(server, p.options.web, p.logger) }()
 	defer server.Close()
 	hup, term := make(chan os.Signal, 1), make(chan os.Signal, 1)

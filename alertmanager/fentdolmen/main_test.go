@@ -34,7 +34,7 @@ func TestMain(m *testing.M) {
 }
 
 // fakeBoard answers lines as am-dispatch does, but for one thing. `names` and `groups`: after three alerts no other is accepted until
-// forget or maintain was called. `huge`: no alert with a label x is. `poison`: it ends at an alert of this name. The others are faults of the
+// forget or maintain was called. `huge`: no alert with a label x is. `poison`: it ends at an alert of this name, `silent`: at a silence. The others are faults of the
 // protocol.
 func fakeBoard(how string) {
 	in, had := bufio.NewScanner(os.Stdin), map[string]bool{}
@@ -55,7 +55,7 @@ func fakeBoard(how string) {
 				had[string(args["labels"])] = true
 			case name == "forget" && how == "names", name == "maintain" && how == "groups":
 				had = map[string]bool{}
-			case name == "summary" && how == "ends":
+			case name == "summary" && how == "ends", name == "silence" && how == "silent":
 				return
 			case name == "summary" && how == "hangs":
 				time.Sleep(time.Minute)

@@ -28,7 +28,7 @@ const (
 )
 
 // newServer serves the API and the user interface below a prefix.
-func newServer(a *api.API, o *options, m *metrics, reload chan chan error, ready func() (int, string), logger log.Logger) *http.Server {
+func newServer(a *api.API, o *options, m *metrics, reload chan chan error, ready func() (int, string), t *trial, logger log.Logger) *http.Server {
 	router := route.New().WithInstrumentation(func(name string, h http.HandlerFunc) http.HandlerFunc {
 		labels := prometheus.Labels{"handler": name}
 		return promhttp.InstrumentHandlerDuration(m.requests.MustCurryWith(labels),
@@ -45,7 +45,7 @@ func newServer(a *api.API, o *options, m *metrics, reload chan chan error, ready
 		w.WriteHeader(status)
 		fmt.Fprint(w, text)
 	})
-	return &http.Server{Handler: recovering(http.MaxBytesHandler(pages, mostBody), logger), ReadHeaderTimeout: headerWithin, ReadTimeout: requestWithin}
+	return &http.Server{Handler: recovering(http.MaxBytesHandler(t.trying(pages), mostBody), logger), ReadHeaderTimeout: headerWithin, ReadTimeout: requestWithin}
 }
 
 // recovering answers a request that the API panics at, such as a list of alerts with a null in it.

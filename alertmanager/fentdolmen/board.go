@@ -50,9 +50,10 @@ type board struct {
 
 const fullEvery = 10000
 
-// openBoard starts the program. A call that isn't answered in time ends it.
-func openBoard(program string, timeout time.Duration, now func() int64, broken func(*board, error), full func()) (*board, error) {
+// openBoard starts the program, for which `ps` shows this name. A call that isn't answered in time ends it.
+func openBoard(program, name string, timeout time.Duration, now func() int64, broken func(*board, error), full func()) (*board, error) {
 	cmd := exec.Command(program)
+	cmd.Args[0] = name
 	cmd.Stderr = os.Stderr
 	pipe, err := cmd.StdinPipe()
 	if err != nil {
@@ -63,7 +64,7 @@ func openBoard(program string, timeout time.Duration, now func() int64, broken f
 		return nil, err
 	}
 	if err := cmd.Start(); err != nil {
-		return nil, fmt.Errorf("the board: %w", err)
+		return nil, fmt.Errorf("the board: %w (--board or AM_DISPATCH names the program am_dispatch)", err)
 	}
 	b := &board{cmd: cmd, pipe: pipe, now: now, ended: make(chan struct{}), broken: broken, full: full}
 	b.queued = sync.NewCond(&b.mtx)

@@ -13,7 +13,7 @@ import (
 // open opens a board that says why it ended on a channel.
 func open(t *testing.T, program string, timeout time.Duration) (*board, chan error) {
 	ended := make(chan error, 1)
-	b, err := openBoard(program, timeout, testClock().now, func(_ *board, err error) { ended <- err }, func() {})
+	b, err := openBoard(program, program, timeout, testClock().now, func(_ *board, err error) { ended <- err }, func() {})
 	if err != nil {
 		t.Fatal(err)
 	}

@@ -23,7 +23,7 @@ func (d *dispatcher) load(p *plan, mark func(model.LabelSet)) error {
 
 // replace begins a session in place of the old one, if there is one. What can be refused comes first.
 func (d *dispatcher) replace(old *session, p *plan, mark func(model.LabelSet)) error {
-	b, err := openBoard(d.program, d.timeout, d.clock.now, d.broken, d.isHistoryLong)
+	b, err := openBoard(d.program, d.program, d.timeout, d.clock.now, d.broken, d.isHistoryLong)
 	if err != nil {
 		return err
 	}

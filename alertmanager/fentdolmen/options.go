@@ -2,6 +2,7 @@
 package main
 
 import (
+	"fmt"
 	"os"
 	"path/filepath"
 	"time"
@@ -64,8 +65,20 @@ func readOptions(args []string) (*options, error) {
 	app.Version(version.Print("fentdolmen"))
 	app.UsageWriter(os.Stdout)
 	app.HelpFlag.Short('h')
-	_, err := app.Parse(args)
-	return o, err
+	if _, err := app.Parse(args); err != nil {
+		return nil, err
+	}
+	return o, o.check()
+}
+
+// check rejects spans of time that can't be those of a timer.
+func (o *options) check() error {
+	for _, it := range o.times() {
+		if least := map[string]time.Duration{"data.maintenance-interval": time.Second, "alerts.gc-interval": time.Second, "board.timeout": time.Second / 10}[it.name]; *it.into < least {
+			return fmt.Errorf("--%s is %v, and has to be %v at least", it.name, *it.into, least)
+		}
+	}
+	return nil
 }
 
 func (o *options) texts() []textOption {

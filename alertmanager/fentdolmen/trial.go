@@ -67,7 +67,7 @@ func (t *trial) try(matchers []matcher) error {
 }
 
 func (t *trial) open() (err error) {
-	t.board, err = openBoard(t.program, trialWithin, t.now, func(*board, error) {}, func() {})
+	t.board, err = openBoard(t.program, t.program+" (trial of silences)", trialWithin, t.now, func(*board, error) {}, func() {})
 	if err != nil {
 		t.board = nil
 		return err

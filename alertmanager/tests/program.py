@@ -1,4 +1,5 @@
 """What the test scripts of this folder share: a running `fentdolmen`, and webhooks that keep what they are sent."""
+import atexit
 import http.client
 import http.server
 import json
@@ -17,6 +18,9 @@ class Hooks(http.server.ThreadingHTTPServer):
 
     request_queue_size = 1024
     daemon_threads = True
+
+    def handle_error(self, request, client_address):
+        """A sender that was killed isn't a fault."""
 
     def __init__(self):
         super().__init__(("127.0.0.1", 0), Hook)
@@ -68,6 +72,7 @@ class Program:
                  f"--web.listen-address=127.0.0.1:{self.port}", *[f"--board={self.board}"] * (self.board != "-"), *self.words]
         with open(self.folder / "log", "ab") as log:
             self.child = subprocess.Popen(words, stdout=log, stderr=log, env={**os.environ, **self.environment})
+        atexit.register(self.child.kill)  # (a failed check leaves it running)
         for _ in range(1200):
             if self.get("/-/ready")[0] == 200:
                 return self
@@ -113,7 +118,8 @@ class Program:
         children = Path(f"/proc/{self.child.pid}/task/{self.child.pid}/children")
         own = [int(it) for task in Path(f"/proc/{self.child.pid}/task").iterdir() for it in (task / "children").read_text().split()] \
             if children.exists() else []
-        return own[0] if own else None
+        boards = [it for it in own if b"(trial" not in Path(f"/proc/{it}/cmdline").read_bytes()]
+        return boards[0] if boards else None
 
 
 def free_port():

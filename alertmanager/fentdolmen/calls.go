@@ -38,6 +38,7 @@ const (
 	tooManySilences = "TooManySilences"
 	tooManyOpen     = "TooManyOpen"
 	historyFull     = "HistoryFull"
+	noMemory        = "memory"
 	// untold: the call was made, and its answer is lost. What the dispatcher knows of the board is no longer true.
 	untold = "untold"
 )

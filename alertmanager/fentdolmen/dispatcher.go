@@ -225,6 +225,9 @@ func (d *dispatcher) upkeep(forgetEvery time.Duration) {
 			if s := d.session(); s != nil {
 				d.try(s, maintainCall())
 				d.retryRefused(s)
+				if d.mirror.catchUp() {
+					d.syncSilences(s)
+				}
 			}
 		case <-forget.C:
 			if s := d.session(); s != nil {

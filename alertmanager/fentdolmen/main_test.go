@@ -33,9 +33,12 @@ func TestMain(m *testing.M) {
 	os.Exit(m.Run())
 }
 
-// fakeBoard answers lines as am-dispatch does, but for one thing. `names` and `groups`: after three alerts no other is accepted until
-// forget or maintain was called. `huge`: no alert with a label x is. `poison`: it ends at an alert of this name, `silent`: at a silence. The others are faults of the
-// protocol.
+// fakeBoard answers lines as am-dispatch does, but for one thing:
+//   - `names`, `groups`: after three alerts no other is accepted until forget or maintain was called
+//   - `silences`: before forget no silence is accepted
+//   - `huge`: no alert with a label x is accepted
+//   - `poison`, `silent`: it ends at an alert of this name, at a silence
+//   - `ends`, `hangs`, `form`, `untold`: summary is answered by a fault of the protocol
 func fakeBoard(how string) {
 	in, had := bufio.NewScanner(os.Stdin), map[string]bool{}
 	for in.Scan() {
@@ -53,6 +56,12 @@ func fakeBoard(how string) {
 					"groups": `{"error":{"pointer":"/insert","kind":"TooManyGroups","message":"no more"}}`}[how]
 			case name == "insert":
 				had[string(args["labels"])] = true
+			case name == "silence" && how == "silences":
+				if answer = `{"error":{"pointer":"/silence","kind":"TooManySilences","message":"no more"}}`; had["forget"] {
+					answer = `{"silenced":{"replaced":false}}`
+				}
+			case name == "forget" && how == "silences":
+				had["forget"] = true
 			case name == "forget" && how == "names", name == "maintain" && how == "groups":
 				had = map[string]bool{}
 			case name == "summary" && how == "ends", name == "silence" && how == "silent":

@@ -20,6 +20,8 @@ type mirror struct {
 	mtx  sync.Mutex
 	has  map[string]mirrored
 	last int64 // the greatest number that was given
+	// isBehind: a silence was rejected that can be accepted later.
+	isBehind bool
 }
 
 // mirrored is a silence that the board has: its number there, its last change and its end.
@@ -33,6 +35,23 @@ func (m *mirror) reset() {
 	m.mtx.Lock()
 	defer m.mtx.Unlock()
 	m.has = map[string]mirrored{}
+}
+
+// lacks has a silence passed on again later.
+func (m *mirror) lacks(id string) {
+	m.mtx.Lock()
+	defer m.mtx.Unlock()
+	delete(m.has, id)
+	m.isBehind = true
+}
+
+// catchUp returns whether silences have to be passed on again.
+func (m *mirror) catchUp() bool {
+	m.mtx.Lock()
+	defer m.mtx.Unlock()
+	was := m.isBehind
+	m.isBehind = false
+	return was
 }
 
 // forget lets go of what is over.
@@ -125,16 +144,21 @@ func (d *dispatcher) silence(s *session, it *silencepb.Silence) {
 	go d.settleSilence(s, it.Id, t)
 }
 
-// settleSilence tries a silence again that was rejected at a limit, after what is over was removed.
+// settleSilence tries a silence again that was rejected at a limit, after what is over was removed. If that doesn't help, it is passed on
+// again with the next upkeep.
 func (d *dispatcher) settleSilence(s *session, id string, t *batch) {
 	answers, err := t.wait()
 	if err != nil {
 		return
 	}
 	err = s.board.decode(t.calls[0], answers[0], nil)
-	if kind := d.count(err); kind != "" && d.makeRoom(s, map[string]bool{kind: true}) {
+	kind := d.count(err)
+	if kind != "" && d.makeRoom(s, map[string]bool{kind: true}) {
 		err = s.board.ask(t.calls[0], nil)
-		d.count(err)
+		kind = d.count(err)
+	}
+	if kind == tooManySilences || kind == historyFull || kind == noMemory {
+		d.mirror.lacks(id)
 	}
 	if err != nil {
 		level.Error(d.logger).Log("msg", "silence without effect", "silence", id, "err", err)
@@ -197,7 +221,7 @@ func (p peerSilences) Merge(message []byte) error {
 	return nil
 }
 
-// silenceSaver writes the silences soon after each change.
+// silenceSaver writes the silences after each change. Those that come while it writes are written together.
 type silenceSaver struct {
 	silences *silence.Silences
 	path     string
@@ -227,7 +251,6 @@ func (s *silenceSaver) run() {
 			return
 		case <-s.wake:
 		}
-		time.Sleep(syncWithin / 2)
 		if err := s.save(); err != nil {
 			s.faults()
 			level.Error(s.logger).Log("msg", "silences not saved", "err", err)

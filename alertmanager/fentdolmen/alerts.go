@@ -37,6 +37,7 @@ func (p dispatched) Put(alerts ...*types.Alert) error {
 	return p.d.settle(s, queued)
 }
 
+// store stores alerts, and queues them for the board in the same order. Without a board there is no session.
 func (p dispatched) store(alerts []*types.Alert) (*session, inserts, error) {
 	p.d.putting.Lock()
 	defer p.d.putting.Unlock()
@@ -100,6 +101,7 @@ type culprits struct {
 	counts map[string]int
 }
 
+// add counts a board that ended at this subject, if it has one.
 func (c *culprits) add(subject string) {
 	c.mtx.Lock()
 	defer c.mtx.Unlock()
@@ -111,6 +113,7 @@ func (c *culprits) add(subject string) {
 	}
 }
 
+// check is the refusal of a call at which two boards ended.
 func (c *culprits) check(it call) error {
 	c.mtx.Lock()
 	defer c.mtx.Unlock()
@@ -231,6 +234,7 @@ func (d *dispatcher) makeRoom(s *session, kinds map[string]bool) bool {
 	return done
 }
 
+// isTime returns whether the last removal for this kind of refusal was long enough ago, and counts the present one.
 func (r *room) isTime(kind string) bool {
 	r.mtx.Lock()
 	defer r.mtx.Unlock()

@@ -128,6 +128,7 @@ func (b *board) decode(c call, line []byte, into interface{}) error {
 	return err
 }
 
+// write passes on what is queued, all that has come meanwhile at a time, until the board ends or is closed.
 func (b *board) write() {
 	for {
 		b.mtx.Lock()
@@ -150,6 +151,7 @@ func (b *board) write() {
 	}
 }
 
+// read hands each line to the call that it answers, until the output ends.
 func (b *board) read(out *bufio.Reader) {
 	defer close(b.ended)
 	for {

@@ -27,6 +27,7 @@ type refusal struct {
 	Message string `json:"message"`
 }
 
+// Error says which call was rejected, where and why.
 func (r *refusal) Error() string {
 	return fmt.Sprintf("the board rejects %s: %s at %q: %s", r.Call, r.Kind, r.Pointer, r.Message)
 }
@@ -99,26 +100,31 @@ func insertCall(labels model.LabelSet, starts int64, ends *int64) call {
 // matcher is a name, an operator and a value.
 type matcher [3]string
 
+// silenceCall sets a silence, with times of the board. One of the same number is replaced.
 func silenceCall(id int64, matchers []matcher, starts, ends int64) call {
 	list, _ := json.Marshal(matchers) // (texts alone: that can't fail)
 	args := fmt.Sprintf(`"id":%d,"matchers":%s,"starts":%d,"ends":%d`, id, list, starts, ends)
 	return call{name: "silence", timed: true, args: []byte(args), answers: []string{"silenced"}}
 }
 
+// reportCall reports how a notice ended: delivered, refused or expired.
 func reportCall(ticket int64, integration int, outcome string) call {
 	args := fmt.Sprintf(`"ticket":%d,"integration":%d,"outcome":%q`, ticket, integration, outcome)
 	return call{name: "report", args: []byte(args), answers: []string{"reported"}}
 }
 
+// noteCall logs the success of a notice that is reported delivered.
 func noteCall(ticket int64, integration int) call {
 	args := fmt.Sprintf(`"ticket":%d,"integration":%d`, ticket, integration)
 	return call{name: "note", timed: true, args: []byte(args), answers: []string{"noted"}}
 }
 
+// finishCall ends a flush, and logs the successes that weren't noted.
 func finishCall(ticket int64) call {
 	return call{name: "finish", timed: true, args: strconv.AppendInt([]byte(`"ticket":`), ticket, 10), answers: []string{"finished"}}
 }
 
+// loadCall puts a row of an earlier log into the board.
 func loadCall(r row) (call, error) {
 	value, err := json.Marshal(r)
 	return call{name: "load", timed: true, args: append([]byte(`"row":`), value...), answers: []string{"loaded"}}, err
@@ -237,6 +243,7 @@ type notice struct {
 	Resolved    []boardAlert `json:"resolved"`
 }
 
+// empty returns whether there is nothing to send.
 func (n notice) empty() bool { return len(n.Firing)+len(n.Resolved) == 0 }
 
 type flush struct {

@@ -17,6 +17,7 @@ type clock struct {
 	held         int64 // the offset that is in use
 }
 
+// newClock starts at the present time of the wall clock.
 func newClock(wall, steady func() int64) *clock {
 	return &clock{wall: wall, steady: steady, origin: wall() - steady()}
 }

@@ -69,6 +69,7 @@ type dispatcher struct {
 	running  sync.WaitGroup
 }
 
+// newDispatcher makes a dispatcher without a board: load gives it one.
 func newDispatcher(o *options, m *metrics, sends *notify.Metrics, silences *silence.Silences, book *logbook, history *historyFile, c *clock, logger log.Logger) *dispatcher {
 	return &dispatcher{
 		program: o.board, timeout: o.boardTimeout, clock: c, logger: log.With(logger, "component", "dispatcher"), metrics: m, sends: sends,
@@ -92,6 +93,7 @@ func (d *dispatcher) isDown() error {
 	return d.down
 }
 
+// poke has the loop look at what is due.
 func (d *dispatcher) poke() {
 	select {
 	case d.wake <- struct{}{}:
@@ -171,6 +173,7 @@ func (d *dispatcher) flushDue() time.Duration {
 	return longest
 }
 
+// isStopped returns whether close was called.
 func (d *dispatcher) isStopped() bool {
 	select {
 	case <-d.stop:

@@ -30,6 +30,7 @@ type historyFile struct {
 	lost bool
 }
 
+// openHistory opens the file to append to it. Without a path all is dropped.
 func openHistory(path string, logger log.Logger, faults func()) (*historyFile, error) {
 	h := &historyFile{path: path, logger: log.With(logger, "file", path), faults: faults}
 	if path == "" {
@@ -100,6 +101,7 @@ func (h *historyFile) add(line []byte) {
 	}
 }
 
+// write writes what waits. After a fault the rest waits on, and a part of a line is cut off the next time.
 func (h *historyFile) write() error {
 	if err := h.file.Truncate(h.good); err != nil {
 		return err

@@ -24,6 +24,7 @@ type logbook struct {
 	wake    chan struct{}
 }
 
+// newLogbook is empty.
 func newLogbook() *logbook {
 	return &logbook{rows: map[string]entry{}, wake: make(chan struct{}, 1)}
 }
@@ -52,6 +53,7 @@ func (l *logbook) merge(k keptRow, now int64) bool {
 	return isNew
 }
 
+// lineOf is a row as a line.
 func lineOf(k keptRow) []byte {
 	line, err := json.Marshal(k)
 	if err != nil {
@@ -60,11 +62,13 @@ func lineOf(k keptRow) []byte {
 	return append(line, '\n')
 }
 
+// set puts an entry, with the lock held.
 func (l *logbook) set(k keptRow, it entry) {
 	l.rows[k.id()] = it
 	l.added = append(l.added, it.line)
 }
 
+// poke wakes who writes the file.
 func (l *logbook) poke() {
 	select {
 	case l.wake <- struct{}{}:

@@ -87,11 +87,13 @@ func (f *logFile) state() (error, time.Time) {
 	return f.fault, f.since
 }
 
+// isFailed returns whether the last attempt to write or sync failed.
 func (f *logFile) isFailed() bool {
 	fault, _ := f.state()
 	return fault != nil
 }
 
+// failed counts and logs a fault. Its time is that of the first one in a row.
 func (f *logFile) failed(err error) {
 	f.mtx.Lock()
 	if f.fault == nil {
@@ -103,6 +105,7 @@ func (f *logFile) failed(err error) {
 	level.Error(f.logger).Log("msg", "notification log not saved: after a restart, notifications can come again", "err", err)
 }
 
+// mended ends a fault, if there was one.
 func (f *logFile) mended() {
 	f.mtx.Lock()
 	wasFailed := f.fault != nil
@@ -230,6 +233,7 @@ func removeParts(path string) {
 	}
 }
 
+// syncFolder has a rename in the folder reach the disk.
 func syncFolder(path string) error {
 	folder, err := os.Open(path)
 	if err != nil {

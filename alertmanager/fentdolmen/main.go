@@ -75,12 +75,14 @@ type program struct {
 	closers     []func()
 }
 
+// close closes all parts, the last one first.
 func (p *program) close() {
 	for i := len(p.closers) - 1; i >= 0; i-- {
 		p.closers[i]()
 	}
 }
 
+// closing adds what close calls.
 func (p *program) closing(f func()) { p.closers = append(p.closers, f) }
 
 // build makes all parts but the server.
@@ -99,6 +101,7 @@ func (p *program) build() error {
 	return nil
 }
 
+// buildSilences makes the store of silences, and what saves it.
 func (p *program) buildSilences() (err error) {
 	path, stop, stopped := filepath.Join(p.storage, "silences"), make(chan struct{}), make(chan struct{})
 	p.silences, err = silence.New(silence.Options{SnapshotFile: path, Retention: p.retention, Logger: log.With(p.logger, "component", "silences"), Metrics: p.reg})
@@ -119,6 +122,7 @@ func (p *program) buildSilences() (err error) {
 	return nil
 }
 
+// buildDispatcher makes the log with its file, the dispatcher, and the provider of alerts that feeds it.
 func (p *program) buildDispatcher() error {
 	book, clock := newLogbook(), newClock(wallClock, steadyClock)
 	file, err := openLogFile(filepath.Join(p.storage, "fentdolmen-log.jsonl"), book, clock.wall, p.logger, p.metrics.failure("log"))
@@ -185,6 +189,7 @@ func (p *program) buildCluster() error {
 	return nil
 }
 
+// buildAPI makes the API, whose alerts go through the dispatcher.
 func (p *program) buildAPI() (err error) {
 	options := api.Options{
 		Alerts: dispatched{p.alerts, p.dispatcher}, Silences: p.silences, StatusFunc: p.marker.Status, Timeout: p.timeout,

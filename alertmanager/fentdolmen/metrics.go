@@ -16,6 +16,7 @@ type metrics struct {
 	restarts                           prometheus.Counter
 }
 
+// newMetrics makes and registers them.
 func newMetrics(reg prometheus.Registerer) *metrics {
 	gauge := func(name, help string) prometheus.Gauge {
 		return prometheus.NewGauge(prometheus.GaugeOpts{Name: name, Help: help})

@@ -48,6 +48,7 @@ type timeOption struct {
 	into  *time.Duration
 }
 
+// readOptions reads the words of the command line.
 func readOptions(args []string) (*options, error) {
 	o := &options{}
 	app := kingpin.New("fentdolmen", "Alertmanager, with the decisions made by am-dispatch.")
@@ -81,6 +82,7 @@ func (o *options) check() error {
 	return nil
 }
 
+// texts is the table of options that are texts.
 func (o *options) texts() []textOption {
 	return []textOption{
 		{"config.file", "/etc/prometheus/alertmanager.yml", "The configuration.", &o.config},
@@ -97,6 +99,7 @@ func (o *options) texts() []textOption {
 	}
 }
 
+// times is the table of options that are spans of time.
 func (o *options) times() []timeOption {
 	return []timeOption{
 		{"data.retention", "120h", "How long silences are kept after their end.", &o.retention},

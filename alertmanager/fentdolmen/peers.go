@@ -40,6 +40,7 @@ func (p *peers) waitForPeers(ctx context.Context, turn time.Duration, logger log
 	return err
 }
 
+// broadcast sends a row to the peers, if there are any.
 func (p *peers) broadcast(line []byte) {
 	if p.channel != nil {
 		p.channel.Broadcast(line)

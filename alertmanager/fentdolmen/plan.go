@@ -41,6 +41,7 @@ func usedReceivers(root *dispatch.Route) map[string]bool {
 	return used
 }
 
+// newPlan makes the plan of a configuration, whose receivers have these integrations.
 func newPlan(conf *config.Config, integrations map[string][]notify.Integration) *plan {
 	p := &plan{
 		root: dispatch.NewRoute(conf.Route, nil), routes: map[string]*dispatch.Route{}, names: map[routeID][]string{},
@@ -132,6 +133,7 @@ func (p *plan) boardRoute(r *dispatch.Route, path string, uses map[string]int) o
 	return value
 }
 
+// groupBy is the names by which a route groups, or `...` for all.
 func groupBy(opts dispatch.RouteOpts) []string {
 	if opts.GroupByAll {
 		return []string{"..."}
@@ -139,6 +141,7 @@ func groupBy(opts dispatch.RouteOpts) []string {
 	return sorted(opts.GroupBy)
 }
 
+// sorted is the names of a set, in order.
 func sorted(names map[model.LabelName]struct{}) []string {
 	out := make([]string, 0, len(names))
 	for name := range names {
@@ -148,6 +151,7 @@ func sorted(names map[model.LabelName]struct{}) []string {
 	return out
 }
 
+// texts is matchers as texts, as the board reads them.
 func texts(matchers labels.Matchers) []string {
 	out := make([]string, 0, len(matchers))
 	for _, m := range matchers {
@@ -156,6 +160,7 @@ func texts(matchers labels.Matchers) []string {
 	return out
 }
 
+// boardRules is the inhibition rules as Alertmanager parsed them, also those in the old form.
 func boardRules(conf *config.Config) []object {
 	out := make([]object, 0, len(conf.InhibitRules))
 	for _, it := range conf.InhibitRules {

@@ -104,6 +104,7 @@ func (d *dispatcher) sendNotice(ctx context.Context, f *sending, n notice) {
 	d.reportSuccess(f, n, !isSentByPeer)
 }
 
+// reportFailure reports a notice that wasn't delivered: the group's next flush tries it again.
 func (d *dispatcher) reportFailure(ctx context.Context, f *sending, n notice, err error) {
 	outcome, lvl := "refused", level.Error(d.logger)
 	if ctx.Err() != nil {
@@ -184,6 +185,7 @@ func (d *dispatcher) place(s *session, k keptRow) {
 	}
 }
 
+// labelsOf is the label sets of alerts, in their order.
 func labelsOf(alerts []boardAlert) []model.LabelSet {
 	out := make([]model.LabelSet, 0, len(alerts))
 	for _, a := range alerts {

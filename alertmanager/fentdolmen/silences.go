@@ -65,6 +65,7 @@ func (m *mirror) forget(now time.Time) {
 	}
 }
 
+// knows returns whether the board has a silence.
 func (m *mirror) knows(id string) bool {
 	m.mtx.Lock()
 	defer m.mtx.Unlock()
@@ -200,6 +201,7 @@ type peerSilences struct {
 	saver *silenceSaver
 }
 
+// Merge merges what a peer sent, and passes on what the store has then.
 func (p peerSilences) Merge(message []byte) error {
 	if err := p.Silences.Merge(message); err != nil {
 		return err
@@ -232,10 +234,12 @@ type silenceSaver struct {
 	ended    chan struct{}
 }
 
+// newSilenceSaver saves to this path. faults counts failures.
 func newSilenceSaver(silences *silence.Silences, path string, logger log.Logger, faults func()) *silenceSaver {
 	return &silenceSaver{silences, path, log.With(logger, "file", path), faults, make(chan struct{}, 1), make(chan struct{}), make(chan struct{})}
 }
 
+// poke has the silences saved.
 func (s *silenceSaver) poke() {
 	select {
 	case s.wake <- struct{}{}:
@@ -243,6 +247,7 @@ func (s *silenceSaver) poke() {
 	}
 }
 
+// run saves after each poke, and again after a failure, until close.
 func (s *silenceSaver) run() {
 	defer close(s.ended)
 	for wait := retryFirst; ; {
@@ -264,6 +269,7 @@ func (s *silenceSaver) run() {
 	}
 }
 
+// save writes all silences, in Alertmanager's format.
 func (s *silenceSaver) save() error {
 	var out bytes.Buffer
 	if _, err := s.silences.Snapshot(&out); err != nil {

@@ -37,6 +37,7 @@ type postedSilence struct {
 	} `json:"matchers"`
 }
 
+// matchers is the matchers for the board.
 func (p postedSilence) matchers() []matcher {
 	out := make([]matcher, 0, len(p.Matchers))
 	for _, m := range p.Matchers {
@@ -66,6 +67,7 @@ func (t *trial) try(matchers []matcher) error {
 	return errors.New("the board doesn't answer to these matchers in time")
 }
 
+// open starts the board with a configuration that sends nothing.
 func (t *trial) open() (err error) {
 	t.board, err = openBoard(t.program, t.program+" (trial of silences)", trialWithin, t.now, func(*board, error) {}, func() {})
 	if err != nil {
@@ -83,6 +85,7 @@ func (t *trial) open() (err error) {
 	return err
 }
 
+// close ends the board, if there is one.
 func (t *trial) close() {
 	t.mtx.Lock()
 	defer t.mtx.Unlock()

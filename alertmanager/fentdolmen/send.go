@@ -43,21 +43,31 @@ func (d *dispatcher) send(s *session, c call, line []byte) {
 	}
 	ctx, cancel := context.WithTimeout(f.context(), d.clock.until(f.Deadline)+f.turn)
 	defer cancel()
-	isMuted := f.isMuted(ctx, d)
-	var all sync.WaitGroup
+	var filled []notice
 	for _, n := range f.Notices {
 		if n.empty() {
 			f.unlogged = append(f.unlogged, n)
-		} else if !isMuted {
-			all.Add(1)
-			go func(n notice) {
-				defer all.Done()
-				d.sendNotice(ctx, f, n)
-			}(n)
+		} else {
+			filled = append(filled, n)
 		}
 	}
-	all.Wait()
+	if !f.isMuted(ctx, d) {
+		d.sendAll(ctx, f, filled)
+	}
 	d.finish(f)
+}
+
+// sendAll sends notices side by side: none waits for another.
+func (d *dispatcher) sendAll(ctx context.Context, f *sending, notices []notice) {
+	var all sync.WaitGroup
+	for _, n := range notices {
+		all.Add(1)
+		go func(n notice) {
+			defer all.Done()
+			d.sendNotice(ctx, f, n)
+		}(n)
+	}
+	all.Wait()
 }
 
 // context has what Alertmanager's stages and senders read from it.

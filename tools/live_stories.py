@@ -1,6 +1,19 @@
-"""Stories for live.py: how they are read, played by a clock that doesn't wait, and compared. docs/live.md has their form.
+"""Stories: how they are read, played by a clock that doesn't wait, and compared.
 
-`live-compare` plays them against the real Alertmanager too, `.ci/live` against what that did.
+`live-compare` plays them against the real Alertmanager too, `.ci/live` against what that did. A story is lines of text:
+
+    story NAME                                      begins a story
+    route JSON, inhibit JSON, timeout 5s            fields of the route, inhibition rules, `resolve_timeout`
+    receivers JSON                                  receivers, each with a list of webhooks: `send_resolved`, `max_alerts`; `answers` and
+                                                    `takes` (seconds) for its attempts
+    differs WHY, sometimes WHY                      a known difference of live.py, which has to occur; one that some runs of the real one have
+    2.5 fire NAME LABEL=VALUE ..                    an alert at 2.5 seconds; @starts, @ends (seconds) and @note (an annotation)
+    2.5 resolve NAME .., 2.5 end                    the alert ends now; the story ends
+    2.5 silence ID from 3 for 10 MATCHER ..         a silence is set; `change ID ..` changes it, `expire ID` ends it
+    2.5 reload JSON, 2.5 hangup JSON                a reload by HTTP or by SIGHUP. The JSON has what changes: `route`, `receivers`, `inhibit`,
+                                                    `timeout`. Without it nothing does
+    2.5 restart JSON, 2.5 stop, 2.5 start JSON      both are stopped by SIGTERM, and started again at once or later. `nothing` before the JSON:
+                                                    without the data folder
 """
 import heapq
 import itertools
@@ -143,7 +156,7 @@ def differences(real, ours):
             if near:
                 other.remove(min(near, key=lambda it: abs(it[0] - line[0])))
                 one.remove(line)
-        found += [f"only Alertmanager: {it[0]:.2f} {it[1]}" for it in one] + [f"only live.py: {it[0]:.2f} {it[1]}" for it in other]
+        found += [f"only Alertmanager: {it[0]:.2f} {it[1]}" for it in one] + [f"only ours: {it[0]:.2f} {it[1]}" for it in other]
     return found
 
 

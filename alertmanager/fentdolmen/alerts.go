@@ -1,0 +1,271 @@
+// Alerts: Alertmanager's provider stores and merges them, and each goes on to the board before its request is answered.
+package main
+
+import (
+	"bytes"
+	"sync"
+	"time"
+
+	"github.com/go-kit/log/level"
+	"github.com/prometheus/common/model"
+
+	"github.com/prometheus/alertmanager/provider"
+	"github.com/prometheus/alertmanager/types"
+)
+
+// inserts are alerts that were queued for the board together, and those that it isn't given.
+type inserts struct {
+	alerts, kept []*types.Alert
+	errs         []error
+	*batch
+}
+
+// dispatched is the provider for the API: a request with an alert that the board rejects fails, and the others of it are accepted.
+type dispatched struct {
+	provider.Alerts
+	d *dispatcher
+}
+
+// Put stores alerts, and waits until the board has them. Without a board they wait for the next one in the provider.
+func (p dispatched) Put(alerts ...*types.Alert) error {
+	began := time.Now()
+	defer func() { p.d.metrics.processing.Observe(time.Since(began).Seconds()) }()
+	s, queued, err := p.store(alerts)
+	if err != nil || s == nil {
+		return err
+	}
+	return p.d.settle(s, queued)
+}
+
+// store stores alerts, and queues them for the board in the same order. Without a board there is no session.
+func (p dispatched) store(alerts []*types.Alert) (*session, inserts, error) {
+	p.d.putting.Lock()
+	defer p.d.putting.Unlock()
+	p.d.stored = make([]*types.Alert, 0, len(alerts))
+	if err := p.Alerts.Put(alerts...); err != nil {
+		return nil, inserts{}, err
+	}
+	s := p.d.session()
+	if s == nil {
+		return nil, inserts{}, nil
+	}
+	return s, p.d.insert(s, p.d.stored), nil
+}
+
+// The callbacks of the provider. PostStore has an alert as it was merged.
+
+func (d *dispatcher) PreStore(*types.Alert, bool) error { return nil }
+func (d *dispatcher) PostStore(a *types.Alert, _ bool)  { d.stored = append(d.stored, a) }
+func (d *dispatcher) PostDelete(*types.Alert)           {}
+
+// insert queues alerts, with `putting` held.
+func (d *dispatcher) insert(s *session, alerts []*types.Alert) inserts {
+	out, calls := inserts{}, make([]call, 0, len(alerts))
+	for _, a := range alerts {
+		c, err := d.insertOf(a)
+		if err != nil {
+			out.kept, out.errs = append(out.kept, a), append(out.errs, err)
+			continue
+		}
+		out.alerts, calls = append(out.alerts, a), append(calls, c)
+	}
+	d.mtx.Lock()
+	for _, a := range out.alerts {
+		d.known[a.Fingerprint()] = a
+	}
+	d.mtx.Unlock()
+	out.batch = s.board.submit(calls...)
+	return out
+}
+
+// insertOf is the call for an alert: an error if the board can't have it, or if boards ended at it.
+func (d *dispatcher) insertOf(a *types.Alert) (call, error) {
+	if err := tooLarge(a.Labels); err != nil {
+		return call{}, err
+	}
+	offset, starts := d.clock.offset(), int64(0)
+	var ends *int64
+	starts = d.clock.board(a.StartsAt, offset)
+	if !a.EndsAt.IsZero() {
+		end := d.clock.board(a.EndsAt, offset)
+		ends = &end
+	}
+	c := insertCall(a.Labels, starts, ends)
+	return c, d.culprits.check(c)
+}
+
+// culprits counts the boards that ended at the same insert or silence. After the second one it is kept from the next ones, so that no
+// request can end all of them.
+type culprits struct {
+	mtx    sync.Mutex
+	counts map[string]int
+}
+
+// add counts a board that ended at this subject, if it has one.
+func (c *culprits) add(subject string) {
+	c.mtx.Lock()
+	defer c.mtx.Unlock()
+	if c.counts == nil {
+		c.counts = map[string]int{}
+	}
+	if subject != "" {
+		c.counts[subject]++
+	}
+}
+
+// check is the refusal of a call at which two boards ended.
+func (c *culprits) check(it call) error {
+	c.mtx.Lock()
+	defer c.mtx.Unlock()
+	if len(c.counts) == 0 || c.counts[it.subject()] < 2 {
+		return nil
+	}
+	return &refusal{it.name, "/" + it.name, "culprit", "two boards ended at it"}
+}
+
+// settle waits for the answers to inserts. What was rejected at a limit is tried once more, after what is over was removed.
+func (d *dispatcher) settle(s *session, queued inserts) error {
+	left, kinds, err := d.rejected(s, queued)
+	if len(left) > 0 && d.makeRoom(s, kinds) {
+		left, _, err = d.rejected(s, d.again(s, left))
+	}
+	d.poke()
+	if len(left) > 0 {
+		d.remember(left)
+		level.Error(d.logger).Log("msg", "alerts not dispatched", "alerts", len(left), "err", err)
+	}
+	return err
+}
+
+// rejected waits for inserts. It returns the alerts that the board rejected, the kinds of refusals, and all of these as an error.
+func (d *dispatcher) rejected(s *session, queued inserts) (left []*types.Alert, kinds map[string]bool, err error) {
+	var all types.MultiError
+	kinds = map[string]bool{}
+	add := func(a *types.Alert, err error) {
+		kinds[d.count(err)] = true
+		left = append(left, a)
+		all.Add(err)
+	}
+	for i, a := range queued.kept {
+		add(a, queued.errs[i])
+	}
+	answers, _ := queued.wait() // (if the board is gone, the next one gets these alerts from the provider)
+	for i, line := range answers {
+		if bytes.HasPrefix(line, errorField) {
+			add(queued.alerts[i], s.board.decode(queued.calls[i], line, nil))
+		}
+	}
+	if all.Len() > 0 {
+		err = &all
+	}
+	return left, kinds, err
+}
+
+// again queues the alerts as they are by now.
+func (d *dispatcher) again(s *session, alerts []*types.Alert) inserts {
+	d.putting.Lock()
+	defer d.putting.Unlock()
+	latest := make([]*types.Alert, 0, len(alerts))
+	for _, a := range alerts {
+		if it, err := d.alerts.Get(a.Fingerprint()); err == nil {
+			a = it
+		}
+		latest = append(latest, a)
+	}
+	return d.insert(s, latest)
+}
+
+// remember keeps which alerts were rejected, to try them again later.
+func (d *dispatcher) remember(alerts []*types.Alert) {
+	d.mtx.Lock()
+	defer d.mtx.Unlock()
+	for _, a := range alerts {
+		d.refused[a.Fingerprint()] = struct{}{}
+	}
+}
+
+// retryRefused tries the rejected alerts again that still fire. It stops where none of many is accepted.
+func (d *dispatcher) retryRefused(s *session) {
+	d.mtx.Lock()
+	refused := d.refused
+	d.refused = map[model.Fingerprint]struct{}{}
+	d.mtx.Unlock()
+	var alerts []*types.Alert
+	for fp := range refused {
+		if a, err := d.alerts.Get(fp); err == nil && !a.Resolved() {
+			alerts = append(alerts, a)
+		}
+	}
+	for len(alerts) > 0 {
+		some := alerts
+		if len(some) > most {
+			some = some[:most]
+		}
+		alerts = alerts[len(some):]
+		left, _, _ := d.rejected(s, d.again(s, some))
+		d.remember(left)
+		if len(left) == len(some) {
+			d.remember(alerts)
+			return
+		}
+	}
+}
+
+// room says when the board was last asked to remove what is over.
+type room struct {
+	mtx  sync.Mutex
+	last map[string]time.Time
+}
+
+// makeRoom does what can help against these refusals, at most every ten seconds. It returns whether anything was done.
+func (d *dispatcher) makeRoom(s *session, kinds map[string]bool) bool {
+	done := false
+	for kind, remedy := range map[string]func(){
+		tooManyNames:    func() { d.try(s, forgetCall()) },
+		tooManySilences: func() { d.try(s, forgetCall()) },
+		tooManyGroups:   func() { d.try(s, maintainCall()) },
+		historyFull:     func() { d.takeHistory(s) },
+	} {
+		if kinds[kind] && d.room.isTime(kind) {
+			remedy()
+			done = true
+		}
+	}
+	return done
+}
+
+// isTime returns whether the last removal for this kind of refusal was long enough ago, and counts the present one.
+func (r *room) isTime(kind string) bool {
+	r.mtx.Lock()
+	defer r.mtx.Unlock()
+	if time.Since(r.last[kind]) < 10*time.Second {
+		return false
+	}
+	if r.last == nil {
+		r.last = map[string]time.Time{}
+	}
+	r.last[kind] = time.Now()
+	return true
+}
+
+// forgetKnown lets the annotations go of resolved alerts that are in no group.
+func (d *dispatcher) forgetKnown(s *session) {
+	var groups []boardGroup
+	if s.board.ask(groupsCall(), &groups) != nil {
+		return
+	}
+	held := map[model.Fingerprint]bool{}
+	for _, g := range groups {
+		for _, a := range g.Alerts {
+			held[a.Labels.Fingerprint()] = true
+		}
+	}
+	now := time.Now()
+	d.mtx.Lock()
+	defer d.mtx.Unlock()
+	for fp, a := range d.known {
+		if a.ResolvedAt(now) && !held[fp] {
+			delete(d.known, fp)
+		}
+	}
+}

@@ -1,0 +1,308 @@
+// The dispatcher: the board decides, and this sends what it says and reports how that ended.
+package main
+
+import (
+	"bytes"
+	"context"
+	"errors"
+	"sync"
+	"time"
+
+	"github.com/go-kit/log"
+	"github.com/go-kit/log/level"
+	"github.com/prometheus/common/model"
+
+	"github.com/prometheus/alertmanager/notify"
+	"github.com/prometheus/alertmanager/provider"
+	"github.com/prometheus/alertmanager/silence"
+	"github.com/prometheus/alertmanager/types"
+)
+
+// session is a board with its configuration, and what is being sent for it. A reload, and a board that ended, begin another one.
+type session struct {
+	*plan
+	board *board
+	// mark updates the states that the API shows.
+	mark    func(model.LabelSet)
+	ctx     context.Context
+	cancel  context.CancelFunc
+	sending sync.WaitGroup
+}
+
+// dispatcher has the session and all that outlives it. Its locks are held for work in memory alone, with two exceptions, `loading` and
+// `flushing`: nothing that answers a request or reports a notification waits for these.
+type dispatcher struct {
+	program string
+	timeout time.Duration
+	clock   *clock
+	logger  log.Logger
+	metrics *metrics
+	sends   *notify.Metrics
+
+	silences *silence.Silences
+	alerts   provider.Alerts
+	book     *logbook
+	history  *historyFile
+	cluster  peers
+
+	loading  sync.Mutex // one reload or new board at a time
+	flushing sync.Mutex // flushes begin in one session at a time
+	putting  sync.Mutex // alerts reach the board in the order in which they are stored
+	stored   []*types.Alert
+
+	mtx     sync.RWMutex
+	current *session
+	down    error // why there is no board, if one ended
+	// known has the last of each label set, with its annotations. refused are the alerts that the board rejected.
+	known   map[model.Fingerprint]*types.Alert
+	refused map[model.Fingerprint]struct{}
+
+	mirror   mirror
+	room     room
+	culprits culprits
+
+	followed int64 // of upkeep alone: the clock\'s offset that the silences and the saved log have
+	isFull   bool  // of run alone: as many flushes are open as the board can have
+	wake     chan struct{}
+	isLong   chan struct{}
+	stop     chan struct{}
+	running  sync.WaitGroup
+}
+
+// newDispatcher makes a dispatcher without a board: load gives it one.
+func newDispatcher(o *options, m *metrics, sends *notify.Metrics, silences *silence.Silences, book *logbook, history *historyFile, c *clock, logger log.Logger) *dispatcher {
+	return &dispatcher{
+		program: o.board, timeout: o.boardTimeout, clock: c, logger: log.With(logger, "component", "dispatcher"), metrics: m, sends: sends,
+		silences: silences, book: book, history: history,
+		known: map[model.Fingerprint]*types.Alert{}, refused: map[model.Fingerprint]struct{}{}, mirror: mirror{has: map[string]mirrored{}},
+		wake: make(chan struct{}, 1), isLong: make(chan struct{}, 1), stop: make(chan struct{}),
+	}
+}
+
+// session returns the present one: nil before the first configuration, and while there is no board.
+func (d *dispatcher) session() *session {
+	d.mtx.RLock()
+	defer d.mtx.RUnlock()
+	return d.current
+}
+
+// isDown is why there is no board.
+func (d *dispatcher) isDown() error {
+	d.mtx.RLock()
+	defer d.mtx.RUnlock()
+	return d.down
+}
+
+// poke has the loop look at what is due.
+func (d *dispatcher) poke() {
+	select {
+	case d.wake <- struct{}{}:
+	default:
+	}
+}
+
+// count counts a refusal, and returns its kind. Any other error is of a board that ended, which is seen to elsewhere.
+func (d *dispatcher) count(err error) string {
+	var r *refusal
+	if !errors.As(err, &r) {
+		return ""
+	}
+	d.metrics.refused.WithLabelValues(r.Call, r.Kind).Inc()
+	return r.Kind
+}
+
+// try makes a call whose answer matters only if it is a refusal, and returns the kind of that.
+func (d *dispatcher) try(s *session, c call) string {
+	err := s.board.ask(c, nil)
+	kind := d.count(err)
+	if kind != "" {
+		level.Error(d.logger).Log("msg", "the board rejects a call", "err", err)
+	}
+	return kind
+}
+
+// start runs the flushes and the upkeep until close.
+func (d *dispatcher) start(forgetEvery time.Duration) {
+	d.running.Add(3)
+	go d.run()
+	go d.upkeep(forgetEvery)
+	go d.takeHistories()
+}
+
+// longest is how long the dispatcher sleeps at most: then it looks at the clock again, which may have gone on while the machine slept.
+const longest = time.Second
+
+// run begins flushes as they become due.
+func (d *dispatcher) run() {
+	defer d.running.Done()
+	for {
+		timer := time.NewTimer(d.flushDue())
+		select {
+		case <-timer.C:
+		case <-d.wake:
+		case <-d.stop:
+			timer.Stop()
+			return
+		}
+		timer.Stop()
+	}
+}
+
+// flushDue begins all that is due, and returns how long nothing else will be.
+func (d *dispatcher) flushDue() time.Duration {
+	d.flushing.Lock()
+	defer d.flushing.Unlock()
+	s := d.session()
+	if s == nil {
+		return longest
+	}
+	for !d.isStopped() {
+		var next nextDue
+		if s.board.ask(nextDueCall(), &next) != nil || next.At == nil {
+			return longest
+		}
+		if wait := d.clock.until(*next.At); wait > longest {
+			return longest
+		} else if wait > 0 {
+			return wait
+		}
+		if !d.begin(s) {
+			return longest
+		}
+	}
+	return longest
+}
+
+// isStopped returns whether close was called.
+func (d *dispatcher) isStopped() bool {
+	select {
+	case <-d.stop:
+		return true
+	default:
+		return false
+	}
+}
+
+// begin begins a flush. It returns whether another one can follow at once.
+func (d *dispatcher) begin(s *session) bool {
+	c := beginCall()
+	answers, err := s.board.submit(c).wait()
+	if err != nil {
+		return false
+	}
+	line := answers[0]
+	switch {
+	case bytes.HasPrefix(line, flushField):
+		d.isFull = false
+		s.sending.Add(1)
+		go d.send(s, c, line)
+		return true
+	case bytes.HasPrefix(line, quietField):
+		return true
+	case bytes.HasPrefix(line, errorField):
+		// At a limit the group stays due: the next flush that ends wakes the loop up.
+		err := s.board.decode(c, line, nil)
+		if kind := d.count(err); kind == historyFull {
+			d.takeHistory(s)
+		}
+		if !d.isFull {
+			level.Warn(d.logger).Log("msg", "flushes wait", "err", err)
+		}
+		d.isFull = true
+	}
+	return false
+}
+
+// upkeep removes what is over from the board. As in Alertmanager, empty groups go every 30 seconds.
+func (d *dispatcher) upkeep(forgetEvery time.Duration) {
+	defer d.running.Done()
+	second, groups, forget := time.NewTicker(time.Second), time.NewTicker(30*time.Second), time.NewTicker(forgetEvery)
+	defer second.Stop()
+	defer groups.Stop()
+	defer forget.Stop()
+	for {
+		select {
+		case <-second.C:
+			d.followClock()
+		case <-groups.C:
+			if s := d.session(); s != nil {
+				d.try(s, maintainCall())
+				d.retryRefused(s)
+				if d.mirror.catchUp() {
+					d.syncSilences(s)
+				}
+			}
+		case <-forget.C:
+			if s := d.session(); s != nil {
+				d.try(s, forgetCall())
+				d.forgetKnown(s)
+				d.mirror.forget(time.Now())
+			}
+		case <-d.stop:
+			return
+		}
+	}
+}
+
+// takeHistories takes the history of the board whenever it has grown by so many calls.
+func (d *dispatcher) takeHistories() {
+	defer d.running.Done()
+	for {
+		select {
+		case <-d.isLong:
+			if s := d.session(); s != nil {
+				d.takeHistory(s)
+			}
+		case <-d.stop:
+			return
+		}
+	}
+}
+
+// takeHistory moves the history of a board to the file, as the board prints it, or drops it.
+func (d *dispatcher) takeHistory(s *session) {
+	c := takeCall()
+	answers, err := s.board.submit(c).wait()
+	if err != nil {
+		return
+	}
+	if bytes.HasPrefix(answers[0], errorField) {
+		err := s.board.decode(c, answers[0], nil)
+		d.count(err)
+		level.Error(d.logger).Log("msg", "history not taken", "err", err)
+		return
+	}
+	d.history.add(answers[0])
+}
+
+// close ends what is being sent, and the board.
+func (d *dispatcher) close() {
+	close(d.stop)
+	d.running.Wait()
+	d.loading.Lock()
+	defer d.loading.Unlock()
+	d.mtx.Lock()
+	s := d.current
+	d.current = nil
+	d.mtx.Unlock()
+	if s != nil {
+		d.endSession(s)
+	}
+}
+
+// endSession cuts off what is being sent, as a reload of Alertmanager does, and closes the board. A sender that ignores that is left.
+func (d *dispatcher) endSession(s *session) {
+	s.cancel()
+	ended := make(chan struct{})
+	go func() {
+		s.sending.Wait()
+		close(ended)
+	}()
+	select {
+	case <-ended:
+	case <-time.After(10 * time.Second):
+		level.Error(d.logger).Log("msg", "notifications in flight don't end: left behind")
+	}
+	d.takeHistory(s)
+	s.board.close()
+}

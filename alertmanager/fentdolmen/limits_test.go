@@ -1,0 +1,126 @@
+package main
+
+import (
+	"fmt"
+	"testing"
+	"time"
+
+	"github.com/prometheus/client_golang/prometheus/testutil"
+	"github.com/prometheus/common/model"
+
+	"github.com/prometheus/alertmanager/types"
+)
+
+func TestAtALimitWhatIsOverIsRemoved(t *testing.T) {
+	for how, kind := range map[string]string{"names": tooManyNames, "groups": tooManyGroups} {
+		t.Run(how, func(t *testing.T) {
+			d := testDispatcher(t, fake(t, how), oneReceiver)
+			put := dispatched{d.alerts, d}
+			var all []*types.Alert
+			for i := 0; i < 5; i++ {
+				all = append(all, alert(fmt.Sprint("alertname=", i)))
+			}
+			if err := put.Put(all...); err != nil {
+				t.Error("two alerts above the limit aren't accepted after a removal: ", err)
+			}
+			if got := testutil.ToFloat64(d.metrics.refused.WithLabelValues("insert", kind)); got != 2 {
+				t.Errorf("%v refusals are counted", got)
+			}
+			// The board has 2 by now. At the next limit it is too early for another removal.
+			if err := put.Put(alert("alertname=a"), alert("alertname=b"), alert("alertname=c")); err == nil {
+				t.Error("no error for what the board rejects")
+			}
+			if err := put.Put(alert("alertname=3"), alert("alertname=4"), alert("alertname=a")); err != nil {
+				t.Error("a known alert is rejected: ", err)
+			}
+			if len(d.refused) != 2 {
+				t.Errorf("%d alerts wait", len(d.refused))
+			}
+			d.try(d.session(), map[string]call{"names": forgetCall(), "groups": maintainCall()}[how])
+			d.retryRefused(d.session())
+			if len(d.refused) != 0 {
+				t.Error("they aren't tried again")
+			}
+		})
+	}
+}
+
+func TestOneRejectedAlertRejectsNoOther(t *testing.T) {
+	d := testDispatcher(t, fake(t, "huge"), oneReceiver)
+	if err := (dispatched{d.alerts, d}).Put(alert("alertname=1"), alert("alertname=2,x=1"), alert("alertname=3")); err == nil {
+		t.Error("no error")
+	}
+	if got := testutil.ToFloat64(d.metrics.refused.WithLabelValues("insert", "value")); got != 1 {
+		t.Errorf("%v refusals are counted", got)
+	}
+	if len(d.refused) != 1 {
+		t.Errorf("%d alerts wait", len(d.refused))
+	}
+}
+
+func TestABoardThatEndsIsStartedAgainWithAllAlerts(t *testing.T) {
+	d := testDispatcher(t, realBoard(t), oneReceiver)
+	put := dispatched{d.alerts, d}
+	if err := put.Put(alert("alertname=1"), alert("alertname=2")); err != nil {
+		t.Fatal(err)
+	}
+	first := d.session()
+	first.board.cmd.Process.Kill()
+	<-first.board.ended
+	if err := put.Put(alert("alertname=3")); err != nil { // (before or after the new board is there)
+		t.Error(err)
+	}
+	waitFor(t, func() bool { return d.session() != first && d.summary().Alerts == 3 })
+	if d.isDown() != nil {
+		t.Error(d.isDown())
+	}
+	if got := testutil.ToFloat64(d.metrics.restarts); got != 1 {
+		t.Errorf("%v restarts are counted", got)
+	}
+}
+
+func TestAnAlertThatEndsBoardsEndsTwo(t *testing.T) {
+	d := testDispatcher(t, fake(t, "poison"), oneReceiver)
+	put := dispatched{d.alerts, d}
+	if err := put.Put(alert("alertname=1")); err != nil {
+		t.Fatal(err)
+	}
+	put.Put(alert("alertname=poison"))
+	waitFor(t, func() bool { return testutil.ToFloat64(d.metrics.restarts) == 2 && d.isDown() == nil })
+	again := alert("alertname=poison")
+	again.EndsAt = again.EndsAt.Add(time.Minute)
+	if err := put.Put(again, alert("alertname=2")); err == nil {
+		t.Error("no error for an alert that boards ended at")
+	}
+	if err := put.Put(alert("alertname=3")); err != nil || testutil.ToFloat64(d.metrics.restarts) != 2 {
+		t.Error("the third board isn't there: ", err)
+	}
+}
+
+func TestTooLargeAlertsArentSent(t *testing.T) {
+	large := model.LabelSet{}
+	for i := 0; i <= mostLabels; i++ {
+		large[model.LabelName(fmt.Sprint("l", i))] = "x"
+	}
+	if tooLarge(large) == nil || tooLarge(model.LabelSet{"a": model.LabelValue(make([]byte, mostBytes))}) == nil {
+		t.Error("no error")
+	}
+	delete(large, "l0")
+	if err := tooLarge(large); err != nil {
+		t.Error(err)
+	}
+}
+
+func TestKnownAlertsAreForgotten(t *testing.T) {
+	d := testDispatcher(t, realBoard(t), oneReceiver)
+	over := alert("alertname=1")
+	over.EndsAt = over.StartsAt
+	if err := (dispatched{d.alerts, d}).Put(over, alert("alertname=2")); err != nil {
+		t.Fatal(err)
+	}
+	d.known[model.LabelSet{"alertname": "gone"}.Fingerprint()] = over
+	d.forgetKnown(d.session())
+	if len(d.known) != 2 {
+		t.Errorf("%d are left, and two are in groups", len(d.known))
+	}
+}

@@ -1,0 +1,171 @@
+// New boards: for the first configuration, a reload, and after a board that ended.
+package main
+
+import (
+	"context"
+	"time"
+
+	"github.com/go-kit/log/level"
+	"github.com/prometheus/common/model"
+
+	"github.com/prometheus/alertmanager/types"
+)
+
+// most is how many calls are queued at a time, so that what comes between doesn't wait for all.
+const most = 500
+
+// load begins a session with a configuration. With an error nothing has changed, and the old session goes on.
+func (d *dispatcher) load(p *plan, mark func(model.LabelSet)) error {
+	d.loading.Lock()
+	defer d.loading.Unlock()
+	return d.replace(d.session(), p, mark)
+}
+
+// replace begins a session in place of the old one, if there is one. What can be refused comes first.
+func (d *dispatcher) replace(old *session, p *plan, mark func(model.LabelSet)) error {
+	b, err := openBoard(d.program, d.program, d.timeout, d.clock.now, d.broken, d.isHistoryLong)
+	if err != nil {
+		return err
+	}
+	c, err := configCall(p.value)
+	if err == nil {
+		err = b.ask(c, nil)
+	}
+	if err != nil {
+		d.count(err)
+		b.close()
+		return err
+	}
+	next := &session{plan: p, board: b, mark: mark}
+	next.ctx, next.cancel = context.WithCancel(context.Background())
+
+	d.flushing.Lock()
+	defer d.flushing.Unlock()
+	if old != nil {
+		d.endSession(old)
+	}
+	d.history.begin(p.value)
+	d.mirror.reset()
+	inserts, err := d.fill(next)
+	d.syncSilences(next)
+	for _, it := range inserts {
+		d.settle(next, it)
+	}
+	d.poke()
+	return err
+}
+
+// fill gives the new board the log and the alerts, and makes its session the present one.
+func (d *dispatcher) fill(s *session) ([]inserts, error) {
+	d.putting.Lock()
+	defer d.putting.Unlock()
+	d.loadRows(s)
+	all := d.alerts.GetPending()
+	defer all.Close()
+	d.mtx.Lock()
+	d.current, d.down = s, nil
+	d.known, d.refused = map[model.Fingerprint]*types.Alert{}, map[model.Fingerprint]struct{}{}
+	d.mtx.Unlock()
+	var some []*types.Alert
+	var out []inserts
+	for a := range all.Next() {
+		if some = append(some, a); len(some) == most {
+			out = append(out, d.insert(s, some))
+			some = nil
+		}
+	}
+	return append(out, d.insert(s, some)), all.Err()
+}
+
+// loadRows gives the new board the rows of the log that have a place in its configuration. The others stay in the logbook.
+func (d *dispatcher) loadRows(s *session) {
+	kept, _ := decodeRows(d.book.lines())
+	now, offset, loaded := d.clock.now(), d.clock.offset(), 0
+	var calls []call
+	for _, k := range kept {
+		rows := s.place(k, now, offset)
+		for _, r := range rows {
+			if c, err := loadCall(r); err == nil && r.Expiry > now {
+				calls = append(calls, c)
+			}
+		}
+	}
+	for len(calls) > 0 {
+		some := calls
+		if len(some) > most {
+			some = some[:most]
+		}
+		calls = calls[len(some):]
+		loaded += d.checkAll(s, s.board.submit(some...), "row of the log not taken over")
+	}
+	if len(kept) > 0 {
+		level.Info(d.logger).Log("msg", "notification log taken over", "rows", len(kept), "loaded", loaded)
+	}
+}
+
+// checkAll waits for a batch, logs what the board rejected, and returns how much it didn't.
+func (d *dispatcher) checkAll(s *session, t *batch, what string) (good int) {
+	answers, err := t.wait()
+	if err != nil {
+		return 0
+	}
+	for i, line := range answers {
+		if err := s.board.decode(t.calls[i], line, nil); err != nil {
+			d.count(err)
+			level.Warn(d.logger).Log("msg", what, "err", err)
+			continue
+		}
+		good++
+	}
+	return good
+}
+
+// isHistoryLong is called by the board every 10,000 calls.
+func (d *dispatcher) isHistoryLong() {
+	select {
+	case d.isLong <- struct{}{}:
+	default:
+	}
+}
+
+// broken begins a new session with the same configuration in place of the one whose board ended.
+func (d *dispatcher) broken(b *board, fault error) {
+	d.loading.Lock()
+	defer d.loading.Unlock()
+	s := d.session()
+	if s == nil || s.board != b {
+		return
+	}
+	level.Error(d.logger).Log("msg", "the board is gone: a new one goes on from the notification log", "err", fault)
+	d.metrics.restarts.Inc()
+	d.culprits.add(b.culprit)
+	d.mtx.Lock()
+	d.down = fault
+	d.mtx.Unlock()
+	for wait := 100 * time.Millisecond; ; wait *= 2 {
+		if d.isStopped() {
+			return
+		}
+		err := d.replace(s, s.plan, s.mark)
+		if err == nil {
+			return
+		}
+		level.Error(d.logger).Log("msg", "no new board", "err", err)
+		if wait > 10*time.Second {
+			wait = 10 * time.Second
+		}
+		if !d.sleep(wait) {
+			return
+		}
+	}
+}
+
+// sleep returns whether the dispatcher goes on.
+func (d *dispatcher) sleep(wait time.Duration) bool {
+	select {
+	case <-time.After(wait):
+		return true
+	case <-d.stop:
+		return false
+	}
+}

@@ -1,0 +1,154 @@
+package main
+
+import (
+	"bufio"
+	"bytes"
+	"context"
+	"encoding/json"
+	"fmt"
+	"os"
+	"strings"
+	"testing"
+	"time"
+
+	"github.com/go-kit/log"
+	"github.com/prometheus/client_golang/prometheus"
+	"github.com/prometheus/common/model"
+
+	"github.com/prometheus/alertmanager/config"
+	"github.com/prometheus/alertmanager/dispatch"
+	"github.com/prometheus/alertmanager/notify"
+	"github.com/prometheus/alertmanager/provider/mem"
+	"github.com/prometheus/alertmanager/silence"
+	"github.com/prometheus/alertmanager/template"
+	"github.com/prometheus/alertmanager/types"
+)
+
+// TestMain makes this program the board of some tests: FAKE_BOARD names what it does.
+func TestMain(m *testing.M) {
+	if how := os.Getenv("FAKE_BOARD"); how != "" {
+		fakeBoard(how)
+		os.Exit(0)
+	}
+	os.Exit(m.Run())
+}
+
+// fakeBoard answers lines as am-dispatch does, but for one thing:
+//   - `names`, `groups`: after three alerts no other is accepted until forget or maintain was called
+//   - `silences`: before forget no silence is accepted
+//   - `huge`: no alert with a label x is accepted
+//   - `poison`, `silent`: it ends at an alert of this name, at a silence
+//   - `ends`, `hangs`, `form`, `untold`: summary is answered by a fault of the protocol
+func fakeBoard(how string) {
+	in, had := bufio.NewScanner(os.Stdin), map[string]bool{}
+	for in.Scan() {
+		var line map[string]map[string]json.RawMessage
+		json.Unmarshal(in.Bytes(), &line)
+		for name, args := range line {
+			answer, isNew := fmt.Sprintf(`{%q:{}}`, fakeAnswers[name]), !had[string(args["labels"])]
+			switch {
+			case name == "insert" && how == "huge" && bytes.Contains(args["labels"], []byte(`"x"`)):
+				answer = `{"error":{"pointer":"/insert/labels","kind":"value","message":"too long"}}`
+			case name == "insert" && how == "poison" && bytes.Contains(args["labels"], []byte("poison")):
+				return
+			case name == "insert" && isNew && len(had) >= 3 && (how == "names" || how == "groups"):
+				answer = map[string]string{"names": `{"error":{"pointer":"/insert","kind":"TooManyNames","message":"no more"}}`,
+					"groups": `{"error":{"pointer":"/insert","kind":"TooManyGroups","message":"no more"}}`}[how]
+			case name == "insert":
+				had[string(args["labels"])] = true
+			case name == "silence" && how == "silences":
+				if answer = `{"error":{"pointer":"/silence","kind":"TooManySilences","message":"no more"}}`; had["forget"] {
+					answer = `{"silenced":{"replaced":false}}`
+				}
+			case name == "forget" && how == "silences":
+				had["forget"] = true
+			case name == "forget" && how == "names", name == "maintain" && how == "groups":
+				had = map[string]bool{}
+			case name == "summary" && how == "ends", name == "silence" && how == "silent":
+				return
+			case name == "summary" && how == "hangs":
+				time.Sleep(time.Minute)
+			case name == "summary" && how == "form":
+				answer = `{"groups":[]}`
+			case name == "summary" && how == "untold":
+				answer = `{"error":{"pointer":"","kind":"untold","message":"lost"}}`
+			}
+			fmt.Println(answer)
+		}
+	}
+}
+
+var fakeAnswers = map[string]string{"alertmanager": "opened", "insert": "inserted", "silence": "silenced", "report": "reported", "note": "noted",
+	"finish": "finished", "maintain": "maintained", "forget": "forgotten", "load": "loaded", "take_history": "taken", "next_due": "next_due",
+	"summary": "summary"}
+
+// fake has the next boards be this program.
+func fake(t *testing.T, how string) string {
+	t.Setenv("FAKE_BOARD", how)
+	return os.Args[0]
+}
+
+// realBoard is the program that AM_DISPATCH names.
+func realBoard(t *testing.T) string {
+	program := os.Getenv("AM_DISPATCH")
+	if program == "" {
+		t.Skip("AM_DISPATCH names no board")
+	}
+	return program
+}
+
+func testClock() *clock { return newClock(wallClock, steadyClock) }
+
+const oneReceiver = "route: {receiver: team, group_by: [alertname]}\nreceivers: [{name: team, webhook_configs: [{url: 'http://127.0.0.1:9/'}]}]"
+
+// planOf is the plan of a configuration.
+func planOf(t *testing.T, text string) *plan {
+	conf, err := config.Load(text)
+	if err != nil {
+		t.Fatal(err)
+	}
+	integrations, err := buildReceivers(conf, usedReceivers(dispatch.NewRoute(conf.Route, nil)), &template.Template{}, log.NewNopLogger())
+	if err != nil {
+		t.Fatal(err)
+	}
+	return newPlan(conf, integrations)
+}
+
+// testDispatcher is one with a board, whose flushes don't run.
+func testDispatcher(t *testing.T, program, text string) *dispatcher {
+	reg, logger := prometheus.NewRegistry(), log.NewNopLogger()
+	silences, err := silence.New(silence.Options{Retention: time.Hour, Metrics: reg})
+	if err != nil {
+		t.Fatal(err)
+	}
+	history, err := openHistory("", logger, func() {})
+	if err != nil {
+		t.Fatal(err)
+	}
+	o := &options{board: program, boardTimeout: 10 * time.Second}
+	d := newDispatcher(o, newMetrics(reg), notify.NewMetrics(reg), silences, newLogbook(), history, testClock(), logger)
+	alerts, err := mem.NewAlerts(context.Background(), types.NewMarker(reg), time.Hour, d, logger, reg)
+	if err != nil {
+		t.Fatal(err)
+	}
+	d.alerts = alerts
+	if err := d.load(planOf(t, text), func(model.LabelSet) {}); err != nil {
+		t.Fatal(err)
+	}
+	t.Cleanup(func() {
+		d.close()
+		alerts.Close()
+	})
+	return d
+}
+
+// alert is one that fires, of labels such as `alertname=A,x=1`.
+func alert(text string) *types.Alert {
+	labels := model.LabelSet{}
+	for _, it := range strings.Split(text, ",") {
+		name, value, _ := strings.Cut(it, "=")
+		labels[model.LabelName(name)] = model.LabelValue(value)
+	}
+	now := time.Now()
+	return &types.Alert{Alert: model.Alert{Labels: labels, StartsAt: now, EndsAt: now.Add(time.Hour)}, UpdatedAt: now}
+}

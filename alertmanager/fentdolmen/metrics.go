@@ -1,0 +1,72 @@
+// Metrics: those of Alertmanager's main that its packages don't have, and our own.
+package main
+
+import (
+	"github.com/prometheus/client_golang/prometheus"
+	"github.com/prometheus/common/version"
+)
+
+type metrics struct {
+	receivers, integrations, clustered prometheus.Gauge
+	requests                           *prometheus.HistogramVec
+	sizes                              *prometheus.HistogramVec
+	processing                         prometheus.Summary
+	refused                            *prometheus.CounterVec
+	unsaved                            *prometheus.CounterVec
+	restarts                           prometheus.Counter
+}
+
+// newMetrics makes and registers them.
+func newMetrics(reg prometheus.Registerer) *metrics {
+	gauge := func(name, help string) prometheus.Gauge {
+		return prometheus.NewGauge(prometheus.GaugeOpts{Name: name, Help: help})
+	}
+	m := &metrics{
+		receivers:    gauge("alertmanager_receivers", "Number of configured receivers."),
+		integrations: gauge("alertmanager_integrations", "Number of configured integrations."),
+		clustered:    gauge("alertmanager_cluster_enabled", "Whether there is a cluster."),
+		requests: prometheus.NewHistogramVec(prometheus.HistogramOpts{Name: "alertmanager_http_request_duration_seconds",
+			Help: "Duration of HTTP requests.", Buckets: []float64{.05, 0.1, .25, .5, .75, 1, 2, 5, 20, 60}}, []string{"handler", "method"}),
+		sizes: prometheus.NewHistogramVec(prometheus.HistogramOpts{Name: "alertmanager_http_response_size_bytes",
+			Help: "Size of HTTP responses.", Buckets: prometheus.ExponentialBuckets(100, 10, 7)}, []string{"handler", "method"}),
+		processing: prometheus.NewSummary(prometheus.SummaryOpts{Name: "alertmanager_dispatcher_alert_processing_duration_seconds",
+			Help: "Duration of a request's alerts on their way to the board."}),
+		refused: prometheus.NewCounterVec(prometheus.CounterOpts{Name: "fentdolmen_refused_total",
+			Help: "Calls that the board rejected."}, []string{"call", "kind"}),
+		unsaved: prometheus.NewCounterVec(prometheus.CounterOpts{Name: "fentdolmen_save_failures_total",
+			Help: "Attempts to write a file that failed."}, []string{"file"}),
+		restarts: prometheus.NewCounter(prometheus.CounterOpts{Name: "fentdolmen_board_restarts_total",
+			Help: "Boards that ended by themselves, or had to be ended."}),
+	}
+	reg.MustRegister(m.receivers, m.integrations, m.clustered, m.requests, m.sizes, m.processing, m.refused, m.unsaved, m.restarts,
+		version.NewCollector("alertmanager"))
+	return m
+}
+
+// failure returns what counts a failed attempt to write a file.
+func (m *metrics) failure(file string) func() {
+	return m.unsaved.WithLabelValues(file).Inc
+}
+
+// watch adds the gauges that ask the board and the log.
+func (m *metrics) watch(reg prometheus.Registerer, d *dispatcher, file *logFile) {
+	gauge := func(name, help string, value func() float64) {
+		reg.MustRegister(prometheus.NewGaugeFunc(prometheus.GaugeOpts{Name: name, Help: help}, value))
+	}
+	gauge("alertmanager_dispatcher_aggregation_groups", "Number of active aggregation groups",
+		func() float64 { return float64(d.summary().Groups) })
+	gauge("fentdolmen_log_entries", "Rows of the board's notification log.", func() float64 { return float64(d.summary().Entries) })
+	gauge("fentdolmen_open_flushes", "Flushes that are being sent.", func() float64 { return float64(d.summary().Flushes) })
+	gauge("fentdolmen_log_saved", "Whether the notification log is on the disk.", func() float64 {
+		if file.isFailed() {
+			return 0
+		}
+		return 1
+	})
+	gauge("fentdolmen_board_up", "Whether there is a board.", func() float64 {
+		if d.isDown() != nil {
+			return 0
+		}
+		return 1
+	})
+}

@@ -1,0 +1,238 @@
+// One flush: each of its notices is sent by Alertmanager's own retries and senders, and reported.
+package main
+
+import (
+	"context"
+	"fmt"
+	"sort"
+	"sync"
+	"time"
+
+	"github.com/go-kit/log/level"
+	"github.com/prometheus/common/model"
+
+	"github.com/prometheus/alertmanager/dispatch"
+	"github.com/prometheus/alertmanager/notify"
+	"github.com/prometheus/alertmanager/types"
+)
+
+// sending is a flush in flight.
+type sending struct {
+	*session
+	flush
+	route *dispatch.Route
+	began time.Time     // by the wall clock
+	begun int64         // in the board's time
+	turn  time.Duration // how long peers go first
+	mtx   sync.Mutex
+	// unlogged are the notices whose success isn't in the log yet: the finish logs them.
+	unlogged []notice
+}
+
+// send sends all notices of a flush, and finishes it.
+func (d *dispatcher) send(s *session, c call, line []byte) {
+	defer s.sending.Done()
+	f := &sending{session: s, began: time.UnixMilli(d.clock.wall()), begun: d.clock.now(), turn: d.cluster.turn()}
+	if s.board.decode(c, line, &f.flush) != nil {
+		return
+	}
+	f.route = s.routes[f.Group.Route]
+	if f.route == nil {
+		s.board.fail(fmt.Errorf("a flush of %q, which isn't a route", f.Group.Route))
+		return
+	}
+	ctx, cancel := context.WithTimeout(f.context(), d.clock.until(f.Deadline)+f.turn)
+	defer cancel()
+	var filled []notice
+	for _, n := range f.Notices {
+		if n.empty() {
+			f.unlogged = append(f.unlogged, n)
+		} else {
+			filled = append(filled, n)
+		}
+	}
+	if !f.isMuted(ctx, d) {
+		d.sendAll(ctx, f, filled)
+	}
+	d.finish(f)
+}
+
+// sendAll sends notices side by side: none waits for another.
+func (d *dispatcher) sendAll(ctx context.Context, f *sending, notices []notice) {
+	var all sync.WaitGroup
+	for _, n := range notices {
+		all.Add(1)
+		go func(n notice) {
+			defer all.Done()
+			d.sendNotice(ctx, f, n)
+		}(n)
+	}
+	all.Wait()
+}
+
+// context has what Alertmanager's stages and senders read from it.
+func (f *sending) context() context.Context {
+	opts := f.route.RouteOpts
+	ctx := notify.WithNow(f.ctx, f.began)
+	ctx = notify.WithGroupKey(ctx, fmt.Sprintf("%s:%s", f.route.Key(), f.Group.Labels))
+	ctx = notify.WithGroupLabels(ctx, f.Group.Labels)
+	ctx = notify.WithReceiverName(ctx, opts.Receiver)
+	ctx = notify.WithRepeatInterval(ctx, opts.RepeatInterval)
+	ctx = notify.WithMuteTimeIntervals(ctx, opts.MuteTimeIntervals)
+	return notify.WithActiveTimeIntervals(ctx, opts.ActiveTimeIntervals)
+}
+
+// isMuted asks Alertmanager's own stages whether a time interval mutes the route: the board accepts no route with one.
+func (f *sending) isMuted(ctx context.Context, d *dispatcher) bool {
+	stages := notify.MultiStage{notify.NewTimeActiveStage(f.intervals), notify.NewTimeMuteStage(f.intervals)}
+	_, left, err := stages.Exec(ctx, d.logger, &types.Alert{})
+	return err == nil && len(left) == 0
+}
+
+// sendNotice sends a notice unless a peer has, and reports it.
+func (d *dispatcher) sendNotice(ctx context.Context, f *sending, n notice) {
+	integrations := f.integrations[f.route.RouteOpts.Receiver]
+	if n.Integration >= len(integrations) {
+		f.board.fail(fmt.Errorf("a notice for integration %d of %d", n.Integration, len(integrations)))
+		return
+	}
+	alerts := d.alertsOf(n)
+	for _, a := range alerts {
+		f.mark(a.Labels)
+	}
+	ctx = notify.WithFiringAlerts(ctx, make([]uint64, len(n.Firing)))
+	ctx = notify.WithResolvedAlerts(ctx, make([]uint64, len(n.Resolved)))
+	err := d.cluster.waitForPeers(ctx, f.turn, d.logger)
+	isSentByPeer := err == nil && d.isSentByPeer(f, n)
+	if err == nil && !isSentByPeer {
+		_, _, err = notify.NewRetryStage(integrations[n.Integration], f.route.RouteOpts.Receiver, d.sends).Exec(ctx, d.logger, alerts...)
+	}
+	if err != nil {
+		d.reportFailure(ctx, f, n, err)
+		return
+	}
+	d.reportSuccess(f, n, !isSentByPeer)
+}
+
+// reportFailure reports a notice that wasn't delivered: the group's next flush tries it again.
+func (d *dispatcher) reportFailure(ctx context.Context, f *sending, n notice, err error) {
+	outcome, lvl := "refused", level.Error(d.logger)
+	if ctx.Err() != nil {
+		outcome = "expired"
+	}
+	if ctx.Err() == context.Canceled {
+		lvl = level.Debug(d.logger)
+	}
+	lvl.Log("msg", "Notify for alerts failed", "num_alerts", len(n.Firing)+len(n.Resolved), "err", err)
+	d.try(f.session, reportCall(f.Ticket, n.Integration, outcome))
+}
+
+// reportSuccess reports and notes. What happened is logged, also if the board is gone by then: the next one gets the row.
+func (d *dispatcher) reportSuccess(f *sending, n notice, isOurs bool) {
+	report, note := reportCall(f.Ticket, n.Integration, "delivered"), noteCall(f.Ticket, n.Integration)
+	t := f.board.submit(report, note)
+	answers, err := t.wait()
+	isNoted := err != nil
+	if err == nil {
+		for i, line := range answers {
+			if err := f.board.decode(t.calls[i], line, nil); err != nil {
+				d.count(err)
+				level.Error(d.logger).Log("msg", "success not noted", "err", err)
+			} else {
+				isNoted = i == 1
+			}
+		}
+	}
+	if isNoted {
+		d.keep(f, n, t.now, isOurs)
+		return
+	}
+	f.mtx.Lock()
+	f.unlogged = append(f.unlogged, n)
+	f.mtx.Unlock()
+}
+
+// finish ends a flush. It logs, beside what wasn't noted, the notices that had nothing to send.
+func (d *dispatcher) finish(f *sending) {
+	c := finishCall(f.Ticket)
+	t := f.board.submit(c)
+	answers, err := t.wait()
+	if err == nil {
+		err = f.board.decode(c, answers[0], nil)
+		d.count(err)
+	}
+	if err == nil {
+		for _, n := range f.unlogged {
+			d.keep(f, n, t.now, true)
+		}
+	}
+	d.poke()
+}
+
+// keep puts the row of a success into the logbook, and sends it to the peers.
+func (d *dispatcher) keep(f *sending, n notice, moment int64, isOurs bool) {
+	r := row{f.Group, "", n.Integration, n.Kind, moment, expiry(f.route, moment), labelsOf(n.Firing), labelsOf(n.Resolved)}
+	offset := d.clock.offset()
+	k, ok := f.plan.keep(r, offset)
+	if !ok {
+		return
+	}
+	line := d.book.put(k, offset)
+	if isOurs {
+		d.cluster.broadcast(line)
+	}
+	if s := d.session(); s != nil && s != f.session {
+		d.place(s, k)
+	}
+}
+
+// place gives a row to a board that doesn't have it.
+func (d *dispatcher) place(s *session, k keptRow) {
+	for _, r := range s.place(k, d.clock.now(), d.clock.offset()) {
+		if c, err := loadCall(r); err == nil {
+			d.try(s, c)
+		}
+	}
+}
+
+// labelsOf is the label sets of alerts, in their order.
+func labelsOf(alerts []boardAlert) []model.LabelSet {
+	out := make([]model.LabelSet, 0, len(alerts))
+	for _, a := range alerts {
+		out = append(out, a.Labels)
+	}
+	return out
+}
+
+// alertsOf is the alerts of a notice in the order and form of Alertmanager's own flush: one that fires has no end.
+func (d *dispatcher) alertsOf(n notice) types.AlertSlice {
+	offset := d.clock.offset()
+	out := make(types.AlertSlice, 0, len(n.Firing)+len(n.Resolved))
+	for _, b := range n.Firing {
+		a := d.alertOf(b, offset)
+		a.EndsAt = time.Time{}
+		out = append(out, a)
+	}
+	for _, b := range n.Resolved {
+		a := d.alertOf(b, offset)
+		if b.Ends != nil {
+			if end := time.UnixMilli(*b.Ends - offset); !a.ResolvedAt(end.Add(time.Millisecond)) {
+				a.EndsAt = end // (it has been inserted again since)
+			}
+		}
+		out = append(out, a)
+	}
+	sort.Stable(out)
+	return out
+}
+
+// alertOf is a copy of the alert that was inserted last for these labels.
+func (d *dispatcher) alertOf(b boardAlert, offset int64) *types.Alert {
+	d.mtx.RLock()
+	defer d.mtx.RUnlock()
+	if known, ok := d.known[b.Labels.Fingerprint()]; ok {
+		a := *known
+		return &a
+	}
+	return &types.Alert{Alert: model.Alert{Labels: b.Labels, StartsAt: time.UnixMilli(b.Starts - offset)}}
+}

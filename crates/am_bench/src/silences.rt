@@ -1,4 +1,4 @@
-//! Alerts next to silences.
+//! Alerts beside silences.
 use crate::alerts::{Load, STRIDE, listed, silence};
 use crate::config::plain;
 use crate::desk::Desk;

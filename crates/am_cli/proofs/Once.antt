@@ -190,7 +190,7 @@ all_named (n ∷ []) each =
     ap (λ (t : List ℕ). list_any (λ name. bytes_eq name all_labels) (t ∷ [])) same
 all_named (n ∷ m ∷ ns) each = absurd each.1
 
--- names that are given next to all labels alone
+-- names that are given beside all labels alone
 pub all_or_names : (value : Data) (names : List (List ℕ)) → as_array value ≡ Some (item (string all_labels) no_items) → IsList IsText value names
     → list_any (λ name. bytes_eq name all_labels) names ≡ true
 all_or_names value names is decoded =

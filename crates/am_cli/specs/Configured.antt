@@ -1,4 +1,4 @@
--- What the JSON value of a configuration decodes to, a line for each field.
+-- What the JSON value of a configuration says, a line for each member.
 use Rattle.std.specs.Prelude.{◌≡◌, ◌≤◌, ◌++◌, ◌&&◌, ℕ, Bool, List, [], ◌∷◌, Some, None, true, false, codes, length, IsTrue, MatchOption}
 use Rattle.std.specs.Borrow.{Bor}
 use Rattle.std.specs.List.{list_all, list_any}
@@ -36,7 +36,7 @@ abbrev pub text_members : List (Bor (List ℕ) × Bor (List ℕ)) → Members
 text_members [] = no_members
 text_members (p ∷ ps) = member p.0.now (string p.1.now) (text_members ps)
 
--- an array of pairs decodes to them; in strict mode so does an object, whose fields are the pairs
+-- an array of pairs; in the strict mode an object can represent it too, whose members are the pairs
 abbrev pub DecodesToPairs : Mode → Data → List (Bor (List ℕ) × Bor (List ℕ)) → Type 0
 DecodesToPairs Lenient value pairs = IsList IsPair value pairs
 DecodesToPairs Strict value pairs = MatchOption (as_object value) (IsList IsPair value pairs) (λ members. members ≡ text_members pairs)
@@ -52,7 +52,7 @@ pub record DecodesToLabels (mode : Mode) (value : Data) (labels : List Label) : 
 abbrev pub IsMatcher : Data → MatcherParts → Type 0
 IsMatcher value m = as_array value ≡ Some (item (string m.name) (item (string (operator_text m.op)) (item (string m.value) no_items)))
 
--- in strict mode a text decodes to a matcher too
+-- in the strict mode one text can represent a matcher too
 abbrev pub IsMatcherIn : Mode → Data → MatcherParts → Type 0
 IsMatcherIn Lenient value m = IsMatcher value m
 IsMatcherIn Strict value m = MatchOption (as_str value) (IsMatcher value m) (λ text. IsMatcherText text m)
@@ -66,7 +66,7 @@ pub record DecodesToMatcher (mode : Mode) (value : Data) (m : MatcherParts) : Ty
   pub written : IsMatcherIn mode value m
   pub sound : IsSound m
 
--- the fields of an object decode to an inhibition rule
+-- what the members of an inhibition rule say
 pub record HasRule (mode : Mode) (members : Members) (rule : RuleData) : Type 0 where
   pub only : IsTrue (has_only mode (codes "source" ∷ codes "target" ∷ codes "equal" ∷ []) members)
   pub source : HasOr (IsList (DecodesToMatcher mode)) [] (codes "source") members rule.source
@@ -81,7 +81,7 @@ DecodesToRule mode value rule = IsObject (HasRule mode) value rule
 abbrev pub rule_compares_texts : RuleData → Bool
 rule_compares_texts rule = compare_texts rule.source && compare_texts rule.target
 
--- `group_by` has this text alone for all labels
+-- what is in `group_by` for all labels, and alone
 abbrev pub all_labels : List ℕ
 all_labels = codes "..."
 
@@ -104,7 +104,7 @@ abbrev pub option_names : List (List ℕ)
 option_names =
     codes "receiver" ∷ codes "group_by" ∷ codes "group_wait" ∷ codes "group_interval" ∷ codes "repeat_interval" ∷ []
 
--- the fields of an object decode to the root route
+-- what the members of the root say
 pub record HasRoot (mode : Mode) (members : Members) (route : Route) : Type 0 where
   pub only : IsTrue (has_only mode option_names members)
   pub options : DecodesToOptions members route
@@ -113,7 +113,7 @@ pub record HasRoot (mode : Mode) (members : Members) (route : Route) : Type 0 wh
 abbrev pub DecodesToRoot : Mode → Data → Route → Type 0
 DecodesToRoot mode value route = IsObject (HasRoot mode) value route
 
--- the fields of an object decode to a child route
+-- what the members of a child say
 pub record HasChild (mode : Mode) (members : Members) (child : Child) : Type 0 where
   pub only : IsTrue (has_only mode (option_names ++ codes "name" ∷ codes "matchers" ∷ codes "continue" ∷ []) members)
   pub options : DecodesToOptions members child.route
@@ -125,7 +125,7 @@ pub record HasChild (mode : Mode) (members : Members) (child : Child) : Type 0 w
 abbrev pub DecodesToChild : Mode → Data → Child → Type 0
 DecodesToChild mode value child = IsObject (HasChild mode) value child
 
--- the fields of an object decode to an integration
+-- what the members of an integration say
 pub record HasIntegration (mode : Mode) (members : Members) (integration : Integration) : Type 0 where
   pub only : IsTrue (has_only mode (codes "kind" ∷ codes "send_resolved" ∷ []) members)
   pub kind : Has IsText (codes "kind") members integration.kind
@@ -134,7 +134,7 @@ pub record HasIntegration (mode : Mode) (members : Members) (integration : Integ
 abbrev pub DecodesToIntegration : Mode → Data → Integration → Type 0
 DecodesToIntegration mode value integration = IsObject (HasIntegration mode) value integration
 
--- the fields of an object decode to a receiver
+-- what the members of a receiver say
 pub record HasReceiver (mode : Mode) (members : Members) (receiver : Receiver) : Type 0 where
   pub only : IsTrue (has_only mode (codes "name" ∷ codes "integrations" ∷ []) members)
   pub name : Has IsText (codes "name") members receiver.name
@@ -147,7 +147,7 @@ DecodesToReceiver mode value receiver = IsObject (HasReceiver mode) value receiv
 abbrev pub limit_names : List (List ℕ)
 limit_names = codes "names" ∷ codes "groups" ∷ codes "silences" ∷ codes "flushes" ∷ codes "history" ∷ []
 
--- the fields of an object decode to limits
+-- what the members of limits say
 pub record HasLimits (mode : Mode) (members : Members) (limits : Limits) : Type 0 where
   pub only : IsTrue (has_only mode limit_names members)
   pub alerts : HasOr IsNumber greatest_limits.alerts (codes "names") members limits.alerts
@@ -164,7 +164,7 @@ abbrev pub config_names : List (List ℕ)
 config_names =
     codes "retention" ∷ codes "limits" ∷ codes "receivers" ∷ codes "route" ∷ codes "children" ∷ codes "inhibit" ∷ []
 
--- the fields of an object decode to a configuration, with or without a fault
+-- what the members of a configuration say, whether or not a dispatcher may have it
 pub record HasParts (mode : Mode) (members : Members) (config : Config) : Type 0 where
   pub only : IsTrue (has_only mode config_names members)
   pub retention : HasOr IsDuration 432000000 (codes "retention") members config.retention

@@ -94,7 +94,7 @@ fn make_routes(
     }
 }
 
-/// The limits of a configuration; the default is the greatest.
+/// The limits of a configuration, or the greatest where it says none.
 fn read_limits(config: &Object<'_, '_>) -> Result<Limits, InputFault>
     ensures decoded { IfOk result (HasOr (DecodesToLimits config.now.mode) greatest_limits (codes "limits")
         (members_view config.now.members)) }

@@ -5,7 +5,7 @@ use crate::reader::{Object, is_one_of};
 use std::alloc::Global;
 use std::marker::Model;
 
-/// The greatest number of faults that are listed.
+/// How many faults are listed at most.
 pub const MAX_FAULTS: usize = 100;
 
 /// A value that is refused.

@@ -31,7 +31,7 @@ const GROUP_INTERVAL: u64 = 300_000;
 /// When a notice without news is repeated: after 4 hours, in milliseconds.
 const REPEAT_INTERVAL: u64 = 14_400_000;
 
-/// The item of `group_by` that means all labels.
+/// Is in `group_by` for all labels.
 pub(crate) const ALL_LABELS: &str = "...";
 
 /// What the root and its children have alike: all of a route but its name.

@@ -35,7 +35,7 @@ enum Takes {
     Nothing,
     /// A value behind the option, which help calls by this name.
     Value(&'static str),
-    /// Such a value. The option can be given again.
+    /// Such a value. The option may be given again.
     Values(&'static str),
     /// Such a value, which is one of these.
     Among(&'static str, &'static [&'static str]),

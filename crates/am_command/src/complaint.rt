@@ -91,7 +91,7 @@ fn push_shown(out: &mut String, text: &str) -> Result<(), AllocError> {
     Ok(())
 }
 
-/// Out of memory.
+/// Memory was refused.
 #[derive(Clone, Copy)]
 struct Refused;
 

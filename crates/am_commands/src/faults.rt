@@ -6,7 +6,7 @@ use am_input::faults::{ReceiversOf, story_faults};
 use am_input::input::Overrides;
 use std::rt::Files;
 
-/// Returns the faults of a story. The error is the status where there was no memory.
+/// Returns the faults of a story. The error is the status where memory was refused.
 pub fn faults_of<R: Files + Eprint + AllocGlobal>(
     rt: &R,
     console: &Console,

@@ -25,7 +25,7 @@ impl<'v> WrittenRoutes<'v> {
         Ok(written)
     }
 
-    /// Adds the routes below a route, under which so many levels can be.
+    /// Adds the routes below a route, under which so many levels may be.
     fn add_below(&mut self, route: &'v Value, levels: usize) -> Result<(), AllocError> {
         let Some(below) = levels.checked_sub(1) else {
             return Ok(());

@@ -83,7 +83,7 @@ const RETENTION: u64 = 432_000_000;
 #[derive(Drop)]
 pub struct Alertmanager {
     pub config: Config,
-    /// What else it says.
+    /// What it says beside.
     pub dropped: IgnoredSettings,
     /// Whether a route names a time interval.
     pub timed: bool,

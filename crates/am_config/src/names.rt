@@ -98,7 +98,7 @@ impl SharedNames {
             .any(|known| known.count > 1 && known.name.as_str() == name)
     }
 
-    /// Counts the routes below a route with this receiver, under which so many levels can be.
+    /// Counts the routes below a route with this receiver, under which so many levels may be.
     fn add_routes(
         &mut self,
         alloc: Global,

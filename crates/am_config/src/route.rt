@@ -71,7 +71,7 @@ pub(crate) struct Routing<'h> {
     path: Vec<usize>,
     /// How many routes below the root were begun.
     begun: usize,
-    /// Whether one wasn't, for lack of capacity.
+    /// Whether one wasn't, for want of capacity.
     is_full: bool,
 }
 
@@ -95,7 +95,7 @@ impl<'h> Routing<'h> {
         }
     }
 
-    /// Counts another route, under which so many levels can be, itself the first. One that there is no
+    /// Counts another route, under which so many levels may be, itself the first. One that there is no
     /// capacity for isn't read, and the first such is refused.
     fn begins(
         &mut self,
@@ -204,7 +204,7 @@ fn root_of(alloc: Global, options: Options) -> Result<Route, InputFault> {
     })
 }
 
-/// Reads the routes below a route with this receiver, under which so many levels can be.
+/// Reads the routes below a route with this receiver, under which so many levels may be.
 #[cycle(routes)]
 fn read_routes(
     faults: &mut Faults,

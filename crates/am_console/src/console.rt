@@ -23,7 +23,7 @@ use std::rt::Files;
 /// The status of a file that isn't accepted, or of a wrong command line.
 pub const REJECTED: u8 = 2;
 
-/// The status where there was no memory.
+/// The status where memory was refused.
 pub const NO_MEMORY: u8 = 3;
 
 /// The status where the output wasn't taken.
@@ -204,7 +204,7 @@ impl Console {
         }
     }
 
-    /// Complains that there was no memory, and returns the status.
+    /// Complains that memory was refused, and returns the status.
     pub fn complain_of_memory<R: Eprint>(&self, rt: &R) -> u8 {
         let _ = eprintln!(rt; "am-rehearse: no memory");
         NO_MEMORY

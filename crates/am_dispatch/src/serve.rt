@@ -30,7 +30,7 @@ use std::alloc::{AllocError, Global};
 ///
 /// # Errors
 ///
-/// `Unreadable`: a read failed. `Unwritable`: a write failed. Each lack of memory is answered by a line.
+/// `Unreadable`: a read failed. `Unwritable`: a write failed. Each want of memory is answered by a line.
 pub fn serve<S: Source, K: Sink>(
     alloc: Global,
     seed: Seed,
@@ -282,7 +282,7 @@ pub fn respond(
     }
 }
 
-/// Does what is asked of a session, except for its history, and makes the line that answers it.
+/// Does what is asked of a session, but for its history, and makes the line that answers it.
 fn make_line(alloc: Global, session: &mut Session, request: Request) -> Result<Vec<u8>, LineFault>
     requires { request ≢ Request.TakeHistory }
     ensures answered { IfOk result (λ text. IsAnswerTo session.old request text.items session.new) }

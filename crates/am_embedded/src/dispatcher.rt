@@ -63,7 +63,7 @@ impl Dispatcher {
         Ok(Dispatcher { board })
     }
 
-    /// Inserts an alert into the board.
+    /// Says the board of an alert.
     pub fn insert(&mut self, alloc: Global, now: u64, alert: Alert) -> Result<Inserted, Fault> {
         self.board.insert(alloc, PASS, now, alert)
     }
@@ -100,7 +100,7 @@ impl Dispatcher {
         }
     }
 
-    /// Begins groups until none is due, or the limit of open flushes is reached.
+    /// Begins groups until none is due, or as many flushes are open as may be.
     fn begin_due(
         &mut self,
         alloc: Global,

@@ -41,9 +41,6 @@ impl<T> GhostList<T> {
     }
 
     /// Adds these items at the end, in their order.
-    ///
-    /// The loop does nothing at run time. Neither LLVM nor Rattle's own compiler makes code of it: a
-    /// thousand calls with a million items take as long as none.
     pub fn add_all(&mut self, items: &[T])
         ensures { self.new.items ≡ self.old.items ++ items.now }
     {

@@ -1,4 +1,4 @@
-//! The answers to calls: the board's replies. `am_dispatch` calls it.
+//! The answers that say a board's replies to its calls. `am_dispatch` calls it.
 ghost use Rattle.std.specs.Prelude.{◌≡◌, ◌++◌, ◌∷◌, [], OnOk};
 ghost use Rattle.json.specs.Token.{begin_object, end_object, key};
 ghost use Rattle.am_lines.specs.Reply.{counts_tokens, flush_members, flush_tokens, ignored_tokens, inserted_tokens};

@@ -63,7 +63,7 @@ pub enum Request {
 #[derive(Drop)]
 pub struct Opening {
     pub config: Config,
-    /// What the configuration also says, which is ignored.
+    /// What the configuration says beside, which is ignored.
     pub ignored: IgnoredSettings,
 }
 

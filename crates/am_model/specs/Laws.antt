@@ -123,7 +123,7 @@ pub record IsConsistent (s : State) : Type 0 where
   pub numbers : IsDistinct same_number s.flushes
   pub held : All (IsHeld s) s.flushes
 
--- an alert of a group equals the known alert with its labels, and the group is among those to which it goes
+-- an alert of a group is there as the known alert with its labels does, and the group is among those to which it goes
 pub record IsKnownMember (config : Config) (s : State) (g : GroupState) (m : MemberState) : Type 0 where
   pub known : find (same_alert m.alert) s.known ≡ Some m.alert
   pub routed : IsTrue (list_any (same_name g.name) (names_for config m.alert.labels))
@@ -145,13 +145,13 @@ ReplaysKnowMembers = (config : Config) (history : List Record) → KnowsMembers 
 abbrev pub ReplaysAreConsistent : Type 0
 ReplaysAreConsistent = (config : Config) (history : List Record) → IsConsistent (replay config history)
 
--- any list of records, legal or not, leaves rows that can be loaded under the same configuration, from the clock on
+-- any list of records, legal or not, leaves rows that may be loaded under the same configuration, from the clock on
 abbrev pub RowsMayBeLoaded : Type 0
 RowsMayBeLoaded =
     (config : Config) (history : List Record) (t : ℕ) → (replay config history).clock ≤ t
     → All (λ row. may_load config t row ≡ true) (replay config history).rows
 
--- a change of the dispatcher: each row taken over for a shown one can be loaded at any state under the new configuration, by a
+-- a change of the dispatcher: each row that is taken over for one of those that are shown may be loaded at any state under the new configuration, by a
 -- call that hands in the clock's time or a later one
 abbrev pub DispatcherChangesMayBeLoaded : Type 0
 DispatcherChangesMayBeLoaded =
@@ -205,13 +205,13 @@ replies_from config id s (c ∷ cs) = option_map bare_reply (reply config id s c
 abbrev pub state_from : Config → State → List Call → State
 state_from config s calls = fold (after_call config) s calls
 
--- calls after a forgetting have the replies that they have where nothing was forgotten at its time, except for what bare replies leave out
+-- calls after a forgetting are replied as they are where nothing was forgotten at its time, but for what bare replies leave out
 abbrev pub ForgettingChangesNoReply : Type 0
 ForgettingChangesNoReply =
     (config : Config) (id : ℕ) (s : State) (t : ℕ) (calls : List Call) → IsConsistent s
     → replies_from config id (after_forget s t) calls ≡ replies_from config id (at_time s t) calls
 
--- and they leave the same state, except for known alerts and silences
+-- and they leave the same state, but for known alerts and silences
 abbrev pub ForgettingChangesNoState : Type 0
 ForgettingChangesNoState =
     (config : Config) (s : State) (t : ℕ) (calls : List Call) → IsConsistent s

@@ -139,7 +139,7 @@ pub fn rows_are_carried()
 ///
 /// Clause `fit`: each row that it returns has an integration of the new configuration, under a route
 /// that has the receiver and the key of the old row's route, and is else as that row. Clause `load`:
-/// where a row can be loaded under the old configuration, each that it returns for it can be loaded
+/// where a row may be loaded under the old configuration, each that it returns for it may be loaded
 /// under the new one. Clause `dispatcher_change`: that is true of each row that a board returns, at any state
 /// of a board of the new configuration, if the load hands in the old board's clock or a later time.
 /// Clause `restart`: under the same configuration it returns the row itself, at least, if the row has
@@ -152,12 +152,12 @@ pub fn rows_are_found_again()
     ensures kept { RestartsFindShownRows }
 {}
 
-/// States that the rows of a log can be loaded, and so can those that `carried` returns for them.
+/// States that the rows of a log may be loaded, and so may those that `carried` returns for them.
 ///
-/// Clause `own`: after every list of records, legal or not, each row of the log can be loaded under
+/// Clause `own`: after every list of records, legal or not, each row of the log may be loaded under
 /// the same configuration, from the clock on. Its route and its integration are there, its label
-/// sets are in order, and its time isn't later. Clause `carried`: where a row can be loaded under an
-/// old configuration, each that `carried` returns for it can be loaded under the new one. Clause
+/// sets are in order, and its time isn't later. Clause `carried`: where a row may be loaded under an
+/// old configuration, each that `carried` returns for it may be loaded under the new one. Clause
 /// `dispatcher_change`: that is true of each row that a board returns, at any state of a board of the new
 /// configuration, if the load hands in the old board's clock or a later time.
 pub fn rows_may_be_loaded()

@@ -16,7 +16,7 @@ is_muted labels t silences rules known = is_silenced labels t silences || is_inh
 abbrev pub silence_for : List Label → ℕ → List SilenceData → Option SilenceData
 silence_for labels t silences = find (λ s. silence_mutes s t labels) silences
 
--- the first of these rules, numbered from n on, that mutes a label set at t, with the first known alert because of which it does
+-- the first of these rules, numbered from n on, that mutes a label set at t, with the first known alert on account of which it does
 abbrev pub inhibition_from : ℕ → List Label → ℕ → List AlertData → List RuleData → Option MuteCause
 inhibition_from n labels t known [] = None
 inhibition_from n labels t known (r ∷ rules) =

@@ -27,13 +27,13 @@ use std::alloc::{AllocError, Global};
 pub enum MuteCause {
     /// By the silence of this id, which mutes until its end, in milliseconds.
     Silenced { id: u64, until: u64 },
-    /// By the rule at this index of the list, because of a known alert of this label set.
+    /// By the rule at this index of the list, on account of a known alert of this label set.
     Inhibited { rule: usize, by: Labels },
 }
 
 /// Whether a label set is muted at `t` (milliseconds), where these are the known alerts: by a
 /// silence that has started and hasn't ended and whose matchers all match it, or by a rule whose
-/// target matchers match it, because of a known alert that isn't resolved at `t`, that the
+/// target matchers match it, on account of a known alert that isn't resolved at `t`, that the
 /// source matchers match and that agrees with it in the labels of `equal`; a label that neither
 /// has agrees. If the source matchers match the label set too, a known alert that both sides
 /// match doesn't count.
@@ -57,7 +57,7 @@ pub fn muted(
     muted_with(alloc, labels, t, silences, rules, known, &sources)
 }
 
-/// The same, with what was learnt of these rules and of the known alerts, so those that weren't
+/// The same, with what was learnt of these rules and of the known alerts, so that those that weren't
 /// learnt alone are looked at in turn.
 pub fn muted_with(
     alloc: Global,
@@ -104,7 +104,7 @@ pub fn muted_under(
 
 /// Why a label set is muted at `t` (milliseconds), if `muted` says that it is, where these are the
 /// known alerts: the first silence that mutes it; else the first rule that does, with the first
-/// known alert because of which it does.
+/// known alert on account of which it does.
 pub fn mute_cause(
     alloc: Global,
     labels: &Labels,
@@ -122,7 +122,7 @@ pub fn mute_cause(
     mute_cause_with(alloc, labels, t, silences, rules, known, &sources)
 }
 
-/// The same, with what was learnt of these rules and of the known alerts, so those that weren't
+/// The same, with what was learnt of these rules and of the known alerts, so that those that weren't
 /// learnt alone are looked at in turn.
 pub fn mute_cause_with(
     alloc: Global,
@@ -192,7 +192,7 @@ fn silence_for<'s>(
     Ok(None)
 }
 
-/// The first rule that mutes a label set at `t`, with the first known alert because of which it
+/// The first rule that mutes a label set at `t`, with the first known alert on account of which it
 /// does.
 fn inhibition(
     alloc: Global,

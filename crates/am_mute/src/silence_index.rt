@@ -29,7 +29,7 @@ use std::hash::{BuildHasher, Hash, Hasher};
 const NO_LABEL: u64 = 0;
 
 /// The indexes of silences in a list, by what they are found by: the hash of a label that each label
-/// set has which they mute. An index can be under what its silence was found by before.
+/// set has which they mute. An index may be under what its silence was found by before.
 ///
 /// This only saves time: silences whose indexes aren't here are looked at in turn.
 #[derive(Debug, Drop)]
@@ -74,7 +74,7 @@ impl SilenceIndex {
         }
     }
 
-    /// Prepares for a silence that replaces the one at this index.
+    /// A silence is to be at this index, where another is.
     pub(crate) fn change(&mut self, alloc: Global, index: usize, silence: &Silence)
         ensures { (silences : List SilenceData) → index < length silences → IsIndexed silences self.old
             → IsIndexed (set silences index silence.now) self.new }

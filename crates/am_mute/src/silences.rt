@@ -18,7 +18,7 @@ use am_seed::Seed;
 use std::alloc::{AllocError, Global};
 use std::marker::Model;
 
-/// A list of silences, with capacity. Those that can mute a label set are found by its labels, so
+/// A list of silences, with room for more. Those that may mute a label set are found by its labels, so
 /// that the others cost nothing.
 #[derive(Debug, Drop)]
 pub struct Silences {
@@ -71,7 +71,7 @@ impl Silences {
         self.silences.iter().position(|silence| id == silence.id())
     }
 
-    /// Reserves capacity for so many more silences.
+    /// Makes room for so many more silences.
     pub fn reserve(&mut self, more: usize) -> Result<(), AllocError>
         ensures items { self.new.items ≡ self.old.items }
         ensures room { OnOk result (more ≤ self.new.room) }
@@ -79,7 +79,7 @@ impl Silences {
         self.silences.reserve(more)
     }
 
-    /// Adds a silence behind the others, for which there is capacity.
+    /// Adds a silence behind the others, for which there is room.
     pub fn add(&mut self, alloc: Global, silence: Silence)
         requires room { 0 < self.old.room }
         ensures items { self.new.items ≡ self.old.items ++ silence ∷ [] }

@@ -1,8 +1,8 @@
 -- what the members of an expectation say
 pub mod Expected
--- what the JSON values of a story's alerts, silences and outages decode to
+-- what the JSON values of a story's alerts, silences and outages say
 pub mod Decoding
--- the configurations under which a story runs
+-- the configurations under which a story is played
 pub mod Configs
 -- when a story reloads and restarts the dispatcher
 pub mod DispatcherChange

@@ -81,7 +81,7 @@ impl Played {
 /// Why a rehearsal doesn't run to its end.
 #[derive(Clone, Copy, PartialEq, Eq)]
 pub enum PlayFault {
-    /// Out of memory.
+    /// Memory was refused.
     NoMemory,
     /// No dispatcher may have the configuration.
     BadConfig,
@@ -507,7 +507,7 @@ impl<'o> Simulation<'o> {
         }
     }
 
-    /// What ran to its end.
+    /// What was played to its end.
     fn into_played(self) -> Result<Played, AllocError>
         requires { vec_len self.sendings ≡ 0 }
         ensures board { IfOk result (λ played. played.board ≡ self.entry.board.board) }

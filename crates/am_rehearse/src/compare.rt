@@ -30,7 +30,7 @@ use std::alloc::{AllocError, Global};
 use std::rt::Files;
 use std::time::Clock;
 
-/// A story that ran.
+/// A story that was played.
 #[derive(Drop)]
 struct PlayedStory {
     part: PlayedPart,
@@ -221,7 +221,7 @@ fn compare_played(
     compare_with(alloc, &playback, &old.start, &new.part.played)
 }
 
-/// Compares a playback with a story that ran, with dates if its start is given.
+/// Compares a playback with a story that was played, with dates if its start is given.
 fn compare_with(
     alloc: Global,
     old: &Playback<'_>,

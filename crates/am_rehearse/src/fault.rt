@@ -28,7 +28,7 @@ pub enum RehearseFault {
     AllRefused {
         faults: Faults,
     },
-    /// Out of memory.
+    /// Memory was refused.
     #[error("am-rehearse: no memory")]
     NoMemory,
     /// A write failed. Some of the output may have been written.

@@ -73,7 +73,7 @@ fn words_of(rt: &HostRuntime) -> io::Result<Vec<String>> {
     Ok(env::args(rt)?.collect(rt.alloc())?)
 }
 
-/// Does what is asked for, and returns the status. Each command makes its console, so no function lets go of several
+/// Does what is asked for, and returns the status. Each command makes its console, so that no function lets go of several
 /// values at each of its ends: such a one is very dear to prove.
 fn answer(rt: &HostRuntime, request: Request<'_>) -> u8 {
     match request {

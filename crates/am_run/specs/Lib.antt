@@ -6,7 +6,7 @@ pub mod Lanes
 pub mod Turns
 -- the history of a played scenario, part by part: one for each phase
 pub mod Parts
--- the report on a scenario that ran
+-- what the report on a scenario that was played says
 pub mod Plays
 -- why a scenario isn't played to its end
 pub mod IsCauseOfFull

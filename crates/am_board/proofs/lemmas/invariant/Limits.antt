@@ -40,7 +40,7 @@ use Rattle.am_model.proofs.legal.FewKnown.{fits-upsert, neither_cause}
 use Rattle.am_board.proofs.lemmas.invariant.Calls.{IsWithin, opened_then, room_of, seen}
 use Rattle.am_board.proofs.lemmas.invariant.Sound.{IsFew, few_after, opened_now, kept_counted, consistent_now}
 
--- a call that opens no flush passes no limit, where the history has capacity for one record more
+-- a call that opens no flush passes no limit, where the history has room for one record more
 keeps_within : (b : Inside) (sound : IsSound b) (pass : ℕ) (call : Call) (reply : Reply) (new : kept.State) → AppliesCall b.config b.id (entry pass call reply) b.state new
     → length (after_call b.config (state_of b.state) call).flushes ≤ length (state_of b.state).flushes
     → vec_len b.state.history + length (state_of b.state).flushes + 1 ≤ b.config.limits.history
@@ -98,7 +98,7 @@ module _ (b : Inside) (sound : IsSound b) (pass now : ℕ) (new : kept.State) wh
       (room_of b.config (vec_len b.state.history) s 1 (Some load.HistoryFull) None (second_cause (row_cause b.config (time s now) row) full none) (λ h. absurd (cc))).0
       (few_after b sound (Load now row) refl refl)
 
--- ---- a begin opens a flush only where one more can be open
+-- ---- a begin opens a flush only where one more may be open
 
 fits_notifying : (config : Config) (s : State) (t : ℕ) (g : GroupState) (notified : List (ℕ × Integration)) → length s.flushes ≤ config.limits.flushes
     → (if nat_le config.limits.flushes (length s.flushes) && notifies_some notified then Some TooManyOpen else None) ≡ None

@@ -1,4 +1,3 @@
-#!/usr/bin/env python3
 """The merge gate: the proofs, the tests and the programs (`rt ci`), the wrong bodies, and the scripts that run the
 programs, side by side where one needs nothing of the other. `.ci/run` calls it, and CI calls `.ci/run`.
 
@@ -21,18 +20,19 @@ import threading
 import time
 from concurrent.futures import ThreadPoolExecutor
 
-ROOT = os.path.dirname(os.path.dirname(os.path.abspath(__file__)))
+from . import kit
+from .kit import ROOT, memory
+
 HANDLES = "Handles allowed: Threads, Wait.\n"
 # What needs no program, and so comes first.
 BEFORE = ["quotes", "claims", "prose"]
 # What runs the programs that `rt ci` leaves in out/, the longest first.
 AFTER = ["allocations", "schedules", "rehearsals", "pictures", "tickets", "frugal", "scenarios", "examples",
          "statuses", "lengths", "routes", "hours", "commands", "yaml", "hostile", "dispatch", "live", "live-rehearsals", "quotes"]
-KIT = os.path.dirname(subprocess.run(["rt", "doc"], capture_output=True, text=True, check=True).stdout.split()[0])
 # Whether the kit keeps what it proved; one that doesn't has no word for that, and proves all each time.
 KEEPS = "--anew" in subprocess.run(["rt", "help"], capture_output=True, text=True, check=False).stderr
 # The sums of all crates in the last run that passed. They decide how many proofs run at a time, and never a verdict.
-PASSED = f"{os.path.dirname(KIT)}/rattle-kept/passed.json"
+PASSED = f"{kit.KEPT}/passed.json"
 # With at most so many crates to prove, `rt ci` itself decides how many run at a time, and gives each several processors.
 FEW = 8
 # In GB: what a proof takes at most; and the memory from which on wrong bodies are tried beside the proofs.
@@ -46,12 +46,6 @@ def minutes(since=STARTED):
 
 def say(text):
     print(f"gate: {minutes():5.1f} min: {text}", flush=True)
-
-
-def memory():
-    """The memory that is free, in GB."""
-    with open("/proc/meminfo", encoding="ascii") as file:
-        return int(re.search(r"MemAvailable:\s+(\d+)", file.read())[1]) / 1e6
 
 
 def sums():

@@ -27,8 +27,8 @@ HANDLES = "Handles allowed: Threads, Wait.\n"
 # What needs no program, and so comes first.
 BEFORE = ["quotes", "claims", "prose"]
 # What runs the programs that `rt ci` leaves in out/, the longest first.
-AFTER = ["allocations", "schedules", "rehearsals", "pictures", "tickets", "frugal", "scenarios", "examples",
-         "statuses", "lengths", "routes", "hours", "commands", "yaml", "hostile", "dispatch", "live", "live-rehearsals", "quotes"]
+AFTER = ["allocations", "checks/am_run.py schedules", "rehearsals", "pictures", "tickets", "frugal", "checks/am_run.py scenarios",
+         "checks/am_run.py examples", "checks/am_run.py statuses", "checks/am_run.py lengths", "routes", "hours", "commands", "yaml", "hostile", "dispatch", "live", "live-rehearsals", "quotes"]
 # Whether the kit keeps what it proved; one that doesn't has no word for that, and proves all each time.
 KEEPS = "--anew" in subprocess.run(["rt", "help"], capture_output=True, text=True, check=False).stderr
 # The sums of all crates in the last run that passed. They decide how many proofs run at a time, and never a verdict.
@@ -171,7 +171,7 @@ class Gate:
     def scripts(self, names):
         """Runs scripts side by side, and tells in their order what they said."""
         with ThreadPoolExecutor(self.processors) as pool:
-            results = pool.map(lambda it: self.part([f".ci/{it}"], f".ci/{it}"), names)
+            results = pool.map(lambda it: self.part(f".ci/{it}".split(" "), f".ci/{it}"), names)
             for name, said in zip(names, results):
                 print(f"== .ci/{name}\n{said}", end="", flush=True)
 

@@ -1,6 +1,6 @@
 """Stories for live.py: how they are read, played by a clock that doesn't wait, and compared. docs/live.md has their form.
 
-`live-compare` plays them against the real Alertmanager too, `.ci/live` against what that did.
+`live-compare` plays them against the real Alertmanager too, `.ci/checks/live.py` against what that did.
 """
 import heapq
 import itertools

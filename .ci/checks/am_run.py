@@ -33,7 +33,7 @@ def examples(told: Report, programs: Programs) -> None:
     with status 2."""
     scenarios = [*sorted(EXAMPLES.glob("*.json")), *sorted(EXAMPLES.glob("details/*.json"))]
     told.at_least(40, len(scenarios), "scenarios")
-    for scenario in filter(lambda it: told.wants(it.stem), scenarios):
+    for scenario in filter(lambda it: told.concerns(it.stem), scenarios):
         ran = programs["am_run"].run(stdin=scenario)
         printed, silent = (ran.err, ran.out) if ran.status == 2 else (ran.out, ran.err)
         if ran.status not in (0, 2) or silent:
@@ -101,7 +101,8 @@ def statuses(told: Report, programs: Programs) -> None:
     case("an input of a byte more", program.run(stdin=greatest + b" "), 1, "am-run: input not readable")
     case("a front", program.run(stdin='{"config":'), 2, "am-run: scenario refused: not JSON")
     case("no configuration", program.run(stdin='{"phases":[]}'), 2, "am-run: scenario refused at /config: missing")
-    case("no memory", program.run(stdin=scenario, env=preload.Refused(1).env), 3, "am-run: no memory")
+    if told.can_refuse("no memory", program):
+        case("no memory", program.run(stdin=scenario, env=preload.Refused(1).env), 3, "am-run: no memory")
     case("a full disk", program.run(stdin=scenario, stdout=Path("/dev/full")), 4, "am-run: output not writable")
     for crate in ("am_run", "am_rehearse", "am_dispatch"):
         ran = programs[crate].run(stdin=scenario, env=preload.with_library("seedless"))
@@ -137,11 +138,11 @@ def schedules(told: Report, programs: Programs) -> None:
     """Four lanes beside a flush, a hundred times, have the report that was worked out by hand. Fifteen lanes of 200 inserts each,
     beside 64 flushes of eight integrations, have one report in twenty runs."""
     program, four = programs["am_run"], LANES / "four-lanes-beside-a-flush.json"
-    if told.wants("four-lanes"):
+    if told.concerns("four-lanes"):
         if told.is_written:
             told.stored("four-lanes", four.with_suffix(".txt"), program.run(stdin=four).out, "am-run")
         play_often(told, program, "four-lanes", four, Ran(0, four.with_suffix(".txt").read_text(), ""), 100)
-    if told.wants("fifteen-lanes"):
+    if told.concerns("fifteen-lanes"):
         with tempfile.NamedTemporaryFile("w", suffix=".json") as file:
             file.write(fifteen_lanes())
             file.flush()

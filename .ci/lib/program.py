@@ -1,8 +1,10 @@
-"""The programs of the crates: where they are, and how a check runs them."""
+"""The programs of the crates: where they are, and how a check runs them. `.ci/lib/program.py CRATE..` proves and builds some."""
+import contextlib
 import os
 import resource
 import subprocess
 import sys
+from functools import cached_property
 from pathlib import Path
 from typing import NamedTuple
 
@@ -17,12 +19,12 @@ class Limits(NamedTuple):
     seconds: int | None = None
     memory: int | None = None
 
-    def set(self) -> None:
-        """Sets them for this process."""
-        if self.seconds is not None:
-            resource.setrlimit(resource.RLIMIT_CPU, (self.seconds, self.seconds))
-        if self.memory is not None:
-            resource.setrlimit(resource.RLIMIT_AS, (self.memory, self.memory))
+    def set(self, pid: int) -> None:
+        """Sets them for a process that has just begun. (In it, between fork and exec, no thread of this program may be at work.)"""
+        for kind, most in ((resource.RLIMIT_CPU, self.seconds), (resource.RLIMIT_AS, self.memory)):
+            if most is not None:
+                with contextlib.suppress(ProcessLookupError):
+                    resource.prlimit(pid, kind, (most, most))
 
 
 class Ran(NamedTuple):
@@ -72,6 +74,12 @@ class Program:
         """How the program calls itself."""
         return self.crate.replace("_", "-")
 
+    @cached_property
+    def is_checked(self) -> bool:
+        """Whether it has run-time checks, as `rt try` builds it: then it reserves more addresses than any limit, and no preloaded
+        library stands before its own allocator."""
+        return b"__asan_init" in self.path.read_bytes()
+
     def run(self, *words: str | Path, stdin: str | bytes | Path = b"", stdout: Path | None = None, env: dict[str, str] | None = None,
             limits: Limits = Limits(), timeout: float = 600, cwd: Path = ROOT) -> Ran:
         """Runs it with these words, this standard input (a text, or what has this path), and these variables beside the others.
@@ -80,12 +88,12 @@ class Program:
         try:
             child = subprocess.Popen(
                 [self.path, *words], cwd=cwd, env={**os.environ, **(env or {})}, stderr=subprocess.PIPE,
-                stdin=opened[0] if isinstance(stdin, Path) else subprocess.PIPE, stdout=opened[-1] if stdout else subprocess.PIPE,
-                preexec_fn=limits.set if limits != Limits() else None)
+                stdin=opened[0] if isinstance(stdin, Path) else subprocess.PIPE, stdout=opened[-1] if stdout else subprocess.PIPE)
         finally:
             for it in opened:
                 os.close(it)
         with child:
+            (limits._replace(memory=None) if self.is_checked else limits).set(child.pid)
             try:
                 out, err = child.communicate(None if isinstance(stdin, Path) else as_bytes(stdin), timeout=timeout)
             except BaseException:
@@ -110,3 +118,8 @@ def as_bytes(text: str | bytes) -> bytes:
 def as_text(printed: bytes) -> str:
     """What a program printed; a byte that is no UTF-8 is written with a backslash."""
     return printed.decode(errors="backslashreplace")
+
+
+if __name__ == "__main__":
+    for crate in sys.argv[1:]:
+        print(built(crate))

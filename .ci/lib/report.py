@@ -11,6 +11,7 @@ import os
 import shlex
 import sys
 import threading
+import traceback
 from collections.abc import Callable, Mapping
 from pathlib import Path
 
@@ -71,11 +72,21 @@ class Report:
         """Whether a case of this name is asked for."""
         return not self.cases or any(it in name for it in self.cases)
 
+    def concerns(self, subject: str) -> bool:
+        """Whether a case can be asked for whose name has this."""
+        return not self.cases or any(it in subject or subject in it for it in self.cases)
+
     def ok(self, name: str) -> None:
         """A case passed."""
         if self.wants(name):
             self.passed += 1
             print(f"ok      {name}", flush=True)
+
+    def can_refuse(self, name: str, program: Program) -> bool:
+        """Whether requests of a program for memory can be refused. If not, the case is skipped."""
+        if program.is_checked:
+            self.skip(name, "the program was built with run-time checks, and has an allocator of its own")
+        return not program.is_checked
 
     def skip(self, name: str, why: str) -> None:
         """A case can't run here."""
@@ -185,6 +196,10 @@ def main(file: str, parts: Mapping[str, Part], crates: tuple[str, ...], about: s
     results = []
     for name, part in chosen.items():
         report = Report(command, name, words[1:], "--write" in sys.argv)
-        part(report, programs)
+        try:
+            part(report, programs)
+        except Exception:
+            # (the other parts run)
+            report.fails("a case that didn't end", traceback.format_exc())
         results.append(report.end())
     sys.exit(not all(results))

@@ -1,10 +1,11 @@
 /* Counts the requests for memory that come between two writes to the standard output. A write that
-   begins with " -> " tells the answer to a call, which the write before it named: to the descriptor 3
-   goes a line with how many requests there were between the two, and what the write before wrote. Each
+   begins with " -> " tells the answer to a call, which the write before it named: the file COUNTS gets
+   a line with how many requests there were between the two, and what the write before wrote. Each
    request of a call whose name begins with "without memory: " is refused. */
 #define _GNU_SOURCE
 #include <dlfcn.h>
 #include <errno.h>
+#include <fcntl.h>
 #include <stdarg.h>
 #include <stdatomic.h>
 #include <stddef.h>
@@ -125,12 +126,17 @@ int brk(void *end) {
 /* How a call is named that gets no memory. */
 static const char SHORT[] = "without memory: ";
 
+/* The file of the counts, once it is open. */
+static int counts = -1;
+
 /* Looks at what is written to the standard output, before it is. */
 static void see(const char *bytes, size_t len) {
     if (len >= 4 && memcmp(bytes, " -> ", 4) == 0) {
         char line[320];
         int size = snprintf(line, sizeof line, "%ld %.*s\n", requests - before, (int)named, name);
-        ssize_t written = ask(SYS_write, 3, (long)line, size, 0, 0, 0);
+        if (counts < 0)
+            counts = open(getenv("COUNTS"), O_WRONLY | O_CREAT | O_TRUNC, 0600);
+        ssize_t written = ask(SYS_write, counts, (long)line, size, 0, 0, 0);
         (void)written;
     }
     named = len < sizeof name ? len : sizeof name;

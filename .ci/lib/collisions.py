@@ -1,26 +1,32 @@
 """Labels whose hashes collide for a seed that everybody knows: that of std's FoldHasher, and `Seed::fixed` of am_seed.
 
-`text(kind, count)` gives an input for `.ci/hostile`: lines of `am-dispatch`, a scenario of `am-run` or a story of `am-rehearse`.
+`text(kind, count)` gives an input for `hostile.py`: lines of `am-dispatch`, a scenario of `am-run` or a story of `am-rehearse`.
 """
 import json
 import random
+from collections.abc import Callable
+
+from .rows import Json
+from .stories import config
 
 MASK = (1 << 64) - 1
 
 
-def word(data, at):
+def word(data: bytes, at: int) -> int:
+    """The word of eight bytes from a place on."""
     return int.from_bytes(data[at:at + 8], "little")
 
 
-def turned(number, bits):
+def turned(number: int, bits: int) -> int:
+    """A word whose bits are turned to the left."""
     return (number << bits | number >> (64 - bits)) & MASK
 
 
-def sip_hash(data):
+def sip_hash(data: bytes) -> int:
     """SipHash-1-3 with both keys 0, as `DefaultHasher` computes it."""
     v = [0x736F6D6570736575, 0x646F72616E646F6D, 0x6C7967656E657261, 0x7465646279746573]
 
-    def mix():
+    def mix() -> None:
         v[0] = (v[0] + v[1]) & MASK
         v[2] = (v[2] + v[3]) & MASK
         v[1], v[3] = turned(v[1], 13) ^ v[0], turned(v[3], 16) ^ v[2]
@@ -43,15 +49,15 @@ def sip_hash(data):
 class Known:
     """A hasher whose start is known: the state before texts of so many bytes, and the second factor."""
 
-    def __init__(self, before, factor):
+    def __init__(self, before: Callable[[int], int], factor: int) -> None:
         self.before, self.factor = before, factor
 
-    def mixed(self, state, data, at):
+    def mixed(self, state: int, data: bytes, at: int) -> int:
         """The state after the 16 bytes from a place on."""
         product = (word(data, at) ^ state) * (word(data, at + 8) ^ self.factor)
         return (product ^ product >> 64) & MASK
 
-    def written(self, data):
+    def written(self, data: bytes) -> int:
         """The hash of a text, as `write` leaves it. The texts here have more than 16 bytes."""
         state, at = self.before(len(data)), 0
         while len(data) - at > 16:
@@ -59,7 +65,8 @@ class Known:
         return self.mixed(state, data, len(data) - 16)
 
 
-def folded(one, other):
+def folded(one: int, other: int) -> int:
+    """The two halves of a product, one over the other."""
     product = one * other
     return (product ^ product >> 64) & MASK
 
@@ -68,12 +75,12 @@ STD_START, STD_FACTOR = 0x243F6A8885A308D3, 0x9E3779B97F4A7C15
 FIXED_START, FIXED_FACTOR = [sip_hash(bytes(8) + bytes([place])) for place in range(2)]
 
 
-def std(start):
+def std(start: int) -> Known:
     """std's hasher in this state."""
     return Known(lambda size: (start + size) & MASK, STD_FACTOR)
 
 
-def fixed(start):
+def fixed(start: int) -> Known:
     """The hasher of `Seed::fixed` in this state."""
     return Known(lambda size: turned(start, size % 64), FIXED_FACTOR)
 
@@ -84,7 +91,7 @@ STD_GROUP = std(folded(STD_START, STD_FACTOR ^ 8))
 FIXED_GROUP = fixed(folded(turned(FIXED_START, 4), FIXED_FACTOR))
 
 
-def colliding(known, head, tail, count):
+def colliding(known: Known, head: bytes, tail: bytes, count: int) -> list[str]:
     """Texts `head` + value + `tail` of one hash, as their values.
 
     A value has a word that equals the state before it. Then the product is zero, whatever the next word is.
@@ -106,30 +113,22 @@ def colliding(known, head, tail, count):
     return [value.decode() for value in values]
 
 
-def receivers():
-    return [{"name": "team", "integrations": [{"kind": "hook"}]}]
-
-
-def config(group_by, **more):
-    """A configuration of one route."""
-    return {"receivers": receivers(), "route": {"receiver": "team", "group_by": group_by}, **more}
-
-
-def label_sets(known, count):
+def label_sets(known: Known, count: int) -> list[dict[str, str]]:
     """Label sets that collide."""
     return [{"kind": "node", "value": value} for value in colliding(known, b"kind\0node\0value\0", b"\0", count)]
 
 
-def insert(labels):
+def insert(labels: dict[str, str]) -> Json:
+    """The line that inserts an alert."""
     return {"insert": {"now": 0, "labels": labels}}
 
 
-def lines_of_sets(known, count):
+def lines_of_sets(known: Known, count: int) -> list[Json]:
     """Lines of am-dispatch: alerts of one group."""
     return [{"config": config(["kind"])}, *map(insert, label_sets(known, count))]
 
 
-def lines_of_sources(known, count):
+def lines_of_sources(known: Known, count: int) -> list[Json]:
     """Lines of am-dispatch: sources of a rule and a flush of targets, half of each, whose values under `equal` collide and differ."""
     rule = {"source": [["kind", "=", "source"]], "target": [["kind", "=", "target"]], "equal": ["value"]}
     values = enumerate(colliding(known, b"", b"", count))
@@ -137,27 +136,27 @@ def lines_of_sources(known, count):
     return [{"config": config(["kind"], inhibit=[rule])}, *alerts, *[{"begin": {"now": 30000}}] * 2]
 
 
-def scenario_of_sets(known, count):
+def scenario_of_sets(known: Known, count: int) -> list[Json]:
     """A scenario of am-run: alerts of one group."""
     calls = [{"insert": {"labels": [*labels.items()], "starts": 0}} for labels in label_sets(known, count)]
     return [{"config": config(["kind"]), "phases": [{"at": 0, "lanes": [calls]}, {"at": 30000, "flush": True}]}]
 
 
-def story_of_sets(known, count):
+def story_of_sets(known: Known, count: int) -> list[Json]:
     """A story of am-rehearse: alerts of one group, and a new dispatcher."""
     alerts = [{"labels": labels} for labels in label_sets(known, count)]
     return [{"config": config(["kind"]), "until": "2m", "alerts": alerts, "restart": [{"at": "1m", "keeps": "log"}]}]
 
 
-def story_of_groups(known, count):
+def story_of_groups(known: Known, count: int) -> list[Json]:
     """A story of am-rehearse: groups of an alert each, whose labels collide, and 120 flushes of each."""
-    route = {"receiver": "team", "group_by": ["kind", "value"], "group_interval": "15s"}
-    alerts = [{"labels": labels} for labels in label_sets(known, count)]
-    return [{"config": {"receivers": receivers(), "route": route}, "until": "30m", "alerts": alerts}]
+    own = config(["kind", "value"])
+    own["route"]["group_interval"] = "15s"
+    return [{"config": own, "until": "30m", "alerts": [{"labels": labels} for labels in label_sets(known, count)]}]
 
 
 # What makes an input, and the hashers for which its labels collide: that of std, and that of `Seed::fixed`.
-MADE = {
+MADE: dict[str, tuple[Callable[[Known, int], list[Json]], Known, Known]] = {
     "label sets": (lines_of_sets, STD, FIXED),
     "sources": (lines_of_sources, STD, FIXED),
     "scenario": (scenario_of_sets, STD, FIXED),
@@ -166,8 +165,8 @@ MADE = {
 }
 
 
-def text(kind, count):
+def text(kind: str, count: int) -> str:
     """The input of a kind, such as `scenario`, or `scenario, fixed`."""
     name, _, seed = kind.partition(", ")
-    made, std, fixed = MADE[name]
-    return "".join(json.dumps(line) + "\n" for line in made(fixed if seed == "fixed" else std, count))
+    made, of_std, of_fixed = MADE[name]
+    return "".join(json.dumps(line) + "\n" for line in made(of_fixed if seed == "fixed" else of_std, count))

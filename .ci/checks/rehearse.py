@@ -12,6 +12,7 @@
 import json
 import os
 import re
+import signal
 import subprocess
 import sys
 import tempfile
@@ -283,6 +284,22 @@ def differ(told: Report, program: Program, what: str, one: Json, other: Json) ->
 
 # Commands.
 
+# How long one may take.
+SECONDS = 120
+
+
+def given(command: str, path: str) -> list[str]:
+    """The lines of what a command gives, with programs of this path."""
+    with subprocess.Popen(["bash", "-c", command], cwd=ROOT, stdin=subprocess.DEVNULL, stdout=subprocess.PIPE, stderr=subprocess.PIPE,
+                          env={**os.environ, "PATH": path}, start_new_session=True) as ran:
+        try:
+            out, err = ran.communicate(timeout=SECONDS)
+        except subprocess.TimeoutExpired:
+            os.killpg(ran.pid, signal.SIGKILL)
+            return [f"no end in {SECONDS} seconds"]
+    return str(Ran(ran.returncode, as_text(out), as_text(err))).splitlines()
+
+
 def commands(told: Report, programs: Programs) -> None:
     """Each run has its stored output, lines on standard error and status."""
     runs, written = runs_of(RUNS.read_text()), ""
@@ -291,9 +308,7 @@ def commands(told: Report, programs: Programs) -> None:
         (Path(tools) / "am-rehearse").symlink_to(programs["am_rehearse"].path)
         path = f"{tools}:{os.environ['PATH']}"
         for run in runs:
-            ran = subprocess.run(["bash", "-c", run.command], cwd=ROOT, capture_output=True, env={**os.environ, "PATH": path},
-                                 timeout=300, check=False)
-            got = str(Ran(ran.returncode, as_text(ran.stdout), as_text(ran.stderr))).splitlines()
+            got = given(run.command, path) if told.wants(run.command) else run.lines
             written += run.text(got)
             told.same(run.command, "\n".join(got if told.is_written else run.lines), "\n".join(got), RUNS.name, "am-rehearse")
     if told.is_written:

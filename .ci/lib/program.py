@@ -76,8 +76,8 @@ class Program:
 
     @cached_property
     def is_checked(self) -> bool:
-        """Whether it has run-time checks, as `rt try` builds it: then it reserves more addresses than any limit, and no preloaded
-        library stands before its own allocator."""
+        """Whether it has run-time checks, as `rt try` builds it: then it is slow and reserves more addresses than any limit, so that
+        none is set, and no preloaded library stands before its own allocator."""
         return b"__asan_init" in self.path.read_bytes()
 
     def run(self, *words: str | Path, stdin: str | bytes | Path = b"", stdout: Path | None = None, env: dict[str, str] | None = None,
@@ -93,7 +93,8 @@ class Program:
             for it in opened:
                 os.close(it)
         with child:
-            (limits._replace(memory=None) if self.is_checked else limits).set(child.pid)
+            if not self.is_checked:
+                limits.set(child.pid)
             try:
                 out, err = child.communicate(None if isinstance(stdin, Path) else as_bytes(stdin), timeout=timeout)
             except BaseException:

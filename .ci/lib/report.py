@@ -189,6 +189,10 @@ def main(file: str, parts: Mapping[str, Part], crates: tuple[str, ...], about: s
         sys.exit(0 if "--help" in words else 2)
     paths = [Path(it) for it in words if is_program(it)]
     words = [it for it in words if not is_program(it)]
+    for it in words:
+        if "/" in it and Path(it).name.replace("-", "_") in crates:
+            # (else the program would be proved, which takes an hour)
+            sys.exit(f"there is no program {it}")
     if words and words[0] not in parts:
         sys.exit(f"there is no part {words[0]}: {', '.join(parts)}")
     programs, command = Programs(paths, crates), str(Path(file).resolve().relative_to(ROOT))

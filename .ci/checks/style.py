@@ -8,6 +8,7 @@
 Each is Debian's package of its name. One that isn't there is skipped; where CI is set it is installed, and fails if it can't be.
 """
 import os
+import re
 import shutil
 import subprocess
 import sys
@@ -19,9 +20,9 @@ from lib import report
 from lib.program import ROOT
 from lib.report import Programs, Report
 
-# What is Python and has its types by now; and what is shell.
+# Where all Python has its types; and where programs are that may be shell.
 PYTHON = (".ci/lib", ".ci/checks", ".ci/gate")
-SHELL = (".ci/run", ".ci/wrong-bodies", "rehearse", "tools/package", "tools/peer/run")
+PROGRAMS = ("*", ".ci/*", "tools/*")
 TOOLS = ("mypy", "flake8", "shellcheck")
 # How many lines of a tool are shown.
 SHOWN = 60
@@ -63,9 +64,16 @@ def python(told: Report, _: Programs) -> None:
     run(told, "python", "flake8", *PYTHON)
 
 
+def is_shell(file: Path) -> bool:
+    """Whether a file is a program for a shell."""
+    return file.is_file() and os.access(file, os.X_OK) and re.match(rb"#!.*\b(ba)?sh\n", file.read_bytes()[:80]) is not None
+
+
 def shell(told: Report, _: Programs) -> None:
     """shellcheck."""
-    run(told, "shell", "shellcheck", *[it for it in SHELL if (ROOT / it).exists()])
+    files = [str(it.relative_to(ROOT)) for pattern in PROGRAMS for it in sorted(ROOT.glob(pattern)) if is_shell(it)]
+    told.at_least(2, len(files), "programs for a shell")
+    run(told, "shell", "shellcheck", *files)
 
 
 PARTS = {"types": types, "python": python, "shell": shell}

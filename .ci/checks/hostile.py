@@ -97,9 +97,9 @@ def lists(told: Report, programs: Programs) -> None:
     """A scenario with so many items in one list of its configuration is rejected. A story with 100,000 matchers in one list is
     rejected at its place; as patterns, each of which wants much memory, they may take twice what they take as texts."""
     for name, count, item in LISTS:
-        items = ", ".join(json.dumps(item).replace("NAME", f"n{number}") for number in range(count))
-        own = json.dumps({"receivers": [{"name": "team", "integrations": []}], "route": TEAM})[:-1] + f', "{name}": [{items}]}}'
-        ran = programs["am_run"].run(stdin=f'{{"config": {own}, "phases": []}}', limits=Limits(10))
+        items = [json.loads(json.dumps(item).replace("NAME", f"n{number}")) for number in range(count)]
+        own = {"receivers": [{"name": "team", "integrations": []}], "route": TEAM, name: items}
+        ran = programs["am_run"].run(stdin=json.dumps({"config": own, "phases": []}), limits=Limits(10))
         told.same(f"{count} of {name}", "= 2 am-run: scenario refused at /config: value", f"= {ran.status} {ran.err.strip()}")
     for name, place in MATCHERS:
         unread(told, programs["am_rehearse"], name, place)

@@ -1,6 +1,6 @@
 """Stories: how they are read, played by a clock that doesn't wait, and compared.
 
-`live-compare` plays them against the real Alertmanager too, `.ci/live` against what that did. A story is lines of text:
+`live-compare` plays them against the real Alertmanager too, `.ci/checks/live.py` against what that did. A story is lines of text:
 
     story NAME                                      begins a story
     route JSON, inhibit JSON, timeout 5s            fields of the route, inhibition rules, `resolve_timeout`

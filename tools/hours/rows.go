@@ -1,4 +1,4 @@
-// Makes the rows of `.ci/hours`, with the package `timeinterval` of Alertmanager 0.25 itself:
+// Makes the rows of `.ci/checks/formats.py hours`, with the package `timeinterval` of Alertmanager 0.25 itself:
 //
 //	rows spans    intervals, and the spans of time in which they hold
 //	rows texts    texts of ranges, and whether Alertmanager reads them

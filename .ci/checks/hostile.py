@@ -1,0 +1,220 @@
+#!/usr/bin/env python3
+"""Hostile inputs end within bounds of time and memory.
+
+- `patterns`: hostile patterns, each as the matcher of a child route and of a silence, against an alert whose label has 1,024 times
+  `a`: the pattern is rejected at its place, or the report says whether it matched, within ten seconds of a processor and 128 MiB.
+- `lists`: lists that are longer than any limit are rejected within ten seconds, and lists of matchers unread: patterns that want
+  much memory cost no more than texts.
+- `growth`: inputs that would make a flush, a preview or a judgement grow with the square of their size: one of twice the size takes
+  at most three times the time and the memory. So do inputs whose labels would collide if hashes started from a seed that everybody
+  knows (lib/collisions.py).
+"""
+import json
+import re
+import subprocess
+import sys
+import tempfile
+from pathlib import Path
+
+sys.path.insert(0, str(Path(__file__).resolve().parent.parent))
+from lib import collisions, report
+from lib.program import Limits, Program
+from lib.report import Programs, Report
+from lib.rows import Json
+from lib.stories import HOOK, config
+
+# What takes less time than this counts as this: seconds of a processor.
+SHORT = 0.5
+# How much more twice the input may take.
+MOST = 3
+
+
+# Patterns.
+
+# A name, what becomes of the pattern, and the pattern.
+PATTERNS = [
+    ("groups that nobody closes", "rejected", "(" * 1024),
+    ("classes that nobody closes", "rejected", "[" * 1024),
+    ("ten thousand alternatives", "rejected", "a|" * 9999 + "a"),
+    ("repeats of repeats", "rejected", "((a{100}){100}){100}"),
+    ("a count of four billion", "rejected", "a{4294967295}"),
+    ("a thousand letters of Unicode", "rejected", r"\w{1000}"),
+    ("groups too deep", "rejected", "(" * 249 + "a" + ")" * 249),
+    ("groups as deep as may be", "fails", "(" * 248 + "a" + ")" * 248),
+    ("as many alternatives as fit", "fails", "a|" * 511 + "a"),
+    ("a star of a star", "fails", "(a*)*b"),
+    ("stars of stars of stars", "matches", "(((a*)*)*)*"),
+    ("a plus of a plus", "fails", "(a+)+b"),
+    ("alternatives that overlap", "fails", "(a|aa|a*)+b"),
+    ("perhaps, and then for sure", "matches", "(a?){1024}a{1024}"),
+    ("a row of dots", "fails", ".*.*.*.*.*.*.*.*.*.*b"),
+    ("ranges of counts", "matches", "[a-z]{1,500}[ab]{1,524}"),
+    ("letters of Unicode, counted", "matches", r"\w{1,100}\w{100}.*"),
+]
+
+
+def with_pattern(pattern: str) -> Json:
+    """The scenario with a pattern. The alert goes to the child if it matches; if it doesn't, it goes to the root and is silenced."""
+    child = {"receiver": "team", "group_by": ["alertname"], "name": "odd", "matchers": [["text", "=~", pattern]]}
+    silence = {"silence": {"id": 1, "matchers": [["text", "!~", pattern]], "start": 0, "end": 30001}}
+    alert = {"insert": {"labels": [["alertname", "A"], ["text", "a" * 1024]], "starts": 0}}
+    return {"config": config(children=[child]), "phases": [{"at": 0, "lanes": [[silence, alert]]}, {"at": 30000, "flush": True}]}
+
+
+def patterns(told: Report, programs: Programs) -> None:
+    """What becomes of each pattern."""
+    for name, wanted, pattern in PATTERNS:
+        ran = programs["am_run"].run(stdin=json.dumps(with_pattern(pattern)), limits=Limits(10, 128 << 20))
+        got = str(ran)
+        if (ran.status, ran.err) == (2, "am-run: scenario refused at /config/children/0/matchers/0: value\n"):
+            got = "rejected"
+        elif (ran.status, ran.err) == (0, ""):
+            got = "matches" if re.search("^notice 1 odd:", ran.out, re.M) else got
+            got = "fails" if re.search("^group root:.* flushed=yes", ran.out, re.M) else got
+        told.same(name, wanted, got)
+
+
+# Lists.
+
+TEAM = {"receiver": "team", "group_by": []}
+# A list of a scenario's configuration, how many items it gets, and each item.
+LISTS: list[tuple[str, int, Json]] = [
+    ("receivers", 300_000, {"name": "NAME", "integrations": []}),
+    ("children", 150_000, {"name": "NAME", **TEAM, "matchers": [["a", "=", "b"]]}),
+    ("inhibit", 150_000, {"source": [["NAME", "=", "b"]], "target": [["a", "=", "b"]], "equal": []}),
+]
+# The place of a list of matchers in a story, and of what.
+MATCHERS = [
+    ("patterns of a silence", "/silences/0/matchers"),
+    ("patterns of an expectation", "/expect/0/has"),
+    ("patterns of a route", "/config/children/0/matchers"),
+    ("patterns of an inhibition rule", "/config/inhibit/0/source"),
+]
+PATTERN, TEXT = 'a=~"[a-z]{1,500}"', 'a="[a-z]{1,5000}"'
+
+
+def lists(told: Report, programs: Programs) -> None:
+    """A scenario with so many items in one list of its configuration is rejected. A story with 100,000 matchers in one list is
+    rejected at its place; as patterns, each of which wants much memory, they may take twice what they take as texts."""
+    for name, count, item in LISTS:
+        items = [json.loads(json.dumps(item).replace("NAME", f"n{number}")) for number in range(count)]
+        own = {"receivers": [{"name": "team", "integrations": []}], "route": TEAM, name: items}
+        ran = programs["am_run"].run(stdin=json.dumps({"config": own, "phases": []}), limits=Limits(10))
+        told.same(f"{count} of {name}", "= 2 am-run: scenario refused at /config: value", f"= {ran.status} {ran.err.strip()}")
+    for name, place in MATCHERS:
+        unread(told, programs["am_rehearse"], name, place)
+
+
+def with_matchers(place: str, matcher: str, many: int) -> Json:
+    """A story in which the list of matchers at the place has so many."""
+    parts: Json = {
+        "children": [{"name": "child", "receiver": "team", "matchers": ['a="b"']}],
+        "inhibit": [{"source": ['a="b"'], "target": ['a="c"'], "equal": []}],
+        "silences": [{"matchers": ['a="b"'], "to": "1m"}],
+        "expect": [{"has": ['a="b"']}],
+    }
+    name, part, member = place.split("/")[-3:]
+    parts[name][int(part)][member] = [matcher] * many
+    own = {**HOOK, "route": {"receiver": "team"}, "children": parts["children"], "inhibit": parts["inhibit"]}
+    return {"config": own, "until": "1m", "alerts": [{"labels": {"a": "b"}}], "silences": parts["silences"], "expect": parts["expect"]}
+
+
+def unread(told: Report, program: Program, name: str, place: str) -> None:
+    """A story with 100,000 matchers at this place is rejected before one is built."""
+    costs = {}
+    for matcher in (PATTERN, TEXT):
+        with tempfile.NamedTemporaryFile("w", suffix=".json") as file, tempfile.TemporaryFile() as said:
+            json.dump(with_matchers(place, matcher, 100_000), file)
+            file.flush()
+            costs[matcher] = program.cost("play", file.name, stdin=Path("/dev/null"), stderr=said.fileno())
+            said.seek(0)
+            line = said.read().decode().strip()
+        how, status = "as texts" if matcher == TEXT else "as patterns", costs[matcher].status
+        told.holds(f"{name}, {how}", status == 2 and place in line, f"status {status}: {line[-300:]}")
+    pattern, text = costs[PATTERN], costs[TEXT]
+    is_small = pattern.seconds <= 2 * max(text.seconds, SHORT) and pattern.memory <= 2 * text.memory
+    told.holds(f"{name} cost no more than texts", is_small, f"{pattern}", f"{text}")
+
+
+# Growth.
+
+def two_sided(count: int) -> Json:
+    """Alerts of one group that both sides of a rule match, and that agree in `equal`."""
+    rule = {"source": [["kind", "=", "node"]], "target": [["kind", "=", "node"]], "equal": ["cluster"]}
+    labels = [[["cluster", "eu"], ["host", f"h{i}"], ["kind", "node"]] for i in range(count)]
+    calls = [{"insert": {"labels": pairs, "starts": 0}} for pairs in labels]
+    return {"config": config(["cluster"], inhibit=[rule]), "phases": [{"at": 0, "lanes": [calls]}, {"at": 30000, "flush": True}]}
+
+
+def silenced(count: int) -> Json:
+    """Alerts of one group, flushed eighteen times, and a silence for every sixteenth of them."""
+    own = config(["cluster"])
+    own["route"]["group_interval"] = "15s"
+    alerts = [{"labels": {"cluster": "eu", "host": f"h{i}"}} for i in range(count)]
+    silences = [{"matchers": [f'host="h{i * 16}"'], "to": "10m"} for i in range(count // 16)]
+    return {"config": own, "until": "5m", "alerts": alerts, "silences": silences}
+
+
+def expected(count: int) -> Json:
+    """As many expectations as may be, each of alerts by a matcher that none of these many has but the last one."""
+    alerts = [{"labels": {"cluster": "eu", "host": f"h{i}"}} for i in range(count)]
+    expectations = [{"has": [f'host="h{count - 1}"']} for _ in range(1024)]
+    return {"config": config(["cluster"]), "until": "5m", "alerts": alerts, "expect": expectations}
+
+
+def restarted(count: int) -> Json:
+    """A story with 64 equal routes, so that each log row goes to the groups of all of them, and a restart that keeps the log."""
+    route = {"receiver": "team", "group_by": ["alertname"], "routes": [{"receiver": "team", "continue": True}] * 64}
+    return {
+        "alertmanager": {"route": route, "receivers": [{"name": "team", "webhook_configs": [{}]}]},
+        "until": "30m",
+        "alerts": [{"labels": {"alertname": f"A{alert}"}} for alert in range(count)],
+        "restart": {"at": "15m", "keeps": "log"},
+    }
+
+
+MADE = {"two-sided": two_sided, "silenced": silenced, "expected": expected, "restarted": restarted}
+# A name, what makes the input, its size, and the program.
+GROWTH = [
+    ("sources that both sides of a rule match", "two-sided", 8000, "am_run"),
+    ("as many silences as fit, of many alerts", "silenced", 8000, "am_rehearse"),
+    ("as many expectations as may be, of many alerts", "expected", 8000, "am_rehearse"),
+    ("a restart after which each log row goes to 64 equal routes", "restarted", 32, "am_rehearse"),
+    ("label sets that would collide", "label sets", 16000, "am_dispatch"),
+    ("values of sources that would collide", "sources", 8000, "am_dispatch"),
+    ("label sets that would collide for the fixed seed", "label sets, fixed", 16000, "am_dispatch"),
+    ("values of sources that would collide for the fixed seed", "sources, fixed", 8000, "am_dispatch"),
+    ("a scenario whose label sets would collide", "scenario", 16000, "am_run"),
+    ("a scenario whose label sets would collide for the fixed seed", "scenario, fixed", 16000, "am_run"),
+    ("a story whose label sets would collide", "story", 16000, "am_rehearse"),
+    ("a story whose label sets would collide for the fixed seed", "story, fixed", 16000, "am_rehearse"),
+    ("a story whose groups would collide", "story of groups", 2000, "am_rehearse"),
+    ("a story whose groups would collide for the fixed seed", "story of groups, fixed", 2000, "am_rehearse"),
+]
+
+
+def cost_of(program: Program, made: str, count: int) -> tuple[str, float, int]:
+    """How a program ends with an input of a size, seconds of a processor, and KiB."""
+    with tempfile.NamedTemporaryFile("w", suffix=".json") as file, tempfile.TemporaryFile() as answers:
+        file.write(json.dumps(MADE[made](count)) if made in MADE else collisions.text(made, count))
+        file.flush()
+        words = ["play", file.name] if program.crate == "am_rehearse" else []
+        found = program.cost(*words, stdin=Path(file.name), stdout=answers.fileno(), stderr=subprocess.DEVNULL)
+        answers.seek(0)
+        has_error = program.crate == "am_dispatch" and any(line.startswith(b'{"error"') for line in answers)
+    return "an error" if has_error else f"status {found.status}", found.seconds, found.memory
+
+
+def growth(told: Report, programs: Programs) -> None:
+    """Runs programs on an input of a size and of twice the size."""
+    for name, made, size, crate in filter(lambda it: told.concerns(it[0]), GROWTH):
+        (end, seconds, memory), (end_twice, more, memory_twice) = (cost_of(programs[crate], made, it) for it in (size, 2 * size))
+        is_right = end == end_twice == "status 0" and more <= MOST * max(seconds, SHORT) and memory_twice <= MOST * memory
+        once, twice = f"{size}: {end}, {seconds:.2f} s, {memory} KiB", f"{2 * size}: {end_twice}, {more:.2f} s, {memory_twice} KiB"
+        told.holds(name, is_right, once, twice)
+
+
+PARTS = {"patterns": patterns, "lists": lists, "growth": growth}
+
+if __name__ == "__main__":
+    report.main(__file__, PARTS, ("am_run", "am_rehearse", "am_dispatch"), __doc__)

@@ -1,0 +1,215 @@
+#!/usr/bin/env python3
+"""What am-rehearse rejects of stories and configurations, where, and by which word.
+
+- `rehearsals`, `alertmanager`: each row of .ci/data/refusals/{rehearsal,alertmanager}.rows is rejected by just its lines.
+- `matchers`: each text of .ci/data/matchers.rows matches its label set, fails on it, or is rejected.
+- `ignored`: what a configuration of Alertmanager's has that changes nothing is said once; of many faults a hundred are printed.
+- `limits`: inputs that would take long, or much memory, are rejected at a place or played, within limits.
+"""
+import json
+import re
+import sys
+from concurrent.futures import ThreadPoolExecutor
+from pathlib import Path
+
+sys.path.insert(0, str(Path(__file__).resolve().parent.parent))
+from lib import report
+from lib.program import ROOT, Limits, Program, Ran
+from lib.report import Programs, Report
+from lib.rows import Json, Rows, changed, repeated
+from lib.stories import LIMITS, PLAY, alertmanager_story, faults_in, rehearse, story
+
+DATA = ROOT / ".ci/data"
+
+
+# Rows.
+
+def outcome(ran: Ran) -> str:
+    """How a story ends, in the words of a row."""
+    if ran.status in (0, 5) and ran.out:
+        return "played"
+    if (ran.status, ran.out) == (2, "") and ran.err:
+        return " | ".join(faults_in(ran.err))
+    return str(ran)
+
+
+def rejected(told: Report, program: Program, table: Path, least: int) -> None:
+    """Each row of a table is rejected by just the lines that it says. The table begins with the story that rows change, up to an
+    empty line."""
+    rows = Rows(table)
+    end = rows.lines.index("")
+    start = "\n".join(it for it in rows.lines[:end] if not it.startswith("#"))
+    places = [at for at, _ in rows if at > end]
+
+    def played(at: int) -> str:
+        whole = json.loads(start)
+        for words in rows.lines[at].rsplit(" -> ", 1)[0].split(" ; "):
+            whole = changed(whole, words)
+        return outcome(rehearse(program, json.dumps(whole), *PLAY))
+
+    with ThreadPoolExecutor() as pool:
+        results = list(pool.map(played, places))
+    for at, got in zip(places, results):
+        changes, wanted = rows.lines[at].rsplit(" -> ", 1)
+        if told.is_written and repeated(wanted) != got:
+            rows.lines[at] = f"{changes} -> {got}"
+        elif repeated(wanted) != got:
+            told.differs(f"{table.name}:{at + 1}", repeated(wanted).replace(" | ", "\n"), got.replace(" | ", "\n"), changes[:150])
+    if told.is_written:
+        rows.write()
+    told.ok(f"{len(places)} rows of {table.name} were compared")
+    told.at_least(least, len(places), "rows")
+
+
+def rehearsals(told: Report, programs: Programs) -> None:
+    """Rows that change a story."""
+    rejected(told, programs["am_rehearse"], DATA / "refusals/rehearsal.rows", 200)
+
+
+def alertmanager(told: Report, programs: Programs) -> None:
+    """Rows that change an alertmanager.yml."""
+    rejected(told, programs["am_rehearse"], DATA / "refusals/alertmanager.rows", 100)
+
+
+# Matchers.
+
+def matcher_outcome(program: Program, text: str, labels: Json) -> str:
+    """What a matcher of one text does to a label set: a child route has it, behind which stands the root."""
+    config = {
+        "receivers": [{"name": "team", "integrations": [{"kind": "hook"}]}],
+        "route": {"receiver": "team"},
+        "children": [{"name": "child", "receiver": "team", "matchers": [text]}],
+    }
+    whole = {"config": config, "until": "1m", "alerts": [{"labels": labels}], "output": "notices"}
+    ran = rehearse(program, json.dumps(whole), *PLAY)
+    if (ran.status, ran.out) == (2, "") and faults_in(ran.err) == ["/config/children/0/matchers/0: value"]:
+        return "refused"
+    found = re.fullmatch(r".{14}notice  (child|root)\{\} -> [^\n]*\n", ran.out) if ran.status == 0 else None
+    return {"child": "matches", "root": "fails"}[found[1]] if found else str(ran)
+
+
+def matchers(told: Report, programs: Programs) -> None:
+    """Each text of a table does to its label set what the row says."""
+    rows = Rows(DATA / "matchers.rows")
+    tabbed = rows.tabbed()
+    for at, (text, labels, wanted) in tabbed:
+        got = matcher_outcome(programs["am_rehearse"], json.loads(text), json.loads(labels))
+        if told.is_written:
+            rows.lines[at] = "\t".join([text, labels, got])
+        elif got != wanted:
+            told.differs(f"matchers.rows:{at + 1}", wanted, got, f"{text} on {labels}")
+    if told.is_written:
+        rows.write()
+    told.ok(f"{len(tabbed)} rows of matchers.rows were compared")
+    told.at_least(60, len(tabbed), "rows")
+
+
+# What is ignored of an alertmanager.yml, and how many faults are printed.
+
+def mailed(**settings: Json) -> Json:
+    """A receiver of mail with these settings."""
+    return [{"name": "team", "email_configs": [settings]}]
+
+
+def ignored(told: Report, programs: Programs) -> None:
+    """What a configuration has that changes nothing here is said in one line. Of more than a hundred faults the first hundred are
+    printed."""
+    program = programs["am_rehearse"]
+    cases: list[tuple[Json, str]] = [
+        ({}, ""),
+        ({"global": {}, "templates": [], "time_intervals": [], "receivers": mailed(send_resolved=True)}, ""),
+        ({"global": {"resolve_timeout": "5m"}}, "global"),
+        ({"templates": ["x"]}, "templates"),
+        ({"time_intervals": [{"name": "x"}]}, "time intervals"),
+        ({"mute_time_intervals": [{"name": "x"}]}, "time intervals"),
+        ({"receivers": mailed(send_resolved=True, to="x")}, "settings of integrations"),
+        ({"global": {"resolve_timeout": "5m"}, "receivers": mailed(to="x")}, "global, settings of integrations"),
+    ]
+    for members, what in cases:
+        ran = rehearse(program, json.dumps(alertmanager_story(**members)))
+        wanted = Ran(0, "(something)", f"<stdin>: ignored: {what}\n" if what else "")
+        told.same(f"ignored of {json.dumps(members)}: {what or 'nothing'}", wanted, ran._replace(out="(something)" if ran.out else ""))
+    unknown = {f"x{number:03}": 1 for number in range(101)}
+    ran = rehearse(program, json.dumps(alertmanager_story(**unknown)), *PLAY)
+    told.same("a hundred faults", " | ".join(f"/alertmanager/x{number:03}: unknown" for number in range(100)), outcome(ran))
+
+
+# Inputs that would take long, or much memory.
+
+def alerts(count: int) -> Json:
+    """So many alerts of 4,096 names."""
+    return [{"labels": {"alertname": f"A{n % 4096}", "number": str(n)}} for n in range(count)]
+
+
+def hostile() -> list[tuple[str, str, int, str]]:
+    """Inputs, each with a name, and with the status and the first line that it has to get."""
+    no_json = ": text"
+    endless = [{"receiver": "team"}]
+    wide = alertmanager_story(route={"receiver": "team", "routes": [{}] * 300_000})
+    written: list[tuple[str, Json, int, str]] = [
+        ("an end at 10^12", story(until="1000000000000ms"), 2, "/until: value"),
+        ("an end at 10^30", story(until=f"{10**30}y"), 2, "/until: value"),
+        ("a wait of 10^12", story(maintain="1000000000000ms"), 0, ""),
+        ("a wait above it", story(maintain="1000000000001ms"), 2, "/maintain: value"),
+        ("100,000 alerts", story(alerts=alerts(100_000)), 2, "/alerts/65536: full"),
+        ("a hundred faults behind 50,000 alerts", story(alerts=alerts(50_000) + [{}] * 100), 2, "/alerts/50000/labels: missing"),
+        ("an outage without an end", story(until="366d", outages=endless), 0, ""),
+        ("300,000 routes", wide, 2, "/alertmanager/route/routes/1023: value"),
+        ("maintenance each millisecond", story(until="366d", maintain="1ms"), 2, "/until: full"),
+    ]
+    return [
+        ("arrays 100,000 deep", "[" * 100_000, 2, no_json),
+        ("arrays 100,000 deep, closed", "[" * 100_000 + "]" * 100_000, 2, no_json),
+        ("objects 100,000 deep", '{"config":' * 100_000, 2, no_json),
+        ("16 MiB", json.dumps(story()).ljust(16_777_216), 0, ""),
+        ("16 MiB and a byte", json.dumps(story()).ljust(16_777_217), 1, "not readable"),
+        *((name, json.dumps(value), status, line) for name, value, status, line in written),
+    ]
+
+
+def routes_below(widths: list[int], level: int = 1, **members: Json) -> Json:
+    """As many routes side by side as the first number says, below each as many as the next, and so on.
+    Each has these members too, and takes an alert that has `x` at its level."""
+    return [
+        {
+            "matchers": [f'level{level}=~"{number}|x"'],
+            "routes": routes_below(widths[1:], level + 1, **members),
+            **members,
+        }
+        for number in range(widths[0] if widths else 0)
+    ]
+
+
+def trees(told: Report, program: Program) -> None:
+    """The widest tree that may be, which finds one route for an alert that each takes, or with `continue` all of the
+    lowest level; and one of a route more, which is rejected at the last that there is no capacity for."""
+    widest = routes_below([3, 4, 4, 4, 4])
+    for name, routes, wanted in [
+        ("1,023 routes five deep", widest, "status 0, 1 notices"),
+        ("1,023 routes five deep, with continue", routes_below([3, 4, 4, 4, 4], **{"continue": True}), "status 0, 768 notices"),
+        ("1,024 routes five deep", [*widest, {}], "status 2, 0 notices /alertmanager/route/routes/3: value"),
+    ]:
+        hooks = [{"name": "team", "webhook_configs": [{}]}]
+        whole = alertmanager_story(route={"receiver": "team", "routes": routes}, receivers=hooks)
+        labels = {f"level{level}": "x" for level in range(1, 6)}
+        text = json.dumps({**whole, "alerts": [{"labels": labels}], "output": "notices"})
+        ran = rehearse(program, text, *PLAY, limits=Limits(1, LIMITS.memory))
+        got = " ".join([f"status {ran.status}, {len(ran.out.splitlines())} notices", *faults_in(ran.err)])
+        told.same(f"{name}, within a second", wanted, got)
+
+
+def limits(told: Report, programs: Programs) -> None:
+    """Inputs that would take long, or much memory, are rejected at a place or played, within limits."""
+    program = programs["am_rehearse"]
+    for name, text, status, line in hostile():
+        ran = rehearse(program, text, *PLAY)
+        lines = faults_in(ran.err) if ran.status == 2 else [ran.err]
+        is_right = ran.status == status and line in lines[0] and (ran.out != "") == (status == 0)
+        told.holds(name, is_right, f"status {status} and {line or 'an output'} are wanted", str(ran)[:2000])
+    trees(told, program)
+
+
+PARTS = {"rehearsals": rehearsals, "alertmanager": alertmanager, "matchers": matchers, "ignored": ignored, "limits": limits}
+
+if __name__ == "__main__":
+    report.main(__file__, PARTS, ("am_rehearse",), __doc__)

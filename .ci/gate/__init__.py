@@ -1,0 +1,1 @@
+"""The merge gate. `.ci/run` starts it."""

@@ -1,0 +1,148 @@
+"""The merge gate: the proofs, the tests and the programs (`rt ci`), the wrong bodies, and the checks that run the
+programs, side by side where one needs nothing of the other. CI calls `.ci/run`.
+
+    .ci/run           takes what earlier runs on this machine kept: a proof, or a refusal of a wrong body, is made again
+                      only where something that it stands on has changed
+    .ci/run --anew    keeps nothing, and proves and tries all
+
+As many tasks run at a time as there are processors and as memory holds. A line gives each part's end and its minutes. The
+table at the end gives what each part and each crate cost; the last line counts the parts.
+"""
+import os
+import re
+import subprocess
+import sys
+import tempfile
+import time
+from concurrent.futures import ThreadPoolExecutor
+from typing import IO
+
+from . import kept
+from .kit import ROOT, memory, processors
+from .meter import Meter
+
+HANDLES = "Handles allowed: Threads, Wait.\n"
+# What needs no program, and so comes first.
+BEFORE = ["checks/style.py", "checks/pages.py"]
+# What runs the programs that `rt ci` leaves in out/, the longest first.
+AFTER = [
+    "checks/memory.py stories", "checks/memory.py lines", "checks/memory.py scenarios", "checks/am_run.py schedules",
+    "checks/rehearse.py outputs", "checks/pictures.py", "checks/tickets.py", "checks/memory.py frugal", "checks/am_run.py scenarios",
+    "checks/am_run.py examples", "checks/am_run.py statuses", "checks/am_run.py lengths", "checks/formats.py routes",
+    "checks/formats.py hours", "checks/rehearse.py commands", "checks/formats.py yaml", "checks/rejects.py",
+    "checks/rehearse.py notices", "checks/rehearse.py dispatchers", "checks/rehearse.py statuses", "checks/rehearse.py schema",
+    "checks/hostile.py", "checks/dispatch.py", "checks/live.py", "checks/live_rehearsals.py", "programs", "package", "steps",
+    "checks/pages.py quotes",
+]
+# Whether the kit keeps what it proved; one that doesn't has no word for that, and proves all each time.
+KEEPS = "--anew" in subprocess.run(["rt", "help"], capture_output=True, text=True, check=False).stderr
+# With at most so many crates to prove, `rt ci` itself decides how many run at a time, and gives each several processors.
+FEW = 8
+# In GB: what a proof takes at most; and the memory from which on wrong bodies are tried beside the proofs.
+PROOF, MUCH = 5, 18
+STARTED = time.monotonic()
+
+
+def minutes(since: float = STARTED) -> float:
+    """The minutes since then, or since the beginning."""
+    return (time.monotonic() - since) / 60
+
+
+def say(text: str) -> None:
+    """Prints a line of the gate's own."""
+    print(f"gate: {minutes():5.1f} min: {text}", flush=True)
+
+
+class Gate:
+    """A run of the gate: what failed, and what runs."""
+
+    def __init__(self, anew: bool) -> None:
+        self.anew, self.meter = ["--anew"] * anew, Meter()
+        self.passed: list[str] = []
+        self.failed: list[str] = []
+        self.running: dict[str, subprocess.Popen[str]] = {}
+        self.has_much = memory() >= MUCH
+        if anew or not KEEPS or len(kept.with_above(kept.changed())) > FEW:
+            # (then many wait at a time, and `rt ci` by itself sets up to twice as much memory aside as they take)
+            os.environ.setdefault("RT_JOBS", str(max(1, min(processors(), int(memory() / PROOF)))))
+
+    def part(self, words: list[str], name: str, tee: IO[str] | None = None) -> str:
+        """Runs a part to its end, and answers what it said."""
+        since, said = time.monotonic(), []
+        with subprocess.Popen(words, cwd=ROOT, stdin=subprocess.DEVNULL, stdout=subprocess.PIPE, stderr=subprocess.STDOUT, text=True,
+                              errors="replace") as ran:
+            self.running[name] = ran
+            self.meter.count(ran.pid, name)
+            for line in ran.stdout or []:
+                said.append(line)
+                if tee:
+                    tee.write(line)
+                    tee.flush()
+                    print(line, end="", flush=True)
+        (self.failed if ran.returncode else self.passed).append(name)
+        say(f"{name} {'FAILED' if ran.returncode else 'ok'}, after {minutes(since):.1f} min")
+        return "".join(said)
+
+    def checks(self, names: list[str]) -> None:
+        """Runs checks side by side, and prints in their order what they said."""
+        with ThreadPoolExecutor(processors()) as pool:
+            results = pool.map(lambda it: self.part(f".ci/{it}".split(" "), f".ci/{it}"), names)
+            for name, said in zip(names, results):
+                print(f"== .ci/{name}\n{said}", end="", flush=True)
+
+    def stands(self) -> None:
+        """Whether the handles are as they were, and nothing is committed that checks make."""
+        with open(f"{ROOT}/HANDLES", encoding="utf-8") as file:
+            if file.read() != HANDLES:
+                self.failed.append("HANDLES was changed")
+        listed = subprocess.run(["git", "ls-files"], cwd=ROOT, capture_output=True, text=True, check=False).stdout
+        if re.search(r"(^|/)out/", listed, re.M):
+            self.failed.append("out/ is committed")
+
+    def run(self) -> int:
+        """Runs all parts, and answers the status of the gate."""
+        self.meter.start()
+        say(f"{processors()} processors, {memory():.0f} GB free, RT_JOBS={os.environ.get('RT_JOBS', '')}")
+        self.stands()
+        self.checks(BEFORE)
+        if not self.failed:
+            self.prove()
+        return self.end()
+
+    def prove(self) -> None:
+        """Has `rt ci` prove, test and run all, and then the checks run the programs. Wrong bodies are tried beside it, those
+        of a crate as soon as the crates below it are proved; with few processors or little memory after it. The first answer of
+        a fresh clone is tried at its beginning, where the crates that come first leave processors idle."""
+        is_wide = processors() >= 4 and self.has_much
+        with tempfile.NamedTemporaryFile("w", prefix="proofs-") as proofs, ThreadPoolExecutor(2) as pool:
+            first = pool.submit(self.part, ["nice", "-n", "5", ".ci/first-answer"], ".ci/first-answer")
+            words = ["nice", "-n", "15", ".ci/wrong-bodies", *self.anew, "--beside", proofs.name, *["--after"] * (not is_wide)]
+            tried = pool.submit(self.part, words, ".ci/wrong-bodies")
+            self.part(["rt", "ci", *self.anew * KEEPS], "rt ci", proofs.file)
+            if "rt ci" in self.failed:
+                for name in (".ci/first-answer", ".ci/wrong-bodies"):
+                    self.running[name].terminate()
+            else:
+                os.environ["BUILT"] = "yes"
+                self.checks(AFTER)
+            print(f"== .ci/first-answer\n{first.result()}== .ci/wrong-bodies\n{tried.result()}", end="", flush=True)
+        if "rt ci" not in self.failed:
+            # (alone, since its times count)
+            self.checks(["alertmanager"])
+
+    def end(self) -> int:
+        """Prints the costs, what failed and the total, and answers the status."""
+        self.meter.look()
+        self.meter.ended.set()
+        print(self.meter.table())
+        for it in self.failed:
+            say(f"FAILED: {it}")
+        if not self.failed and not self.anew:
+            kept.keep()
+        say("FAILED" if self.failed else "passed")
+        print(f"gate: {len(self.passed)} passed, {len(self.failed)} failed", flush=True)
+        return 1 if self.failed else 0
+
+
+if __name__ == "__main__":
+    sys.exit(Gate("--anew" in sys.argv[1:]).run())

@@ -72,8 +72,9 @@ def kind_of(answer: bytes) -> str:
 
 
 def ends(board: Board) -> None:
-    """The input ends, and nothing more comes."""
-    is_same(board.end(), (b"", 0, b""), "the end")
+    """The input ends, and no more answers come."""
+    rest, status, complaint = board.end()
+    is_same((rest, status), (b"", 0), f"the end: {complaint!r}")
 
 
 def shown(program: Program, lines: list[bytes], answers: list[bytes]) -> list[list[bytes]]:

@@ -157,7 +157,7 @@ def hostile(told: Report, programs: Programs) -> None:
 def shown_page(told: Report, programs: Programs) -> None:
     """The picture of the README is the one that tools/picture draws of its story, and as safe as a page."""
     name = "disk-full"
-    words = [ROOT / "tools/picture", "--program", programs["am_rehearse"].path, f"examples/{name}.yml"]
+    words: list[str | Path] = [ROOT / "tools/picture", "--program", programs["am_rehearse"].path, f"examples/{name}.yml"]
     ran = subprocess.run(words, cwd=ROOT, stdout=subprocess.PIPE, text=True, check=False)
     told.stored(f"docs/{name}.svg", ROOT / f"docs/{name}.svg", ran.stdout)
     drawn = XML.fromstring((ROOT / f"docs/{name}.svg").read_text())

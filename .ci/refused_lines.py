@@ -4,9 +4,11 @@
     refused_lines.py PROGRAM REFUSE.SO LINES ANSWERS
 
 A line that is answered `memory` has changed nothing that the board shows, and asked again it has its answer. One that is
-answered `untold` has been done: the board shows what it shows after the line. Each other answer is the one with ample
-memory. Tells how many requests there were.
+answered `untold` has been done: the board shows what it shows after the line. Of several inserts in a line, those that are
+answered `memory` are asked again, and then the board shows what it shows after the line. Each other answer is the one with
+ample memory. Tells how many requests there were.
 """
+import contextlib
 import json
 import os
 import subprocess
@@ -60,16 +62,38 @@ def shown(lines, answers):
     return views
 
 
+def insert_again(board, line, got, answer):
+    """Asks those inserts of a line again that were refused memory. Returns whether the others have their answers."""
+    inserts, made, wanted = (json.loads(it)["inserts"] for it in (line, got, answer))
+    refused = [insert for insert, end in zip(inserts, made, strict=True) if end.get("error", {}).get("kind") == "memory"]
+    again = json.loads(board.ask(json.dumps({"inserts": refused}).encode()))["inserts"]
+    kinds = [[*end] for end, insert in zip(made, inserts) if insert not in refused]
+    return bool(refused) and all("inserted" in end for end in again) and kinds == [[*end] for end, insert in zip(wanted, inserts) if insert not in refused]
+
+
 def play(number, lines, answers, views):
     """Asks all lines with this request refused. Returns whether it was, and the kinds of the refusals."""
     board, kinds = Board(number), []
     for place, (line, answer) in enumerate(zip(lines, answers, strict=True)):
         where = f"{LINES}: line {place + 1}, with request {number} refused"
-        got = board.ask(line)
+        try:
+            got = board.ask(line)
+        except BrokenPipeError:
+            got = b""
+        if not got and not place:
+            # (the request was for the words of the command line, before the first line)
+            assert board.child.wait() == 3, where
+            with contextlib.suppress(BrokenPipeError):
+                board.child.stdin.close()
+            return True, []
         kind = kind_of(got) if got != answer else ""
         if kind == "memory":
             assert board.views() == views[place], f"{where}: the board has changed"
             got = board.ask(line)
+        if got != answer and got.startswith(b'{"inserts"'):
+            assert insert_again(board, line, got, answer), f"{where}: {got[:300]!r}"
+            assert board.views() == views[place + 1], f"{where}: not all was inserted"
+            got, kind = answer, "memory"
         if kind == "untold":
             assert board.views() == views[place + 1], f"{where}: the call wasn't made"
             got = answer

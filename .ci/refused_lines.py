@@ -63,12 +63,14 @@ def shown(lines, answers):
 
 
 def insert_again(board, line, got, answer):
-    """Asks those inserts of a line again that were refused memory. Returns whether the others have their answers."""
+    """Asks those inserts of a line again that were refused memory. Returns whether each then has an answer of its kind."""
     inserts, made, wanted = (json.loads(it)["inserts"] for it in (line, got, answer))
-    refused = [insert for insert, end in zip(inserts, made, strict=True) if end.get("error", {}).get("kind") == "memory"]
-    again = json.loads(board.ask(json.dumps({"inserts": refused}).encode()))["inserts"]
-    kinds = [[*end] for end, insert in zip(made, inserts) if insert not in refused]
-    return bool(refused) and all("inserted" in end for end in again) and kinds == [[*end] for end, insert in zip(wanted, inserts) if insert not in refused]
+    refused = [it for it, end in enumerate(made) if end.get("error", {}).get("kind") == "memory"]
+    again = json.loads(board.ask(json.dumps({"inserts": [inserts[it] for it in refused]}).encode()))["inserts"]
+    for it, end in zip(refused, again, strict=True):
+        made[it] = end
+    kinds = [[(end.get("error") or {}).get("kind") for end in ends] for ends in (made, wanted)]
+    return bool(refused) and kinds[0] == kinds[1]
 
 
 def play(number, lines, answers, views):

@@ -79,6 +79,29 @@ def worked(told: Report, programs: Programs) -> None:
     run_cases(told, [in_lock_step, at_once, rejected_lines_change_nothing])
 
 
+def words(told: Report, programs: Programs) -> None:
+    """The words of the command line."""
+    program = programs["am_dispatch"]
+
+    def help_and_version() -> None:
+        """--help says how the program is used, --version which one it is"""
+        ran = program.run("--help")
+        is_same((ran.status, ran.err), (0, ""))
+        is_same("standard input" in ran.out and "docs/dispatch.md" in ran.out, True, ran.out)
+        ran = program.run("--version")
+        is_same((ran.status, ran.err), (0, ""))
+        is_same(bool(re.fullmatch(r"am-dispatch \d+\.\d+\.\d+\n", ran.out)), True, ran.out)
+
+    def unknown_word() -> None:
+        """an unknown word is rejected with status 2, and what is accepted is said"""
+        for word in ("serve", "--port"):
+            ran = program.run(word)
+            is_same((ran.status, ran.out), (2, ""))
+            is_same(word in ran.err and "--help" in ran.err, True, ran.err)
+
+    run_cases(told, [help_and_version, unknown_word])
+
+
 # Input that is no line of its kind.
 
 def long_lines_of(program: Program) -> list[Callable[[], None]]:
@@ -154,7 +177,7 @@ def odd_lines_of(program: Program) -> list[Callable[[], None]]:
         for at in range(0, len(CONFIG), 7):
             board.send(CONFIG[at : at + 7])
             time.sleep(0.002)
-        is_same(board.ask(""), b'{"opened":{"ignored":[]}}')
+        is_same(board.ask(""), b'{"opened":{"ignored":[],"routes":["root"]}}')
 
     return [bytes_that_are_no_text, no_open_flush, pieces]
 
@@ -427,7 +450,7 @@ def page(told: Report, programs: Programs) -> None:
     run_cases(told, [pages_by_mail])
 
 
-PARTS = {"worked": worked, "odd": odd, "restart": restart, "limits": limits, "pipes": pipes, "memory": memory, "page": page}
+PARTS = {"worked": worked, "words": words, "odd": odd, "restart": restart, "limits": limits, "pipes": pipes, "memory": memory, "page": page}
 
 if __name__ == "__main__":
     signal.signal(signal.SIGPIPE, signal.SIG_IGN)

@@ -11,6 +11,7 @@
   these calls only an insert takes none at times: of an alert that is known and that its group has. Calls that a limit rejects are
   rejected by it where each of their requests is refused.
 """
+import contextlib
 import json
 import re
 import subprocess
@@ -19,7 +20,7 @@ from pathlib import Path
 
 sys.path.insert(0, str(Path(__file__).resolve().parent.parent))
 from lib import preload, report
-from lib.board import Board
+from lib.board import Board, NoAnswer
 from lib.program import ROOT, Program, Ran
 from lib.report import Programs, Report, is_same
 
@@ -93,17 +94,45 @@ def shown(program: Program, lines: list[bytes], answers: list[bytes]) -> list[li
     return views
 
 
+def insert_again(board: Board, line: bytes, got: bytes, answer: bytes) -> bool:
+    """Asks those inserts of a line again that were refused memory. Returns whether each then has an answer of its kind."""
+    inserts, made, wanted = (json.loads(it)["inserts"] for it in (line, got, answer))
+    refused = [it for it, end in enumerate(made) if end.get("error", {}).get("kind") == "memory"]
+    again = board.reply(json.dumps({"inserts": [inserts[it] for it in refused]}))["inserts"]
+    for it, end in zip(refused, again, strict=True):
+        made[it] = end
+    kinds = [[(end.get("error") or {}).get("kind") for end in ends] for ends in (made, wanted)]
+    return bool(refused) and kinds[0] == kinds[1]
+
+
+def first_answer(board: Board, line: bytes) -> bytes:
+    """The answer to the first line; nothing if the words of the command line had no memory, with the status for that."""
+    try:
+        return board.ask(line)
+    except (BrokenPipeError, NoAnswer):
+        is_same(board.child.wait(), 3, "the status before the first line")
+        with contextlib.suppress(BrokenPipeError):
+            board.input.close()
+        return b""
+
+
 def ask_all(program: Program, number: int, lines: list[bytes], answers: list[bytes], views: list[list[bytes]]) -> tuple[bool, list[str]]:
     """Asks all lines with the request of this number refused. Returns whether it was, and the kinds of the answers for it."""
     request = preload.Refused(number)
     board, kinds = Board(program, env=request.env), []
     for place, (line, answer) in enumerate(zip(lines, answers, strict=True)):
         where = f"line {place + 1}, with request {number} refused"
-        got = board.ask(line)
+        got = board.ask(line) if place else first_answer(board, line)
+        if not got and not place:
+            return True, []
         kind = kind_of(got) if got != answer else ""
         if kind == "memory":
             is_same(board.views(), views[place], f"{where}: the board has changed")
             got = board.ask(line)
+        if got != answer and got.startswith(b'{"inserts"'):
+            is_same(insert_again(board, line, got, answer), True, f"{where}: {got[:300]!r}")
+            is_same(board.views(), views[place + 1], f"{where}: not all was inserted")
+            got, kind = answer, "memory"
         if kind == "untold":
             is_same(board.views(), views[place + 1], f"{where}: the call wasn't made")
             got = answer

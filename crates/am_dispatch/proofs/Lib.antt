@@ -1,4 +1,5 @@
 pub mod Answering
+pub mod Inserting
 pub mod Leaving
 pub mod Making
 pub mod Pieces

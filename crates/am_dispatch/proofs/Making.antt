@@ -120,14 +120,17 @@ flush_answered r written config to before after t ok is answered =
     answered_ok r written (after ≡ before ++ flush_tokens to t.number t.group t.deadline t.notices) ok
     (subst (λ (c : Config). OnOk written (after ≡ before ++ flush_tokens c t.number t.group t.deadline t.notices)) is answered)
 
--- a new board, whose opening was answered
-pub opens : {T E S F : Type 0} (r : Result T E) (written : Result S F) (board : BoardData) (tickets : List TicketData) (x : Opening) (before after : List Token)
-    → OnOk r (IsOk written) → board ≡ opening x.config BOARD_ID → tickets ≡ [] → OnOk written (after ≡ before ++ opened_tokens x.ignored)
-    → OnOk r ((board ≡ opening x.config BOARD_ID) × (tickets ≡ []) × (after ≡ before ++ opened_tokens x.ignored))
-opens r written board tickets x before after ok is none answered =
-    on_ok_weaker {Q = (board ≡ opening x.config BOARD_ID) × (tickets ≡ []) × (after ≡ before ++ opened_tokens x.ignored)} r
-    (λ (says : after ≡ before ++ opened_tokens x.ignored). (is, none, says))
-    (answered_ok r written (after ≡ before ++ opened_tokens x.ignored) ok answered)
+-- a new board, whose opening was answered by the configuration that it has
+pub opens : {T E S F : Type 0} (r : Result T E) (written : Result S F) (board : BoardData) (tickets : List TicketData) (x : Opening) (config : Config) (before after : List Token)
+    → OnOk r (IsOk written) → board ≡ opening x.config BOARD_ID → config ≡ board.config → tickets ≡ []
+    → OnOk written (after ≡ before ++ opened_tokens config x.ignored)
+    → OnOk r ((board ≡ opening x.config BOARD_ID) × (tickets ≡ []) × (after ≡ before ++ opened_tokens x.config x.ignored))
+opens r written board tickets x config before after ok is same none answered =
+    let here : config ≡ x.config = same ∙ ap (λ (b : BoardData). b.config) is in
+    on_ok_weaker {Q = (board ≡ opening x.config BOARD_ID) × (tickets ≡ []) × (after ≡ before ++ opened_tokens x.config x.ignored)} r
+    (λ (says : after ≡ before ++ opened_tokens config x.ignored).
+    (is, none, says ∙ ap (λ (c : Config). before ++ opened_tokens c x.ignored) here))
+    (answered_ok r written (after ≡ before ++ opened_tokens config x.ignored) ok answered)
 
 -- a note of the notice that was found
 pub notes : {T E : Type 0} (r : Result T E) (old new : Session) (n : Noting) (before after : List Token) (index : ℕ) (ticket noted : TicketData) (notice : ℕ)

@@ -109,11 +109,12 @@ IsCauseOfUntaken s f =
 abbrev pub IsCauseOfUnopened : Config → LineFault → Type 0
 IsCauseOfUnopened config f = LacksMemory f ⊎ ((config_fault config ≢ None) × IsRefusedAs f [] (codes "value"))
 
--- why what is asked isn't done. A view only lacks memory
+-- why what is asked isn't done. A view only lacks memory, and so do several inserts: what one of them is refused for is in their answer
 abbrev pub IsCauseOf : Session → Request → LineFault → Type 0
 IsCauseOf s (request.Open x) f = IsCauseOfUnopened x.config f
 IsCauseOf s (request.Insert x) f =
     AnswersCause (codes "/insert") (insert_cause s.board.config (records_at s.board) (state_at s.board) x.alert) f
+IsCauseOf s (request.Inserts xs) f = LacksMemory f
 IsCauseOf s (request.Silence x) f =
     AnswersCause (codes "/silence") (silence_cause s.board.config (records_at s.board) (state_at s.board) x.silence) f
 IsCauseOf s (request.Begin x) f = IsCauseOfUnbegun s x.now f

@@ -1,5 +1,5 @@
 -- Serve: the lines of an input, each answered by a text.
-use Rattle.std.specs.Prelude.{◌≡◌, ◌≢◌, ◌≤◌, ◌+◌, ◌==◌, ◌⊎◌, ℕ, Bool, true, IsTrue, List, [], ◌∷◌, ◌++◌, Option, Some, None, codes, length}
+use Rattle.std.specs.Prelude.{◌≡◌, ◌≢◌, ◌≤◌, ◌+◌, ◌==◌, ◌&&◌, ◌||◌, ◌⊎◌, ℕ, Bool, true, IsTrue, List, [], ◌∷◌, ◌++◌, Option, Some, None, codes, length}
 use Rattle.std.specs.List.{concat}
 use Rattle.json.specs.Print.{print}
 use Rattle.am_cli.specs.Bytes.{Breaks}
@@ -19,16 +19,20 @@ use Rattle.am_dispatch.specs.declared.fault.ServeFault.TheVariants as serve
 use Rattle.am_dispatch.specs.declared.session.Session.{Session}
 use Rattle.am_dispatch.specs.declared.ticket.TheConstants.{BOARD_ID}
 
--- whether a line is empty, or a comment
+-- whether a line of so many bytes is a comment, or a carriage return alone, by its first byte
+abbrev pub begins_remark : ℕ → ℕ → Bool
+begins_remark byte count = (byte == 35) || ((byte == 13) && (count == 1))
+
+-- whether a line is empty, but for the carriage return of a line end of two bytes, or a comment
 abbrev pub is_remark : List ℕ → Bool
 is_remark [] = true
-is_remark (b ∷ line) = b == 35
+is_remark (b ∷ line) = begins_remark b (length (b ∷ line))
 
 -- the session has the board that is asked for, which is new, and the text says so
 pub record IsOpenedBy (opening : Opening) (text : List ℕ) (new : Session) : Type 0 where
   pub board : new.board ≡ opening_board opening.config BOARD_ID
   pub tickets : new.tickets.items ≡ []
-  pub answered : text ≡ print (opened_tokens opening.ignored) ++ 10 ∷ []
+  pub answered : text ≡ print (opened_tokens opening.config opening.ignored) ++ 10 ∷ []
 
 -- the line asks for a board, and the session has it
 abbrev pub Opened : List ℕ → List ℕ → Session → Type 0

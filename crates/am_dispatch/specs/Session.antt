@@ -15,6 +15,7 @@ use Rattle.am_model.specs.declared.record.Record.{Record}
 use Rattle.am_model.specs.declared.record.Reply.{Reply}
 use Rattle.am_model.specs.declared.record.Reply.TheVariants as reply
 use Rattle.am_model.specs.Begin.{next_due}
+use Rattle.am_model.specs.Causes.{insert_cause}
 use Rattle.am_model.specs.declared.views.RowView.{RowView}
 use Rattle.am_model.specs.Records.{call_of_silence, entry, IsNoteOf}
 use Rattle.am_model.specs.Replay.{IsLegal}
@@ -24,22 +25,28 @@ use Rattle.am_model.specs.Views.{group_views, row_views, summary, summary_data}
 use Rattle.am_model.specs.look_back.Preview.{preview}
 use Rattle.am_board.specs.declared.begin.Begun.{Begun}
 use Rattle.am_board.specs.declared.begin.Begun.TheVariants as begun
-use Rattle.am_board.specs.History.{BoardData, IsFresh, IsReplyAt, handed_out, kept_of, opening as opening_board}
+use Rattle.am_board.specs.History.{BoardData, IsFresh, IsReplyAt, handed_out, kept_of, opening as opening_board, records_at}
 use Rattle.am_board.specs.History.{reply_of, state_at, with_record}
 use Rattle.am_lines.specs.declared.fault.LineFault.{LineFault}
 use Rattle.am_lines.specs.declared.fault.LineFault.TheVariants as fault
 use Rattle.am_lines.specs.declared.request.Finishing.{Finishing}
+use Rattle.am_lines.specs.declared.inserts.InsertEnd.{InsertEnd}
+use Rattle.am_lines.specs.declared.inserts.InsertEnd.TheVariants.{Made, Refused}
+use Rattle.am_lines.specs.declared.request.ListedInsert.{ListedInsert}
+use Rattle.am_lines.specs.declared.request.ListedInsert.TheVariants as listed_insert
 use Rattle.am_lines.specs.declared.request.Loading.{Loading}
 use Rattle.am_lines.specs.declared.request.Noting.{Noting}
 use Rattle.am_lines.specs.declared.request.Reporting.{Reporting}
 use Rattle.am_lines.specs.declared.request.Opening.{Opening}
 use Rattle.am_lines.specs.declared.request.Request.{Request}
 use Rattle.am_lines.specs.declared.request.Request.TheVariants as request
+use Rattle.am_lines.specs.Fault.{IsOfInput}
+use Rattle.am_lines.specs.Inserts.{insert_end_tokens}
 use Rattle.am_lines.specs.Record.{record_tokens}
 use Rattle.am_lines.specs.Reply.{named, opened_tokens, reply_tokens}
 use Rattle.am_lines.specs.Request.{IsRequestIn}
 use Rattle.am_lines.specs.View.{due_tokens, group_view_tokens, listed, outlook_tokens, row_tokens, summary_tokens}
-use Rattle.am_dispatch.specs.Refusal.{IsCauseOf}
+use Rattle.am_dispatch.specs.Refusal.{AnswersCause, IsCauseOf}
 use Rattle.am_dispatch.specs.Row.{row_named}
 use Rattle.am_dispatch.specs.Ticket.{IsFirst, IsNoticeAt, IsRecordedAt, ticket_tokens}
 use Rattle.am_dispatch.specs.declared.session.Session.{Session}
@@ -107,6 +114,33 @@ pub record Loads (old new : Session) (l : Loading) (before after : List Token) :
   pub is : row_named old.board.config l.row ≡ Some row
   pub makes : Makes old new (call.Load l.now row) before after
 
+-- one of several inserts, and what becomes of it: the board makes it, or refuses it and all is as it was; a value that was refused
+-- when it was read changes nothing
+abbrev pub InsertsOne : Session → ListedInsert → InsertEnd → Session → Type 0
+InsertsOne old (listed_insert.Read x) (Made inserted) new =
+    IsReplyAt old.board (call.Insert x.now x.alert) (reply.Inserted inserted)
+    × (new.board ≡ with_record old.board (entry 0 (call.Insert x.now x.alert) (reply.Inserted inserted)))
+    × (new.tickets.items ≡ old.tickets.items)
+InsertsOne old (listed_insert.Read x) (Refused f) new =
+    IsSame old new
+    × AnswersCause (codes "/inserts") (insert_cause old.board.config (records_at old.board) (state_at old.board) x.alert) f
+InsertsOne old (listed_insert.Refused cause) (Made inserted) new = ⊥
+InsertsOne old (listed_insert.Refused cause) (Refused f) new = IsSame old new × IsOfInput cause f
+
+-- several inserts, and what becomes of each: one after the other, as if each came in a line of its own. So one that is refused refuses
+-- no other
+abbrev pub InsertsEach : Session → List ListedInsert → List InsertEnd → Session → Type 0
+InsertsEach old [] [] new = IsSame old new
+InsertsEach old [] (end ∷ ends) new = ⊥
+InsertsEach old (insert ∷ inserts) [] new = ⊥
+InsertsEach old (insert ∷ inserts) (end ∷ ends) new =
+    (mid : Session) × InsertsOne old insert end mid × InsertsEach mid inserts ends new
+
+-- they are made, and the answer says what became of each
+abbrev pub InsertsAll : Session → List ListedInsert → Session → List Token → List Token → Type 0
+InsertsAll old inserts new before after =
+    (ends : List InsertEnd) × InsertsEach old inserts ends new × (after ≡ before ++ listed (codes "inserts") insert_end_tokens ends)
+
 -- a view changes nothing, and the answer says these
 abbrev pub Shows : Session → Session → List Token → List Token → List Token → Type 0
 Shows old new tokens before after = IsSame old new × (after ≡ before ++ tokens)
@@ -134,13 +168,14 @@ Takes old new text = HandsOut old new × (text ≡ print (taken_tokens old.board
 -- a new board in the place of the old one
 abbrev pub Opens : Session → Opening → List Token → List Token → Type 0
 Opens new opening before after =
-    (new.board ≡ opening_board opening.config BOARD_ID) × (new.tickets.items ≡ []) × (after ≡ before ++ opened_tokens opening.ignored)
+    (new.board ≡ opening_board opening.config BOARD_ID) × (new.tickets.items ≡ []) × (after ≡ before ++ opened_tokens opening.config opening.ignored)
 
 -- the session does what is asked, and the answer says it
 abbrev pub Does : Session → Request → Session → List Token → List Token → Type 0
 Does old (request.Open opening) new before after = Opens new opening before after
 Does old (request.Insert x) new before after =
     Makes old new (call.Insert x.now x.alert) before after × (new.tickets.items ≡ old.tickets.items)
+Does old (request.Inserts xs) new before after = InsertsAll old xs.items new before after
 Does old (request.Silence x) new before after =
     Makes old new (call_of_silence x.now x.silence) before after × (new.tickets.items ≡ old.tickets.items)
 Does old (request.Begin x) new before after = Begins old new x.now before after

@@ -2,13 +2,16 @@
 //!
 //! It reads one JSON object a line from standard input, makes the call of a board that the line says, and writes the reply as
 //! one JSON object a line to standard output, before it reads the next. docs/dispatch.md has all lines and answers. It has no
-//! thread and no clock: times are in the lines. It draws a seed for the hashes of its boards at its start.
+//! thread and no clock: times are in the lines. It draws a seed for the hashes of its boards at its start. Its only arguments
+//! are `--help` and `--version`.
 //!
-//! - `serve` reads lines and writes answers. `session` has the board and the tickets of its open flushes, and makes the calls.
+//! - `arguments` has the command line. `serve` reads lines and writes answers. `session` has the board and the tickets of its
+//!   open flushes, and makes the calls.
 //! - `ticket` records reports and writes what is open, `row` has the rows of the log that are loaded. `fault` has the statuses
 //!   with which the program ends.
 #![tactic(auto)]
 
+mod arguments;
 mod fault;
 mod row;
 mod serve;
@@ -17,21 +20,69 @@ mod ticket;
 
 use am_cli::device::{StandardInput, StandardOutput};
 use am_seed::Seed;
+use arguments::read_arguments;
+use clap::error::ErrorKind;
 use serve::serve;
 use std::process::ExitCode;
+use std::{env, io};
+
+/// The status where the system has no random numbers.
+const NO_RANDOM_NUMBERS: u8 = 1;
+
+/// The status where the command line is rejected.
+const REJECTED: u8 = 2;
+
+/// The status where memory is refused before the first line.
+const NO_MEMORY: u8 = 3;
 
 fn main(rt: HostRuntime) -> ExitCode {
-    let Ok(seed) = Seed::draw(&rt) else {
+    ExitCode::from(run(&rt))
+}
+
+/// Does what the command line asks for, and returns the status.
+fn run(rt: &HostRuntime) -> u8 {
+    let words = match words_of(rt) {
+        Ok(words) => words,
+        Err(fault) if fault.kind() == io::ErrorKind::OutOfMemory => {
+            let _ = eprintln!(rt; "am-dispatch: no memory");
+            return NO_MEMORY;
+        }
+        Err(_) => {
+            let _ = eprintln!(rt; "am-dispatch: a word of the command line isn't UTF-8");
+            return REJECTED;
+        }
+    };
+    match read_arguments(rt.alloc(), words.as_slice()) {
+        Ok(()) => serve_lines(rt),
+        Err(refused) => {
+            let _ = refused.print(rt);
+            match refused.kind() {
+                ErrorKind::DisplayHelp | ErrorKind::DisplayVersion => 0,
+                ErrorKind::OutOfMemory => NO_MEMORY,
+                _ => REJECTED,
+            }
+        }
+    }
+}
+
+/// Returns the words of the command line, the program's name first.
+fn words_of(rt: &HostRuntime) -> io::Result<Vec<String>> {
+    Ok(env::args(rt)?.collect(rt.alloc())?)
+}
+
+/// Answers the lines of standard input, and returns the status.
+fn serve_lines(rt: &HostRuntime) -> u8 {
+    let Ok(seed) = Seed::draw(rt) else {
         let _ = eprintln!(rt; "am-dispatch: no random numbers");
-        return ExitCode::from(1);
+        return NO_RANDOM_NUMBERS;
     };
     let mut input = StandardInput::new(rt.stdin());
     let mut output = StandardOutput::new(rt.stdout());
     match serve(rt.alloc(), seed, &mut input, &mut output) {
-        Ok(()) => ExitCode::SUCCESS,
+        Ok(()) => 0,
         Err(fault) => {
             let _ = eprintln!(rt; "am-dispatch: {fault}");
-            ExitCode::from(fault.status())
+            fault.status()
         }
     }
 }

@@ -8,7 +8,7 @@ ghost use Rattle.am_cli.specs.Bytes.{Breaks};
 ghost use Rattle.am_lines.specs.Fault.{AnswersFault, fault_line};
 ghost use Rattle.am_lines.specs.Lines.{IsRead, end_count};
 ghost use Rattle.am_dispatch.specs.Refusal.{IsCauseOfUnopened};
-ghost use Rattle.am_dispatch.specs.Serve.{AnswersLine, IsOpenedBy, OpensNone, Opened, Sends, Served, ServesAll, Stops, is_remark};
+ghost use Rattle.am_dispatch.specs.Serve.{AnswersLine, IsOpenedBy, OpensNone, Opened, Sends, Served, ServesAll, Stops, begins_remark, is_remark};
 ghost use Rattle.am_dispatch.specs.Session.{IsAnswered, IsRequest, IsAnswerTo, IsUnread, Leaves, Refuses};
 ghost use Rattle.am_dispatch.specs.declared.session.Session.{Session};
 
@@ -186,8 +186,15 @@ fn is_remark(line: &[u8]) -> bool
 {
     match line.first() {
         None => true,
-        Some(byte) => *byte == b'#',
+        Some(byte) => begins_remark(*byte, line.len()),
     }
+}
+
+/// Whether a line of so many bytes is a comment, or a carriage return alone, by its first byte.
+fn begins_remark(byte: u8, length: usize) -> bool
+    ensures { result ≡ begins_remark byte length }
+{
+    byte == b'#' || (byte == b'\r' && length == 1)
 }
 
 /// Writes a line as it is.
@@ -256,7 +263,7 @@ fn open_session(
 {
     let Opening { config, ignored } = opening;
     let mut answer = Answer::new(alloc);
-    write_opened(&ignored, &mut answer)?;
+    write_opened(&config, &ignored, &mut answer)?;
     let line = answer.into_line()?;
     Ok((Session::open(alloc, seed, config)?, line))
 }

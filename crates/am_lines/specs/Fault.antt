@@ -20,6 +20,7 @@ use Rattle.am_lines.specs.declared.fault.LineFault.{LineFault}
 use Rattle.am_lines.specs.declared.fault.LineFault.TheVariants as fault
 use Rattle.am_lines.specs.Answer.{number_member, text_member}
 use Rattle.am_lines.specs.Reply.{named}
+use Rattle.am_lines.specs.Wanted.{refusal_message}
 
 -- the kind of a refused value, as the readers of files name it
 abbrev pub refusal_kind : FaultKind → List ℕ
@@ -29,14 +30,6 @@ refusal_kind refusal.BadValue = codes "value"
 refusal_kind refusal.Unknown = codes "unknown"
 refusal_kind refusal.Full = codes "full"
 refusal_kind refusal.Unsupported = codes "unsupported"
-
-abbrev pub refusal_message : FaultKind → List ℕ
-refusal_message refusal.Missing = codes "this member is missing"
-refusal_message refusal.WrongType = codes "another type of JSON value is wanted here; numbers are whole, from 0 on"
-refusal_message refusal.BadValue = codes "the value isn't accepted: docs/dispatch.md has what is wanted where"
-refusal_message refusal.Unknown = codes "no member of this name is known here"
-refusal_message refusal.Full = codes "there is no room for this"
-refusal_message refusal.Unsupported = codes "this can't be reproduced exactly"
 
 -- where in the line a fault is, as a JSON pointer
 abbrev pub pointer_of : LineFault → List ℕ
@@ -65,7 +58,7 @@ message_of fault.TooLong = codes "the line has more than 16,777,216 bytes"
 message_of fault.NoMemory = codes "out of memory"
 message_of fault.Untold = codes "the call was made, and there was no memory to write its answer"
 message_of fault.Spent = codes "no open flush has this ticket"
-message_of (fault.Refused pointer kind) = refusal_message kind
+message_of (fault.Refused pointer kind) = refusal_message (string_bytes pointer) kind
 message_of (fault.NotMade pointer kind message) = message.now
 
 -- the column of what isn't JSON

@@ -1,7 +1,9 @@
 pub mod Answer
 pub mod Fault
+pub mod Inserts
 pub mod Lines
 pub mod Record
 pub mod Reply
 pub mod Request
 pub mod View
+pub mod Wanted

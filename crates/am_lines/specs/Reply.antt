@@ -1,6 +1,8 @@
 -- Reply: the JSON tokens of the answers that say a board's replies.
 use Rattle.std.specs.Prelude.{ℕ, Bool, List, [], ◌∷◌, ◌++◌, codes, if◌then◌else◌}
 use Rattle.json.specs.Token.{Token, begin_array, end_array, key, string}
+use Rattle.am_alerts.specs.RoutingTree.{RoutingTree, routes_in}
+use Rattle.am_alerts.specs.declared.route.Route.{Route}
 use Rattle.am_config.specs.declared.dropped.IgnoredSettings.{IgnoredSettings}
 use Rattle.am_model.specs.declared.config.Config.{Config}
 use Rattle.am_model.specs.declared.group.GroupName.{GroupName}
@@ -68,9 +70,21 @@ ignored_tokens x =
     name_if x.global (codes "global") ++ name_if x.tracing (codes "tracing") ++ name_if x.templates (codes "templates")
     ++ name_if x.time_intervals (codes "time_intervals") ++ name_if x.settings (codes "settings")
 
--- a configuration
-abbrev pub opened_tokens : IgnoredSettings → List Token
-opened_tokens x = named (codes "opened") (key (codes "ignored") ∷ begin_array ∷ ignored_tokens x ++ end_array ∷ [])
+-- which settings are ignored
+abbrev pub ignored_members : IgnoredSettings → List Token
+ignored_members x = key (codes "ignored") ∷ begin_array ∷ ignored_tokens x ++ end_array ∷ []
+
+-- the name of a route
+abbrev pub route_name_tokens : Route → List Token
+route_name_tokens route = string route.name ∷ []
+
+-- the names of the routes, by their positions: the root is at position 0, each other route before those below it
+abbrev pub routes_members : RoutingTree → List Token
+routes_members tree = key (codes "routes") ∷ array route_name_tokens (routes_in tree)
+
+-- a configuration: what of it is ignored, and its routes
+abbrev pub opened_tokens : Config → IgnoredSettings → List Token
+opened_tokens config x = named (codes "opened") (ignored_members x ++ routes_members config.routes)
 
 -- a board's reply to a call
 abbrev pub reply_tokens : Config → Reply → List Token

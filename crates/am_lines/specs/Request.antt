@@ -1,12 +1,13 @@
 -- Request: what a line asks, a line for each member.
-use Rattle.std.specs.Prelude.{◌≡◌, ◌≢◌, ◌⊎◌, ℕ, List, Option, Some, None, IsSomeAnd, codes, if◌then◌else◌, is_some}
+use Rattle.std.specs.Prelude.{◌≡◌, ◌≢◌, ◌<◌, ◌⊎◌, ℕ, List, [], ◌∷◌, Option, Some, None, IsSomeAnd, IsTrue, codes, if◌then◌else◌, is_some}
 use Rattle.serde_json.specs.Data.{Data, Members, no_members, member}
 use Rattle.serde_json.specs.Find.{as_null, as_object, as_str, get_member}
-use Rattle.am_alerts.specs.AlertData.{alert_of}
+use Rattle.am_alerts.specs.AlertData.{alert_fault, alert_of}
 use Rattle.am_alerts.specs.declared.labels.Label.{Label}
+use Rattle.am_alerts.specs.declared.limits.TheConstants.{MAX_TIME}
 use Rattle.am_cli.specs.Configured.{DecodesToConfig, DecodesToLabels, DecodesToMatcher}
 use Rattle.am_cli.specs.Decoding.{IsList, IsNumber, IsText, Has, HasIf, HasOr}
-use Rattle.am_cli.specs.Read.{number_in, duration_in}
+use Rattle.am_cli.specs.Read.{has_only, number_in, duration_in}
 use Rattle.am_cli.specs.declared.reader.Mode.{Mode}
 use Rattle.am_config.specs.IgnoredSettings.{nothing}
 use Rattle.am_retry.specs.declared.outcome.Outcome.{Outcome}
@@ -14,6 +15,8 @@ use Rattle.am_retry.specs.declared.outcome.Outcome.TheVariants.{Delivered, Refus
 use Rattle.am_model.specs.Config.{config_fault}
 use Rattle.am_lines.specs.declared.request.Finishing.{Finishing}
 use Rattle.am_lines.specs.declared.request.Insertion.{Insertion}
+use Rattle.am_lines.specs.declared.request.ListedInsert.{ListedInsert}
+use Rattle.am_lines.specs.declared.request.ListedInsert.TheVariants as listed
 use Rattle.am_lines.specs.declared.request.Loading.{Loading}
 use Rattle.am_lines.specs.declared.request.NamedGroup.{NamedGroup}
 use Rattle.am_lines.specs.declared.request.NamedRow.{NamedRow}
@@ -32,6 +35,10 @@ time_in value = if is_some (as_str value) then duration_in value else number_in 
 -- a time
 abbrev pub IsTime : Data → ℕ → Type 0
 IsTime value time = time_in value ≡ Some time
+
+-- the time of a call, which is before the greatest: at that a board's clock would stay
+abbrev pub IsNow : Data → ℕ → Type 0
+IsNow value now = IsTime value now × (now < MAX_TIME)
 
 -- a time, or `null` for none
 abbrev pub IsEnd : Data → Option ℕ → Type 0
@@ -52,13 +59,18 @@ IsOutcome value outcome = as_str value ≡ Some (outcome_word outcome)
 pub record DecodesToTimed (value : Data) (timed : Timed) : Type 0 where
   pub members : Members
   pub object : as_object value ≡ Some members
-  pub now : Has IsTime (codes "now") members timed.now
+  pub now : Has IsNow (codes "now") members timed.now
+
+-- the names of the arguments of an insert
+abbrev pub insertion_names : List (List ℕ)
+insertion_names = codes "now" ∷ codes "labels" ∷ codes "starts" ∷ codes "ends" ∷ []
 
 -- an alert; without `starts` it starts at the time of the call, without `ends` it has no end
 pub record DecodesToInsertion (mode : Mode) (value : Data) (insertion : Insertion) : Type 0 where
   pub members : Members
   pub object : as_object value ≡ Some members
-  pub now : Has IsTime (codes "now") members insertion.now
+  pub only : IsTrue (has_only mode insertion_names members)
+  pub now : Has IsNow (codes "now") members insertion.now
   pub labels : List Label
   pub has_labels : Has (DecodesToLabels mode) (codes "labels") members labels
   pub starts : ℕ
@@ -66,12 +78,18 @@ pub record DecodesToInsertion (mode : Mode) (value : Data) (insertion : Insertio
   pub ends : Option ℕ
   pub has_ends : HasOr IsEnd None (codes "ends") members ends
   pub is : insertion.alert ≡ alert_of labels starts ends
+  pub sound : alert_fault insertion.alert ≡ None
+
+-- one of several inserts: an alert, or a value that is refused
+abbrev pub DecodesToListed : Mode → Data → ListedInsert → Type 0
+DecodesToListed mode value (listed.Read insertion) = DecodesToInsertion mode value insertion
+DecodesToListed mode value (listed.Refused fault) = Unit {0}
 
 -- a silence; without `starts` it starts at the time of the call
 pub record DecodesToSilencing (mode : Mode) (value : Data) (silencing : Silencing) : Type 0 where
   pub members : Members
   pub object : as_object value ≡ Some members
-  pub now : Has IsTime (codes "now") members silencing.now
+  pub now : Has IsNow (codes "now") members silencing.now
   pub id : Has IsNumber (codes "id") members silencing.silence.id
   pub matchers : Has (IsList (DecodesToMatcher mode)) (codes "matchers") members silencing.silence.matchers
   pub starts : HasOr IsTime silencing.now (codes "starts") members silencing.silence.start
@@ -87,14 +105,14 @@ pub record DecodesToReporting (value : Data) (reporting : Reporting) : Type 0 wh
 pub record DecodesToNoting (value : Data) (noting : Noting) : Type 0 where
   pub members : Members
   pub object : as_object value ≡ Some members
-  pub now : Has IsTime (codes "now") members noting.now
+  pub now : Has IsNow (codes "now") members noting.now
   pub ticket : Has IsNumber (codes "ticket") members noting.ticket
   pub integration : Has IsNumber (codes "integration") members noting.integration
 
 pub record DecodesToFinishing (value : Data) (finishing : Finishing) : Type 0 where
   pub members : Members
   pub object : as_object value ≡ Some members
-  pub now : Has IsTime (codes "now") members finishing.now
+  pub now : Has IsNow (codes "now") members finishing.now
   pub ticket : Has IsNumber (codes "ticket") members finishing.ticket
 
 -- the labels of a group: an object without members for none
@@ -125,7 +143,7 @@ pub record DecodesToRow (mode : Mode) (value : Data) (row : NamedRow) : Type 0 w
 pub record DecodesToLoading (mode : Mode) (value : Data) (loading : Loading) : Type 0 where
   pub members : Members
   pub object : as_object value ≡ Some members
-  pub now : Has IsTime (codes "now") members loading.now
+  pub now : Has IsNow (codes "now") members loading.now
   pub row : Has (DecodesToRow mode) (codes "row") members loading.row
 
 -- a configuration of our own, of which nothing is ignored, or one of Alertmanager, of which no more is said than that a board may have it
@@ -139,6 +157,7 @@ IsOpening mode members opening =
 abbrev pub IsRequestOf : Mode → Members → Request → Type 0
 IsRequestOf mode members (request.Open opening) = IsOpening mode members opening
 IsRequestOf mode members (request.Insert x) = Has (DecodesToInsertion mode) (codes "insert") members x
+IsRequestOf mode members (request.Inserts xs) = Has (IsList (DecodesToListed mode)) (codes "inserts") members xs.items
 IsRequestOf mode members (request.Silence x) = Has (DecodesToSilencing mode) (codes "silence") members x
 IsRequestOf mode members (request.Begin x) = Has DecodesToTimed (codes "begin") members x
 IsRequestOf mode members (request.Report x) = Has DecodesToReporting (codes "report") members x

@@ -2,10 +2,11 @@
 ghost use Rattle.std.specs.Prelude.{◌≡◌, ◌++◌, IfSome, IsTrue, None, OnOk, codes};
 ghost use Rattle.am_lines.specs.Fault.{changes_nothing, IsOfBoard, IsOfLoad, IsOfNote, IsOfReport, IsRefusedAs};
 ghost use Rattle.am_lines.specs.Fault.{fault_line, fault_tokens, kind_of, column_member, message_of, pointer_of};
-ghost use Rattle.am_lines.specs.Fault.{refusal_kind, refusal_message};
+ghost use Rattle.am_lines.specs.Fault.{refusal_kind};
 
 use crate::answer::Answer;
 use crate::reply::{begin, end};
+use crate::wanted::refusal_message;
 use am_cli::fault::{FaultKind, InputFault, ParseFault};
 use am_model::fault::{Fault, LoadFault, NoteFault, ReportFault};
 use std::alloc::AllocError;
@@ -281,31 +282,27 @@ impl LineFault {
             ),
             LineFault::Spent => ("NotOpen", "no open flush has this ticket"),
             LineFault::Refused {
-                pointer: _,
+                pointer,
                 fault_kind,
-            } => refusal_words(*fault_kind),
+            } => (
+                refusal_kind(*fault_kind),
+                refusal_message(pointer.as_str(), *fault_kind),
+            ),
             LineFault::NotMade { kind, message, .. } => (kind, message),
         }
     }
 }
 
-/// The kind is named as the readers of files name it.
-fn refusal_words(fault_kind: FaultKind) -> (&'static str, &'static str)
-    ensures kind { result.0.now ≡ refusal_kind fault_kind }
-    ensures message { result.1.now ≡ refusal_message fault_kind }
+/// Returns a kind's name, which is as the readers of files name it.
+fn refusal_kind(fault_kind: FaultKind) -> &'static str
+    ensures { result.now ≡ refusal_kind fault_kind }
 {
     match fault_kind {
-        FaultKind::Missing => ("missing", "this member is missing"),
-        FaultKind::WrongType => (
-            "kind",
-            "another type of JSON value is wanted here; numbers are whole, from 0 on",
-        ),
-        FaultKind::BadValue => (
-            "value",
-            "the value isn't accepted: docs/dispatch.md has what is wanted where",
-        ),
-        FaultKind::Unknown => ("unknown", "no member of this name is known here"),
-        FaultKind::Full => ("full", "there is no room for this"),
-        FaultKind::Unsupported => ("unsupported", "this can't be reproduced exactly"),
+        FaultKind::Missing => "missing",
+        FaultKind::WrongType => "kind",
+        FaultKind::BadValue => "value",
+        FaultKind::Unknown => "unknown",
+        FaultKind::Full => "full",
+        FaultKind::Unsupported => "unsupported",
     }
 }

@@ -2,11 +2,13 @@
 //!
 //! - `lines` finds the lines in what is given. `request` reads what a line asks.
 //! - `answer` is the JSON text of an answer; contracts see its tokens. `parts`, `reply`, `view` and `record` write what the
-//!   board's replies, views and records say, `fault` why a line is refused.
+//!   board's replies, views and records say, `fault` why a line is refused, `wanted` what it has to be, and
+//!   `inserts` what became of several inserts of one line.
 #![tactic(auto)]
 
 pub mod answer;
 pub mod fault;
+pub mod inserts;
 pub mod lines;
 mod parts;
 pub mod record;
@@ -14,3 +16,4 @@ pub mod reply;
 pub mod request;
 mod time;
 pub mod view;
+mod wanted;

@@ -1,11 +1,13 @@
 //! The answers that say a board's replies to its calls. `am_dispatch` calls it.
 ghost use Rattle.std.specs.Prelude.{◌≡◌, ◌++◌, ◌∷◌, [], OnOk};
+ghost use Rattle.std.specs.List.{flat_map};
 ghost use Rattle.json.specs.Token.{begin_object, end_object, key};
-ghost use Rattle.am_lines.specs.Reply.{counts_tokens, flush_members, flush_tokens, ignored_tokens, inserted_tokens};
-ghost use Rattle.am_lines.specs.Reply.{loaded_tokens, loaded_word};
+ghost use Rattle.am_lines.specs.Reply.{counts_tokens, flush_members, flush_tokens, ignored_members, ignored_tokens, inserted_tokens};
+ghost use Rattle.am_lines.specs.Reply.{loaded_tokens, loaded_word, route_name_tokens, routes_members};
 ghost use Rattle.am_lines.specs.Reply.{name_if, named, opened_tokens, quiet_tokens, reply_tokens, silenced_tokens};
 
 use crate::answer::Answer;
+use am_alerts::route::{Child, Routes};
 use am_config::dropped::IgnoredSettings;
 use am_model::config::Config;
 use am_model::group::GroupName;
@@ -72,7 +74,7 @@ pub(crate) fn end(answer: &mut Answer) -> Result<(), AllocError>
     answer.close()
 }
 
-fn write_inserted(inserted: &Inserted, answer: &mut Answer) -> Result<(), AllocError>
+pub(crate) fn write_inserted(inserted: &Inserted, answer: &mut Answer) -> Result<(), AllocError>
     ensures { OnOk result (answer.new ≡ answer.old ++ inserted_tokens inserted.now) }
 {
     begin("inserted", answer)?;
@@ -199,16 +201,48 @@ fn loaded_word(loaded: Loaded) -> &'static str
     }
 }
 
-/// Writes that a board was opened, and which settings of its configuration are ignored.
-pub fn write_opened(ignored: &IgnoredSettings, answer: &mut Answer) -> Result<(), AllocError>
-    ensures { OnOk result (answer.new ≡ answer.old ++ opened_tokens ignored.now) }
+/// Writes that a board was opened, which settings of its configuration are ignored, and the names of its routes.
+pub fn write_opened(
+    config: &Config,
+    ignored: &IgnoredSettings,
+    answer: &mut Answer,
+) -> Result<(), AllocError>
+    ensures { OnOk result (answer.new ≡ answer.old ++ opened_tokens config.now ignored.now) }
 {
     begin("opened", answer)?;
+    put_ignored(ignored, answer)?;
+    put_routes(&config.routes, answer)?;
+    end(answer)
+}
+
+/// Adds which settings are ignored.
+fn put_ignored(ignored: &IgnoredSettings, answer: &mut Answer) -> Result<(), AllocError>
+    ensures { OnOk result (answer.new ≡ answer.old ++ ignored_members ignored.now) }
+{
     answer.key("ignored")?;
     answer.open_list()?;
     write_ignored(ignored, answer)?;
-    answer.close_list()?;
-    end(answer)
+    answer.close_list()
+}
+
+/// Adds the names of the routes, by their positions.
+fn put_routes(routes: &Routes, answer: &mut Answer) -> Result<(), AllocError>
+    ensures { OnOk result (answer.new ≡ answer.old ++ routes_members routes.now) }
+{
+    answer.key("routes")?;
+    answer.open_list()?;
+    answer.text(routes.root().name.as_str())?;
+    add_names(routes.children(), answer)?;
+    answer.close_list()
+}
+
+fn add_names(children: &[Child], answer: &mut Answer) -> Result<(), AllocError>
+    ensures { OnOk result (answer.new ≡ answer.old ++ flat_map (λ c. route_name_tokens c.route) children.now) }
+{
+    for child in children {
+        answer.text(child.route.name.as_str())?;
+    }
+    Ok(())
 }
 
 fn write_ignored(ignored: &IgnoredSettings, answer: &mut Answer) -> Result<(), AllocError>

@@ -1,17 +1,17 @@
 //! What a line asks, and how it is read. `am_dispatch` calls `read_request`.
 //!
 //! A line is an object with one member. The member's name is that of a call, and its value has the arguments.
-ghost use Rattle.std.specs.Prelude.{◌≡◌, IfOk, IsOkAnd, IsTrue, Some, codes};
+ghost use Rattle.std.specs.Prelude.{◌≡◌, IfOk, IsOkAnd, IsTrue, None, Some, codes};
 ghost use Rattle.serde_json.specs.Data.{no_members};
 ghost use Rattle.serde_json.specs.Find.{as_object};
 ghost use Rattle.serde_json.specs.View.{members_view, view};
-ghost use Rattle.am_alerts.specs.AlertData.{alert_of};
+ghost use Rattle.am_alerts.specs.AlertData.{alert_fault, alert_of};
 ghost use Rattle.am_cli.specs.Configured.{DecodesToLabels, DecodesToMatcher};
 ghost use Rattle.am_cli.specs.Decoding.{Has, HasIf, IsList, IsNumber, IsText};
 ghost use Rattle.am_mute.specs.Silence.{silence_of};
-ghost use Rattle.am_lines.specs.Request.{IsGroupLabels, HasOneMember, IsOpening, IsOutcome, IsRequestIn, IsRequestOf, outcome_word};
+ghost use Rattle.am_lines.specs.Request.{DecodesToListed, IsGroupLabels, HasOneMember, IsOpening, IsOutcome, IsRequestIn, IsRequestOf, outcome_word};
 
-use crate::time::{ends, time_at, time_or};
+use crate::time::{ends, now_at, time_at, time_or};
 use am_alerts::alert::{Alert, AlertFault};
 use am_alerts::labels::Labels;
 use am_alerts::limits::{MAX_MATCHERS, MAX_TIME};
@@ -38,6 +38,8 @@ pub enum Request {
     /// A new board, in the place of the one before.
     Open(Opening),
     Insert(Insertion),
+    /// Several alerts, one after the other, each as in a line of its own.
+    Inserts(Vec<ListedInsert>),
     Silence(Silencing),
     Begin(Timed),
     Report(Reporting),
@@ -72,6 +74,14 @@ pub struct Opening {
 pub struct Insertion {
     pub now: u64,
     pub alert: Alert,
+}
+
+/// One of several inserts.
+#[derive(Drop)]
+pub enum ListedInsert {
+    Read(Insertion),
+    /// It is refused, for this fault, and refuses no other.
+    Refused(InputFault),
 }
 
 /// A silence to be set, at this time in milliseconds.
@@ -167,6 +177,7 @@ fn read_call(line: &Object<'_, '_>, name: &str) -> Result<Request, InputFault>
         "config" => Ok(Request::Open(read_own(line)?)),
         "alertmanager" => Ok(Request::Open(read_theirs(line)?)),
         "insert" => Ok(Request::Insert(member(line, "insert")?)),
+        "inserts" => Ok(Request::Inserts(listed_inserts(line)?)),
         "silence" => Ok(Request::Silence(member(line, "silence")?)),
         "begin" => Ok(Request::Begin(member(line, "begin")?)),
         "report" => Ok(Request::Report(member(line, "report")?)),
@@ -294,7 +305,7 @@ impl<'v> FromJson<'v> for Timed {
         let call = reader.object()?;
         call.only(&["now"])?;
         Ok(Timed {
-            now: time_at(&call, "now")?,
+            now: now_at(&call)?,
         })
     }
 }
@@ -307,12 +318,34 @@ impl<'v> FromJson<'v> for Insertion {
     fn read(reader: &Reader<'v, '_>) -> Result<Insertion, InputFault> {
         let call = reader.object()?;
         call.only(&["now", "labels", "starts", "ends"])?;
-        let now = time_at(&call, "now")?;
+        let now = now_at(&call)?;
         let starts = time_or(&call, "starts", now)?;
         let ends = ends(&call)?;
         let labels = member(&call, "labels")?;
         let alert = make_alert(reader, labels, starts, ends)?;
         Ok(Insertion { now, alert })
+    }
+}
+
+/// Reads several inserts, the member `inserts`. The line is refused only where that is no array.
+fn listed_inserts(line: &Object<'_, '_>) -> Result<Vec<ListedInsert>, InputFault>
+    ensures { IfOk result (λ inserts. Has (IsList (DecodesToListed line.now.mode)) (codes "inserts")
+        (members_view line.now.members) inserts.items) }
+{
+    let inserts = line.required("inserts")?.list::<ListedInsert>()?;
+    Ok(inserts)
+}
+
+impl<'v> FromJson<'v> for ListedInsert {
+    ghost use Rattle.am_lines.specs.Request.{DecodesToListed};
+
+    ghost decodes_to = { λ mode value insert. DecodesToListed mode value insert };
+
+    fn read(reader: &Reader<'v, '_>) -> Result<ListedInsert, InputFault> {
+        match Insertion::read(reader) {
+            Ok(insertion) => Ok(ListedInsert::Read(insertion)),
+            Err(fault) => Ok(ListedInsert::Refused(fault)),
+        }
     }
 }
 
@@ -323,7 +356,8 @@ fn make_alert(
     starts: u64,
     ends: Option<u64>,
 ) -> Result<Alert, InputFault>
-    ensures { IfOk result (λ alert. alert ≡ alert_of labels starts ends) }
+    ensures alert { IfOk result (λ alert. alert ≡ alert_of labels starts ends) }
+    ensures sound { IfOk result (λ alert. alert_fault alert ≡ None) }
 {
     match Alert::new(labels, starts, ends) {
         Ok(alert) => Ok(alert),
@@ -348,7 +382,7 @@ impl<'v> FromJson<'v> for Silencing {
     fn read(reader: &Reader<'v, '_>) -> Result<Silencing, InputFault> {
         let call = reader.object()?;
         call.only(&["now", "id", "matchers", "starts", "ends"])?;
-        let now = time_at(&call, "now")?;
+        let now = now_at(&call)?;
         let id = number_at(&call, "id")?;
         let starts = time_or(&call, "starts", now)?;
         let ends = time_at(&call, "ends")?;
@@ -426,7 +460,7 @@ impl<'v> FromJson<'v> for Noting {
         let call = reader.object()?;
         call.only(&["now", "ticket", "integration"])?;
         Ok(Noting {
-            now: time_at(&call, "now")?,
+            now: now_at(&call)?,
             ticket: number_at(&call, "ticket")?,
             integration: position_at(&call)?,
         })
@@ -442,7 +476,7 @@ impl<'v> FromJson<'v> for Finishing {
         let call = reader.object()?;
         call.only(&["now", "ticket"])?;
         Ok(Finishing {
-            now: time_at(&call, "now")?,
+            now: now_at(&call)?,
             ticket: number_at(&call, "ticket")?,
         })
     }
@@ -456,7 +490,7 @@ impl<'v> FromJson<'v> for Loading {
     fn read(reader: &Reader<'v, '_>) -> Result<Loading, InputFault> {
         let call = reader.object()?;
         call.only(&["now", "row"])?;
-        let now = time_at(&call, "now")?;
+        let now = now_at(&call)?;
         let row = member(&call, "row")?;
         Ok(Loading { now, row })
     }

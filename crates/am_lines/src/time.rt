@@ -3,10 +3,11 @@ ghost use Rattle.std.specs.Prelude.{◌≡◌, None, IfOk, codes};
 ghost use Rattle.std.specs.Result.{result_ok};
 ghost use Rattle.serde_json.specs.View.{members_view, view};
 ghost use Rattle.am_cli.specs.Decoding.{Has, HasOr};
-ghost use Rattle.am_lines.specs.Request.{IsEnd, IsTime, time_in};
+ghost use Rattle.am_lines.specs.Request.{IsEnd, IsNow, IsTime, time_in};
 
+use am_alerts::limits::MAX_TIME;
 use am_cli::duration::duration;
-use am_cli::fault::InputFault;
+use am_cli::fault::{FaultKind, InputFault};
 use am_cli::reader::{Object, Reader};
 
 /// Reads a time: a number of milliseconds, or a duration as `4h30m`.
@@ -18,6 +19,23 @@ fn time(reader: &Reader<'_, '_>) -> Result<u64, InputFault>
     } else {
         reader.number()
     }
+}
+
+/// Reads the time of a call, the member `now`. The greatest time, at which a board's clock would stay, is refused.
+pub(crate) fn now_at(call: &Object<'_, '_>) -> Result<u64, InputFault>
+    ensures { IfOk result (Has IsNow (codes "now") (members_view call.now.members)) }
+{
+    now(&call.required("now")?)
+}
+
+fn now(reader: &Reader<'_, '_>) -> Result<u64, InputFault>
+    ensures { IfOk result (IsNow (view reader.now.value)) }
+{
+    let now = time(reader)?;
+    if now >= MAX_TIME {
+        return Err(reader.refuse(FaultKind::BadValue));
+    }
+    Ok(now)
 }
 
 /// Reads a time that must be there.

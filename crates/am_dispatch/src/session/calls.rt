@@ -12,7 +12,7 @@ ghost use Rattle.am_lines.specs.View.{due_tokens, group_view_tokens, listed, out
 ghost use Rattle.am_dispatch.specs.Refusal.{IsCauseOfUnopened};
 ghost use Rattle.am_dispatch.specs.Session.{Begins, Does, Finishes, KeepsTicket, Leaves};
 ghost use Rattle.am_dispatch.specs.Session.{Loads, Makes, Notes, Opens, Reports, Takes};
-ghost use Rattle.am_dispatch.specs.Session.{AnswersSummary, taken_tokens};
+ghost use Rattle.am_dispatch.specs.Session.{AnswersSummary, InsertsAll, InsertsOne, taken_tokens};
 ghost use Rattle.am_dispatch.specs.Ticket.{ticket_tokens};
 ghost use Rattle.am_dispatch.specs.declared.ticket.TheConstants.{BOARD_ID};
 
@@ -28,9 +28,10 @@ use am_board::record::{Call, Record, Reply};
 use am_board::ticket::Ticket;
 use am_lines::answer::Answer;
 use am_lines::fault::LineFault;
+use am_lines::inserts::InsertEnd;
 use am_lines::reply::{write_flush, write_named, write_opened, write_reply};
 use am_lines::request::{
-    Finishing, Insertion, Loading, Noting, Opening, Reporting, Request, Silencing,
+    Finishing, Insertion, ListedInsert, Loading, Noting, Opening, Reporting, Request, Silencing,
 };
 use am_lines::view::{write_due, write_list, write_outlook, write_summary};
 use am_seed::Seed;
@@ -69,6 +70,7 @@ impl Session {
         match request {
             Request::Open(opening) => self.reopen(alloc, opening, answer),
             Request::Insert(insertion) => self.insert(alloc, insertion, answer),
+            Request::Inserts(inserts) => self.insert_all(alloc, inserts, answer),
             Request::Silence(silencing) => self.silence(alloc, silencing, answer),
             Request::Begin(timed) => self.begin(alloc, timed.now, answer),
             Request::Report(reporting) => self.report(reporting, answer),
@@ -101,7 +103,7 @@ impl Session {
         let board = open_board(alloc, self.seed, config)?;
         finish_all(&mut self.board, replace(&mut self.tickets, Vec::new(alloc)));
         put(&mut self.board, board);
-        answered(write_opened(&ignored, answer))
+        answered(write_opened(self.board.config(), &ignored, answer))
     }
 
     fn insert(
@@ -119,6 +121,40 @@ impl Session {
         match self.board.insert(alloc, PASS, now, alert) {
             Ok(inserted) => self.answer_with(&Reply::Inserted(inserted), answer),
             Err(fault) => Err(LineFault::of_board("/insert", fault)),
+        }
+    }
+
+    /// Makes several inserts, in their order, and answers all. Memory for what became of each comes before the first.
+    fn insert_all(
+        &mut self,
+        alloc: Global,
+        inserts: Vec<ListedInsert>,
+        answer: &mut Answer,
+    ) -> Result<(), LineFault>
+        ensures answered { OnOk result (InsertsAll self.old inserts.items self.new answer.old answer.new) }
+        ensures refused { IfErr result (Leaves self.old (Request.Inserts inserts) self.new) }
+    {
+        let mut ends = Vec::with_capacity(alloc, inserts.len())?;
+        for insert in inserts {
+            let end = self.insert_listed(alloc, insert);
+            ends.push_reserved(end);
+        }
+        answered(write_list(self.board.config(), "inserts", ends.as_slice(), answer))
+    }
+
+    /// Makes one of several inserts. One that is refused changes nothing.
+    fn insert_listed(&mut self, alloc: Global, insert: ListedInsert) -> InsertEnd
+        ensures { InsertsOne self.old insert result self.new }
+    {
+        match insert {
+            ListedInsert::Refused(fault) => InsertEnd::Refused(LineFault::from(fault)),
+            ListedInsert::Read(Insertion { now, alert }) => match self
+                .board
+                .insert(alloc, PASS, now, alert)
+            {
+                Ok(inserted) => InsertEnd::Made(inserted),
+                Err(fault) => InsertEnd::Refused(LineFault::of_board("/inserts", fault)),
+            },
         }
     }
 

@@ -1,10 +1,10 @@
-use Rattle.std.proofs.Common.{[], ◌∷◌, ◌++◌, append_assoc}
-use Rattle.json.specs.Token.{end_object}
-use Rattle.am_lines.specs.Reply.{opened_tokens}
-use Rattle.am_lines.proofs.Pieces.{last_piece}
+use Rattle.std.proofs.Common.{codes}
+use Rattle.am_lines.specs.Reply.{ignored_members, routes_members}
+use Rattle.am_lines.proofs.NamedPieces.{named_pieces}
 use Rattle.am_lines.proofs.reply.write_opened.Goals as goal
 
 pub returns : goal.returns
 returns c =
-    last_piece c.end.result c.end.new.answer c.close_list.new.self (end_object ∷ end_object ∷ []) (c.args.answer.now ++ opened_tokens c.args.ignored.now)
-    (rw (c.in_ok-close_list.ensures, c.in_ok-write_ignored.ensures, c.in_ok-open_list.ensures, c.in_ok-key.ensures, c.in_ok-begin.ensures) (simp append_assoc)) c.end.ensures
+    named_pieces c.end.result c.begin.new.answer c.put_ignored.new.answer c.put_routes.new.answer c.end.new.answer c.args.answer.now
+    (codes "opened") (ignored_members c.args.ignored.now) (routes_members c.args.config.now.routes)
+    c.in_ok-begin.ensures c.in_ok-put_ignored.ensures c.in_ok-put_routes.ensures c.end.ensures

@@ -99,3 +99,9 @@ returns-in-Tickets-clause-answered c = rw c.in-Tickets.is (shown _ _ _ _ c.show_
 
 pub returns-in-Tickets-clause-refused : goal.returns-in-Tickets-clause-refused
 returns-in-Tickets-clause-refused c = rw c.in-Tickets.is (memory_all _ c.args.self.now c.args.self.now Tickets c.show_tickets.ensures.refused (λ f is. is) (refl, refl))
+
+pub returns-in-Inserts-clause-answered : goal.returns-in-Inserts-clause-answered
+returns-in-Inserts-clause-answered c = rw c.in-Inserts.is c.insert_all.ensures.answered
+
+pub returns-in-Inserts-clause-refused : goal.returns-in-Inserts-clause-refused
+returns-in-Inserts-clause-refused c = rw c.in-Inserts.is c.insert_all.ensures.refused

@@ -9,8 +9,8 @@ use Rattle.am_dispatch.proofs.session.Session.reopen.Goals as goal
 pub returns-clause-answered : goal.returns-clause-answered
 returns-clause-answered c =
     let none : c.replace.new.dest.items ≡ [] = rw c.replace.ensures.after c.new.ensures.items in
-    opens c.answered.result c.write_opened.result c.put.new.index c.replace.new.dest.items c.args.requested c.args.answer.now c.write_opened.new.answer c.answered.ensures.ok
-    (c.put.ensures ∙ c.in_ok-board.ensures.board) none c.write_opened.ensures
+    opens c.answered.result c.write_opened.result c.put.new.index c.replace.new.dest.items c.args.requested c.config.result.now c.args.answer.now c.write_opened.new.answer c.answered.ensures.ok
+    (c.put.ensures ∙ c.in_ok-board.ensures.board) c.config.ensures.config none c.write_opened.ensures
 
 pub returns-clause-refused : goal.returns-clause-refused
 returns-clause-refused c =
@@ -20,7 +20,7 @@ returns-clause-refused c =
       tickets = c.replace.new.dest;
       seed = c.args.self.now.seed;
       ours = ap (λ (b : BoardData). b.id) (c.put.ensures ∙ c.in_ok-board.ensures.board);
-    }) (Open c.args.requested) c.answered.ensures.err (λ e. absurd (cc)) (opened_tokens c.args.requested.ignored, (c.put.ensures ∙ c.in_ok-board.ensures.board, none, refl))
+    }) (Open c.args.requested) c.answered.ensures.err (λ e. absurd (cc)) (opened_tokens c.args.requested.config c.args.requested.ignored, (c.put.ensures ∙ c.in_ok-board.ensures.board, none, refl))
 
 pub returns-in_err-board-clause-refused : goal.returns-in_err-board-clause-refused
 returns-in_err-board-clause-refused c =

@@ -70,7 +70,7 @@ unmade_leaves fault.Spent old new requested unmade why same = absurd unmade
 unmade_leaves (fault.Refused pointer kind) old new requested unmade why same = absurd unmade
 unmade_leaves (fault.NotMade pointer kind message) old new requested unmade why same = (same, why)
 
--- where memory is refused
+-- without memory
 pub memory_leaves : (f : LineFault) (old new : Session) (requested : Request) → f ≡ fault.NoMemory → IsCauseOf old requested f → IsSame old new → Leaves old requested new f
 memory_leaves f old new requested is why same = unmade_leaves f old new requested (memory_unmade f is) why same
 

@@ -23,7 +23,7 @@ use Rattle.am_dispatch.specs.declared.ticket.TheConstants.{BOARD_ID}
 abbrev pub begins_remark : ℕ → ℕ → Bool
 begins_remark byte count = (byte == 35) || ((byte == 13) && (count == 1))
 
--- whether a line is empty, but for the carriage return of a line end of two bytes, or a comment
+-- whether a line is a comment, or empty except for the carriage return of a line end of two bytes
 abbrev pub is_remark : List ℕ → Bool
 is_remark [] = true
 is_remark (b ∷ line) = begins_remark b (length (b ∷ line))

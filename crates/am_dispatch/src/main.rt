@@ -32,7 +32,7 @@ const NO_RANDOM_NUMBERS: u8 = 1;
 /// The status where the command line is rejected.
 const REJECTED: u8 = 2;
 
-/// The status where memory is refused before the first line.
+/// The status without memory before the first line.
 const NO_MEMORY: u8 = 3;
 
 fn main(rt: HostRuntime) -> ExitCode {

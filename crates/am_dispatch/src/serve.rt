@@ -289,7 +289,7 @@ pub fn respond(
     }
 }
 
-/// Does what is asked of a session, but for its history, and makes the line that answers it.
+/// Does what is asked of a session, except for its history, and makes the line that answers it.
 fn make_line(alloc: Global, session: &mut Session, request: Request) -> Result<Vec<u8>, LineFault>
     requires { request ≢ Request.TakeHistory }
     ensures answered { IfOk result (λ text. IsAnswerTo session.old request text.items session.new) }

@@ -12,7 +12,7 @@ use Rattle.am_dispatch.proofs.session.Session.insert_all.Goals as goal
 pub loop-insert-init : goal.loop-insert-init
 loop-insert-init c = record {
   count = c.in_ok-ends.ensures.len;
-  room = omega (arith, c.in_ok-ends.ensures.capacity, c.args.inserts.ok.0);
+  capacity = omega (arith, c.in_ok-ends.ensures.capacity, c.args.inserts.ok.0);
   made = none_made c.args.self.now c.args.inserts.items _ c.in_ok-ends.ensures.items;
 }
 
@@ -21,7 +21,7 @@ push_reserved-requires c =
     let items : c.into_iter-insert-iterator.result.rest.items ≡ c.args.inserts.items = c.into_iter-insert-iterator.ensures.into_iter_gives.0 in
     let len : c.into_iter-insert-iterator.result.rest.len ≡ length c.args.inserts.items = c.into_iter-insert-iterator.ensures.into_iter_gives.1 ∙ c.args.inserts.ok.0 in
     let turn = YieldsList-turn (YieldsList-from_vec {s = c.into_iter-insert-iterator.result} c.args.inserts.items items len) c.loop-insert.yielded c.loop-insert.insert-iterator c.loop-insert.yielded_by c.next.result c.next.new.self c.in-Some.insert c.in-Some.is c.next.ensures.steps in
-    omega (arith, turn.0, c.loop-insert.invariant.count, c.loop-insert.invariant.room)
+    omega (arith, turn.0, c.loop-insert.invariant.count, c.loop-insert.invariant.capacity)
 
 pub loop-insert-preserved : goal.loop-insert-preserved
 loop-insert-preserved c =
@@ -30,7 +30,7 @@ loop-insert-preserved c =
     let turn = YieldsList-turn (YieldsList-from_vec {s = c.into_iter-insert-iterator.result} c.args.inserts.items items len) c.loop-insert.yielded c.loop-insert.insert-iterator c.loop-insert.yielded_by c.next.result c.next.new.self c.in-Some.insert c.in-Some.is c.next.ensures.steps in
     record {
       count = omega (arith, c.push_reserved.ensures.len, c.loop-insert.invariant.count, length_push c.loop-insert.yielded c.in-Some.insert);
-      room = omega (arith, c.push_reserved.ensures.capacity, c.loop-insert.invariant.room);
+      capacity = omega (arith, c.push_reserved.ensures.capacity, c.loop-insert.invariant.capacity);
       made = one_made c.args.self.now c.loop-insert.self c.insert_listed-end.new.self c.args.inserts.items (length c.loop-insert.yielded) _ c.in-Some.insert c.insert_listed-end.result
           c.loop-insert.ends.items _ turn.0 turn.1 (length_push c.loop-insert.yielded c.in-Some.insert) c.push_reserved.ensures.items c.loop-insert.invariant.made c.insert_listed-end.ensures;
     }

@@ -2,10 +2,10 @@ use Rattle.std.proofs.Common.{◌≡◌, ◌≤◌, length, vec_capacity, vec_le
 use Rattle.am_dispatch.proofs.Inserting.{GoesOn}
 use Rattle.am_dispatch.proofs.session.Session.insert_all.Given as goal
 
--- those so far were made, and there is room for what becomes of the others
+-- those so far were made, and there is capacity for the ends of the others
 abbrev pub invariant-loop-insert : goal.invariant-loop-insert
 invariant-loop-insert l = record {
   count : vec_len l.ends ≡ length l.yielded;
-  room : length l.fn.inserts.items ≤ vec_capacity l.ends;
+  capacity : length l.fn.inserts.items ≤ vec_capacity l.ends;
   made : GoesOn l.fn.self l.fn.inserts.items l.self (length l.yielded) l.ends.items;
 }

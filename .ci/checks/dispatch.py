@@ -282,8 +282,8 @@ def limits(told: Report, programs: Programs) -> None:
     program = programs["am_dispatch"]
 
     def flushes() -> None:
-        """sixty-four flushes may be open, and the next begins once one of them is finished"""
-        board = opened(program, 65, history=195)
+        """with sixty-four flushes at most, the next begins once one of them is finished"""
+        board = opened(program, 65, flushes=64, history=195)
         for ticket in range(1, 65):
             begin(board, ticket)
         full(board, [('{"begin":{"now":30000}}', "/begin", "TooManyOpen")])
@@ -309,8 +309,8 @@ def limits(told: Report, programs: Programs) -> None:
         board.ends_well()
 
     def groups() -> None:
-        """with 4,096 groups an insert that needs another is rejected, and one for a group that is there isn't"""
-        board = opened(program, 4096)
+        """with 4,096 groups at most an insert that needs another is rejected, and one for a group that is there isn't"""
+        board = opened(program, 4096, groups=4096)
         full(board, [(alert(0), "/insert", "TooManyGroups")])
         is_same(board.ask(alert(1, {"b": "c"})), b'{"inserted":{"stamp":4097,"groups":1,"made":0}}')
         board.ends_well()

@@ -17,7 +17,7 @@ from lib import report
 from lib.program import ROOT, Limits, Program, Ran
 from lib.report import Programs, Report
 from lib.rows import Json, Rows, changed, repeated
-from lib.stories import LIMITS, PLAY, alertmanager_story, faults_in, rehearse, story
+from lib.stories import LIMITS, PLAY, alertmanager_story, config, faults_in, rehearse, story
 
 DATA = ROOT / ".ci/data"
 
@@ -146,12 +146,13 @@ def hostile() -> list[tuple[str, str, int, str]]:
     no_json = ": text"
     endless = [{"receiver": "team"}]
     wide = alertmanager_story(route={"receiver": "team", "routes": [{}] * 300_000})
+    few_known = story(config=config(limits={"names": 65_536}), alerts=alerts(100_000))
     written: list[tuple[str, Json, int, str]] = [
         ("an end at 10^12", story(until="1000000000000ms"), 2, "/until: value"),
         ("an end at 10^30", story(until=f"{10**30}y"), 2, "/until: value"),
         ("a wait of 10^12", story(maintain="1000000000000ms"), 0, ""),
         ("a wait above it", story(maintain="1000000000001ms"), 2, "/maintain: value"),
-        ("100,000 alerts", story(alerts=alerts(100_000)), 2, "/alerts/65536: full"),
+        ("100,000 alerts, of which 65,536 are allowed", few_known, 2, "/alerts/65536: full"),
         ("a hundred faults behind 50,000 alerts", story(alerts=alerts(50_000) + [{}] * 100), 2, "/alerts/50000/labels: missing"),
         ("an outage without an end", story(until="366d", outages=endless), 0, ""),
         ("300,000 routes", wide, 2, "/alertmanager/route/routes/1023: value"),

@@ -189,7 +189,7 @@ behind_symbol-missed f none (c ∷ cs) (b ∷ bs) no_digits other =
 abbrev pub IsCounted : List ℕ → Type 0
 IsCounted text = (length (front_digits text) == 0) ≡ false
 
--- what a part's symbol may be, and what is behind it
+-- what a part's symbol can be, and what is behind it
 abbrev pub symbol_in : List ℕ → List ℕ
 symbol_in text = before_digit (behind_digits text)
 

@@ -29,7 +29,7 @@ escaped-encode c x y z =
 pub escaped-append : (xs ys : List ℕ) → escaped (xs ++ ys) ≡ escaped xs ++ escaped ys
 escaped-append xs ys = flat_map-append escape xs ys
 
--- a text that begins with another may be cut behind it
+-- a text that begins with another can be cut behind it
 pub IsCharBoundary-begun : (text start : List ℕ) → IsUtf8 text → IsUtf8 start → BeginsWith text start → IsCharBoundary text (length start)
 IsCharBoundary-begun text start is_text is_start begins =
     let long : length start ≤ length text = omega (arith, ap length begins, length-take (length start) text) in

@@ -121,7 +121,7 @@ module _ (above : Route) (ns : List Node) (m : Node) where
       ∙ ap (map layout_of) (laid-beside (settled_below above (forest ns)) (tree_below above (rule_of m) (below_of m)))
       ∙ map-append layout_of (laid (settled_below above (forest ns))) (laid (tree_below above (rule_of m) (below_of m)))))
 
--- the layout of a route is reported once those below it are laid out
+-- the layout of a route is reported once those below it have theirs
 pub layout_counted : (before now : List RouteLayout) (x : TreeRoute) (p : RouteLayout) (f : Forest TreeRoute) (size : ℕ) (muted : Spans)
     → muted ≡ x.muted → now ≡ (before ++ p ∷ []) ++ map layout_of (laid f) → size ≡ length now - length before - 1
     → set now (length before) (record { below = size; muted = muted }) ≡ before ++ layout_of (x, count f) ∷ map layout_of (laid f)

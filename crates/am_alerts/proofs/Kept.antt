@@ -102,7 +102,7 @@ module _ (root : Route) (f : Forest RouteSpec) (cs : List Child) (ps : List Rout
   length_nested = ap length children ∙ length-map (listed (settled_below root f)) (λ (r : TreeRoute). r.child)
       ∙ length_listed (settled_below root f)
 
-  -- what is checked of what was laid out
+  -- what is checked of a layout
   pub fault_nested : fault_where (nat_le (length cs) MAX_ROUTES && nat_le (height f) MAX_DEPTH) root cs ≡ tree_fault (nested_of root f)
   fault_nested =
       ap (λ n. fault_where (nat_le n MAX_ROUTES && nat_le (height f) MAX_DEPTH) root cs) length_nested

@@ -149,7 +149,7 @@ part-all ts = let size : length ts - 0 ≡ length ts = omega arith in take_all (
 pub part-none : (ts : List (TreeRoute × ℕ)) (at to : ℕ) → to ≤ at → part at to ts ≡ []
 part-none ts at to past = let none : to - at ≡ 0 = omega arith in ap (λ n. take n (drop at ts)) none
 
--- the route at a layout in a part that is laid out, those below it and those after them
+-- the route at a layout in a part that is written, those below it and those after them
 pub record IsOpened (ts : List (TreeRoute × ℕ)) (at to end : ℕ) (x : TreeRoute) : Type 0 where
   pub ends : end ≤ to
   pub below : IsLaid (part (at + 1) end ts)

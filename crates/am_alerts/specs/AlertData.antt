@@ -30,13 +30,13 @@ abbrev pub is_before : Option ℕ → ℕ → Bool
 is_before None start = false
 is_before (Some end) start = nat_lt end start
 
--- why labels and times are no alert
+-- why labels and times make no alert
 abbrev pub alert_fault : AlertData → Option AlertFault
 alert_fault a =
     if length a.labels == 0 then Some NoLabels
     else (if nat_lt MAX_TIME a.starts || is_late a.ends then Some BadTime
     else (if is_before a.ends a.starts then Some EndBeforeStart else None))
 
--- labels and times as an alert
+-- the alert of labels and times
 abbrev pub alert_of : List Label → ℕ → Option ℕ → AlertData
 alert_of labels starts ends = record { labels = labels; starts = starts; ends = ends }

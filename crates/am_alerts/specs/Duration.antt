@@ -70,7 +70,7 @@ abbrev pub value_in : List TimeUnit → List ℕ → Option ℕ
 value_in [] text = value_at_end text
 value_in (unit ∷ units) text = option_or (value_with unit (value_in units) text) (value_in units text)
 
--- the value of a text of counts with units, which may be empty
+-- the value of a text of counts with units, which can be empty
 unfoldable pub value_of_counts : List ℕ → Option ℕ
 value_of_counts text = value_in time_units text
 

@@ -16,7 +16,7 @@ use Rattle.am_alerts.specs.Labels.{label_cmp, label_set_cmp, same_label, same_la
 abbrev pub TiesAreEqual : Type 0
 TiesAreEqual = (a b : List Label) → (label_set_cmp a b ≡ Equal) ↔ (a ≡ b)
 
--- the test of two label sets says whether they are the same list of labels
+-- the equality test of two label sets is true exactly if they are the same list of labels
 abbrev pub TestsEquality : Type 0
 TestsEquality = (a b : List Label) → (same_label_set a b ≡ true) ↔ (a ≡ b)
 

@@ -19,7 +19,7 @@ use Rattle.am_alerts.specs.declared.limits.TheConstants.{MAX_LABELS, MAX_LABEL_B
 abbrev pub begins_name : ℕ → Bool
 begins_name b = is_ascii_alphabetic b || b == 95
 
--- whether a byte may be in a label name behind the first: a letter, `_` or a digit
+-- whether a byte can be in a label name behind the first: a letter, `_` or a digit
 abbrev pub is_name_byte : ℕ → Bool
 is_name_byte b = begins_name b || is_ascii_digit b
 

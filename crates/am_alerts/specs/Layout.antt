@@ -28,7 +28,7 @@ abbrev pub planted : {X : Type 0} → List (X × ℕ) → Forest X
 planted [] = bare
 planted (t ∷ ts) = grow t.0 (first_trees t.1 (planted ts)) (other_trees t.1 (planted ts))
 
--- ---- a forest is planted again from where it lies, so that it is stored as that list
+-- ---- a forest is planted again from where it lies, so it is stored as that list
 
 -- one forest and then another
 abbrev pub beside : {X : Type 0} → Forest X → Forest X → Forest X

@@ -36,7 +36,7 @@ pub mod Route
 pub mod RoutingTree
 -- matchers that meet many label sets: the patterns that have a searcher for them
 pub mod Searchers
--- spans of time in which a route is muted: which they may be, and until when one lasts
+-- spans of time in which a route is muted: which they can be, and until when one lasts
 pub mod Spans
 -- laws of routing trees: the order of search, inherited options, which routes are reached
 pub mod TreeLaws

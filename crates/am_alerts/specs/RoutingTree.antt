@@ -61,7 +61,7 @@ or_self self [] = self ∷ []
 or_self self (p ∷ ps) = p ∷ ps
 
 -- the positions of the routes that match, the first of these routes at this position: they are tried in order; one that matches gives
--- those below it that match, or itself where none does, and ends the search among those beside it unless it has `continue`
+-- those below it that match, or itself where none does, and ends the search among its siblings unless it has `continue`
 -- (dispatch.Route.Match)
 abbrev pub matching : ℕ → Forest TreeRoute → List Label → List ℕ
 matching position bare labels = []
@@ -116,7 +116,7 @@ fault_where fits root children =
     else (if not (fits && are_small root children) then Some TooMany
     else (if not (have_good_intervals root children) then Some BadInterval else None)))
 
--- whether so many routes are below the root at most, at so many levels at most
+-- whether at most this many routes are below the root, at this many levels
 abbrev pub is_within : ℕ → ℕ → RoutingTree → Bool
 is_within most deepest tree = nat_le (last_of tree) most && nat_le (height tree.below) deepest
 

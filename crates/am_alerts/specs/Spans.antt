@@ -17,7 +17,7 @@ use Rattle.am_alerts.specs.declared.spans.SpansFault.TheVariants.{BadOrder, TooM
 abbrev pub holds : Span → ℕ → Bool
 holds s t = nat_le s.from t && nat_lt t s.to
 
--- until when the span lasts that holds a time, if one does
+-- the end of the span that contains a time, if one does
 abbrev pub muted_until : List Span → ℕ → Option ℕ
 muted_until spans t = option_map (λ s. s.to) (find (λ s. holds s t) spans)
 
@@ -35,7 +35,7 @@ abbrev pub are_apart : List Span → Bool
 are_apart [] = true
 are_apart (s ∷ spans) = nat_lt s.from s.to && begins_behind s.to spans && are_apart spans
 
--- whether each span ends at a time that a board takes
+-- whether each span ends at a time that a board accepts
 abbrev pub end_in_time : List Span → Bool
 end_in_time spans = list_all (λ s. nat_le s.to MAX_TIME) spans
 

@@ -53,7 +53,7 @@ abbrev pub any_match : Forest TreeRoute → List Label → Bool
 any_match bare labels = false
 any_match (grow r below after) labels = match_all r.child.matchers labels || any_match after labels
 
--- whether the route at an index, from 0 on, is reached: it and all above it match, none right below it does, and beside each of these
+-- whether the route at an index, from 0 on, is reached: it and all above it match, none right below it does, and before each of these
 -- none before it does that has no `continue`
 abbrev pub reaches : ℕ → Forest TreeRoute → List Label → Bool
 reaches k bare labels = false

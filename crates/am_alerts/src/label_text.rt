@@ -8,7 +8,7 @@ ghost use Rattle.am_alerts.specs.LabelText.{escaped, label_text, label_set_text,
 use crate::labels::Labels;
 use std::alloc::AllocError;
 
-/// Appends the text of a label set, or a part of it where memory is refused.
+/// Appends the text of a label set, or a part of it where there is no memory.
 pub(crate) fn push_label_set(out: &mut String, labels: &Labels) -> Result<(), AllocError>
     ensures text { OnOk result
         (string_bytes out.new ≡ string_bytes out.old ++ label_set_text labels.now) }
@@ -45,7 +45,7 @@ fn push_label(out: &mut String, label: &(&str, &str)) -> Result<(), AllocError>
 }
 
 /// Appends a label's value, escaped as Alertmanager writes it between quotes, or a part of it where
-/// memory is refused.
+/// there is no memory.
 pub fn push_escaped(out: &mut String, value: &str) -> Result<(), AllocError>
     ensures text { OnOk result (string_bytes out.new ≡ string_bytes out.old ++ escaped value.now) }
     ensures begins { BeginsWith (string_bytes out.new) (string_bytes out.old) }

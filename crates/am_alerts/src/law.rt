@@ -53,7 +53,7 @@ const DURATION_FAULTS: [(DurationFault, u8); 2] = [
 ];
 
 /// What each limit is: of times and durations in milliseconds, of bytes, and of how many labels,
-/// matchers, names, children and spans there may be.
+/// matchers, names, children and spans there can be.
 pub fn limits_are()
     ensures { LimitsAre }
 {}
@@ -83,7 +83,7 @@ pub fn options_are_the_nearest()
 {}
 
 /// The routes of a label set are exactly those that match it with all routes above them, where none
-/// right below matches, and beside each of these none before it matches that has no `continue`.
+/// right below matches, and before each of these no sibling matches that has no `continue`.
 pub fn each_route_is_reached_or_not()
     ensures { EachRouteIsReachedOrNot }
 {}

@@ -21,11 +21,11 @@ pub const MAX_LABEL_NAMES: usize = 64;
 /// How many children the root route of one level may have.
 pub const MAX_CHILDREN: usize = 63;
 
-/// How many routes may be below the root of a tree.
+/// How many routes can be below the root of a tree.
 pub const MAX_ROUTES: usize = 1_023;
 
-/// At how many levels they may be.
+/// At how many levels they can be.
 pub const MAX_DEPTH: usize = 64;
 
-/// In how many spans of time a route may be muted.
+/// In how many spans of time a route can be muted.
 pub const MAX_SPANS: usize = 8_192;

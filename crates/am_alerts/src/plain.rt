@@ -1,5 +1,5 @@
 //! Patterns that are plain texts with bars between them, as `critical|warning`. Nearly all patterns
-//! of real settings are. A text matches one of them where it is one of the texts, so that no regex
+//! of real settings are. A text matches one of them where it is one of the texts, so no regex
 //! has to be built or searched.
 ghost use Rattle.std.specs.Prelude.{◌≡◌};
 ghost use Rattle.am_alerts.specs.Plain.{bar_texts, is_one_of, is_plain_or_bar, is_plain_pattern};

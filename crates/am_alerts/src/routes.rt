@@ -27,7 +27,7 @@ use std::alloc::{AllocError, Global};
 use std::marker::Model;
 
 /// A root, at position 0, and the routes below it, at positions 1, 2, ..: each before those below
-/// it, which come before those beside it.
+/// it, which come before its next sibling.
 #[derive(Debug, Drop)]
 pub struct Routes {
     root: Route,
@@ -83,7 +83,7 @@ impl Routes {
 
     /// The routing tree of a root, which says everything, and the routes below it, at any depth:
     /// what a route doesn't say it has from the nearest route above it that does. `Unfit`: refused
-    /// as `new` does, but that up to 1,023 routes may be below the root, at up to 64 levels.
+    /// as `new` does, but that up to 1,023 routes can be below the root, at up to 64 levels.
     /// `NoMemory`: out of memory, which may come before the others.
     pub fn nested(alloc: Global, root: Route, routes: Vec<Node>) -> Result<Routes, TreeFault>
         ensures value { IfOk result (λ made. made ≡ nested_of root (forest routes.items)) }
@@ -205,7 +205,7 @@ impl Routes {
 
     /// The positions of the routes of a label set, ascending: routes are tried in order, and one
     /// that matches gives those below it that match, or itself where none does, and ends the search
-    /// among those beside it unless it goes on. If none matches, the root alone.
+    /// among its siblings unless it goes on. If none matches, the root alone.
     pub fn of(&self, alloc: Global, labels: &Labels) -> Result<Vec<u32>, AllocError>
         ensures value { IfOk result (λ positions. positions.items ≡ routes_of self.now labels.now) }
         ensures ascending { IfOk result (λ positions. IsStrictlyIncreasing positions.items) }
@@ -221,7 +221,7 @@ impl Routes {
     }
 }
 
-/// Whether so many routes may be below a root; `low`: whether they are at few levels.
+/// Whether so many routes can be below a root; `low`: whether they are at few levels.
 fn fit(count: usize, low: bool) -> bool
     ensures { result ≡ (nat_le count MAX_ROUTES && low) }
 {

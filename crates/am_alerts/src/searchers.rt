@@ -47,7 +47,7 @@ impl<'m> Searchers<'m> {
     }
 
     /// Whether a label set matches each of the matchers, as `all_match` has it. It matches an
-    /// empty list. Only a pattern takes memory; where that is refused, the call may be made again.
+    /// empty list. Only a pattern takes memory; where that is refused, the call can be made again.
     pub fn all_match(&mut self, alloc: Global, labels: &Labels) -> Result<bool, AllocError>
         ensures value { IfOk result (λ matched. matched ≡ match_all self.old labels.now) }
         ensures answers { IsTrue (compare_texts self.old) → IsOk result }

@@ -15,7 +15,7 @@ use std::cmp::Ordering;
 use std::hash::{Hash, Hasher};
 use std::marker::Model;
 
-/// A list of values. To a contract it is just the list, so that a copy equals its source,
+/// A list of values. To a contract it is just the list, so a copy equals its source,
 /// whatever memory the two are in. Lists are ordered as their elements are, a proper
 /// prefix first.
 #[derive(Drop, Debug)]

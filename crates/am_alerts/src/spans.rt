@@ -2,7 +2,7 @@
 //! them.
 //!
 //! Several routes may share one list. A route without spans takes no memory for them.
-ghost use Rattle.std.specs.Prelude.{◌≡◌, ◌⊎◌, [], IfErr, IfOk, IsTrue, is_some, Some, length, nat_le};
+ghost use Rattle.std.specs.Prelude.{◌≡◌, [], Err, IfErr, IfOk, IfSome, IsTrue, None, is_some};
 ghost use Rattle.am_alerts.specs.Spans.{are_apart, begins_behind, end_in_time, holds, is_muted, muted_until, spans_fault};
 
 use crate::limits::{MAX_SPANS, MAX_TIME};
@@ -73,15 +73,15 @@ impl Spans {
 
     /// These spans. Refused in this order:
     ///
-    /// - `BadOrder`: a span is empty, or doesn't begin behind the end of the one before, so that
+    /// - `BadOrder`: a span is empty, or doesn't begin behind the end of the one before, so
     ///   they overlap or touch.
     /// - `TooMany`: there are more than 8,192.
     /// - `BadTime`: one ends behind 10^15 ms.
     /// - `NoMemory`: out of memory.
     pub fn new(alloc: Global, list: Vec<Span>) -> Result<Spans, SpansFault>
         ensures value { IfOk result (λ spans. (spans ≡ list.items) × (spans_fault list.items ≡ None)) }
-        ensures refused { IfErr result (λ fault. (fault ≡ SpansFault.NoMemory)
-            ⊎ (spans_fault list.items ≡ Some fault)) }
+        ensures refused { IfSome (spans_fault list.items) (λ fault. result ≡ Err fault) }
+        ensures others { spans_fault list.items ≡ None → IfErr result (λ fault. fault ≡ SpansFault.NoMemory) }
     {
         match fault_of(list.as_slice()) {
             Some(fault) => Err(fault),

@@ -18,13 +18,13 @@ pub struct Options {
     pub repeat_interval: Option<u64>,
 }
 
-/// A route below the root, but for the routes below it.
+/// A route below the root, except for the routes below it.
 #[derive(Debug, Drop)]
 pub struct RouteSpec {
     pub name: Text,
     pub options: Options,
     pub matchers: Sequence<Matcher>,
-    /// Whether the search goes on among the routes beside it, which is written `continue`.
+    /// Whether the search goes on among its siblings, which is written `continue`.
     pub continues: bool,
     /// When it is muted. The routes below it don't have this from it.
     pub muted: Spans,

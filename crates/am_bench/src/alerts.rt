@@ -19,7 +19,7 @@ pub const WARNING: &str = "warning";
 pub const WIDE: &str =
     "/var/lib/containers/eu-west-1/production/platform-monitoring/prometheus-operator-agents/";
 
-/// From each alert to the next in another order: a prime above all numbers of alerts, so that each
+/// From each alert to the next in another order: a prime above all numbers of alerts, so each
 /// alert comes once.
 pub const STRIDE: usize = 104_729;
 

@@ -13,10 +13,10 @@ use std::alloc::Global;
 pub const WAIT: u64 = 30_000;
 
 /// How long a group waits from flush to flush, in milliseconds.
-pub const INTERVAL: u64 = 300_000;
+pub const INTERVAL: u64 = 30_000_000;
 
 /// When a notice is repeated, in milliseconds.
-pub const REPEAT: u64 = 14_400_000;
+pub const REPEAT: u64 = 300_000_000;
 
 /// How many routes an alert goes to at most.
 const FAN: usize = 16;
@@ -65,7 +65,7 @@ fn config(routes: Routes, receivers: Sequence<Receiver>, rules: Vec<InhibitRule>
         receivers,
         rules: Sequence::from(rules),
         retention: 432_000_000,
-        limits: Limits::default(),
+        limits: Limits::greatest(),
     }
 }
 

@@ -91,7 +91,7 @@ impl Desk {
     }
 
     /// Flushes each group that is due, a millisecond apart; each notice is delivered. A group that was
-    /// flushed isn't due again before all are, so that there are no more begins than groups, and one that
+    /// flushed isn't due again before all are, so there are no more begins than groups, and one that
     /// finds none.
     pub fn flush_all(
         &mut self,

@@ -2,7 +2,7 @@
 use crate::alerts::{Load, STRIDE};
 use crate::config::{INTERVAL, REPEAT};
 use crate::desk::Desk;
-use crate::piece::{FIRST, SECOND, THIRD, flush, insert};
+use crate::piece::{FIRST, SECOND, STEP, THIRD, flush, insert};
 use crate::storm::take_history;
 use crate::watch::Watch;
 use crate::words::BenchError;
@@ -13,22 +13,22 @@ use std::rt::Clock;
 use std::time::CpuClock;
 
 /// When the same alerts come again, in milliseconds.
-const AGAIN: u64 = 100_000;
+const AGAIN: u64 = STEP;
 
 /// When they come in another order.
-const ANOTHER: u64 = 200_000;
+const ANOTHER: u64 = 2 * STEP;
 
 /// When one alert has an end.
-const ONE: u64 = SECOND + 100_000;
+const ONE: u64 = SECOND + STEP;
 
 /// When all have one.
-const ALL: u64 = THIRD + 100_000;
+const ALL: u64 = THIRD + STEP;
 
 /// When they are due for the fourth time.
 const FOURTH: u64 = THIRD + INTERVAL;
 
 /// When the rows of the last flush have expired.
-const EXPIRED: u64 = FOURTH + 2 * REPEAT + 100_000;
+const EXPIRED: u64 = FOURTH + 2 * REPEAT + STEP;
 
 /// Runs the piece on a board of this configuration, of which each call is timed or none.
 pub fn run_flushes(

@@ -4,7 +4,7 @@ ghost use Rattle.am_desk.specs.Terms.{terms};
 
 use crate::alerts::{Load, STRIDE};
 use crate::config::plain;
-use crate::piece::{FIRST, SECOND};
+use crate::piece::{FIRST, SECOND, STEP};
 use crate::requests::delivery::Pager;
 use crate::tally::Tally;
 use crate::watch::Watch;
@@ -28,10 +28,10 @@ use std::time::CpuClock;
 const BOARD_ID: u64 = 2;
 
 /// When the same alerts come again, in milliseconds.
-const AGAIN: u64 = 100_000;
+const AGAIN: u64 = STEP;
 
 /// When all groups are due for the second time, however the threads shared their first flushes.
-const LATER: u64 = SECOND + 100_000;
+const LATER: u64 = SECOND + STEP;
 
 /// What one thread does at once: it inserts these alerts, or flushes if there are none.
 #[derive(Drop)]

@@ -17,9 +17,12 @@ use std::sync::Wait;
 use std::thread::Threads;
 use std::time::CpuClock;
 
-/// When all alerts that came from 0 on are due for the first time, in milliseconds. A step takes a
-/// millisecond for each alert or group, and there are 65,536 alerts at most.
-pub const FIRST: u64 = 300_000;
+/// How long a step may take, in milliseconds. It takes one for each alert or group, and there are
+/// 4,000,000 alerts at most.
+pub const STEP: u64 = 10_000_000;
+
+/// When all alerts that came from 0 on are due for the first time.
+pub const FIRST: u64 = 3 * STEP;
 
 /// When they are due for the second time.
 pub const SECOND: u64 = FIRST + INTERVAL;

@@ -1,7 +1,7 @@
 //! Makes calls that promise to take no memory, and prints each with its answer: those that work on
 //! logs, boards, desks and tickets, and those that are handed an allocator. A call that only
 //! hands out a number or a reference has nothing to ask with, and is left out. The name is written before the
-//! call, and the answer after it, so that requests for memory which come between the two writes are the
+//! call, and the answer after it, so requests for memory which come between the two writes are the
 //! call's. A few calls that take memory are among them, as `with memory`: they show that requests are seen.
 //! Calls that a limit refuses are there as `without memory`: `.ci/frugal` refuses each request that they make.
 

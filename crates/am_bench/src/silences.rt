@@ -1,4 +1,4 @@
-//! Alerts beside silences.
+//! Alerts next to silences.
 use crate::alerts::{Load, STRIDE, listed, silence};
 use crate::config::plain;
 use crate::desk::Desk;

@@ -2,7 +2,7 @@
 use crate::alerts::{Load, STRIDE};
 use crate::config::plain;
 use crate::desk::Desk;
-use crate::piece::insert;
+use crate::piece::{STEP, insert};
 use crate::watch::Watch;
 use crate::words::BenchError;
 use std::alloc::Global;
@@ -11,7 +11,7 @@ use std::rt::Clock;
 use std::time::CpuClock;
 
 /// From round to round, in milliseconds.
-const ROUND: u64 = 100_000;
+const ROUND: u64 = STEP;
 
 /// Runs the piece: so many rounds before the history is taken, and so many after.
 pub fn run_storm(

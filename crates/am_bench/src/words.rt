@@ -6,7 +6,7 @@ use std::io;
 /// Why a bench ends before its time.
 #[derive(Clone, Copy, Debug)]
 pub enum BenchError {
-    /// A request for memory was refused.
+    /// An allocation failed.
     NoMemory,
     /// The input can't be read.
     Unreadable,
@@ -57,7 +57,7 @@ impl From<io::Error> for BenchError {
     }
 }
 
-/// Both values, or the first error. A value that comes alone is dropped here, so that callers have nothing to drop.
+/// Both values, or the first error. A value that comes alone is dropped here, so callers have nothing to drop.
 pub fn both<A: Drop, B: Drop, E: Drop>(
     one: Result<A, E>,
     other: Result<B, E>,

@@ -44,7 +44,7 @@ PutsInEach config t m names (Ok true) old new = IsPutInEach config t m names old
 PutsInEach config t m names (Ok false) old new = new ≡ old
 PutsInEach config t m names (Err e) old new = new ≡ old
 
--- an alert was put in place of the known one and of the one in each of its groups; there is room for the record
+-- an alert was put in place of the known one and of the one in each of its groups; there is capacity for the record
 pub record IsPutAgain (config : Config) (now : ℕ) (alert : AlertData) (answer : Inserted) (old new : State) : Type 0 where
   pub few : makes_too_many config (state_of old) alert ≡ false
   pub returned : inserted config (state_of old) alert ≡ answer

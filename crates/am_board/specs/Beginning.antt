@@ -147,7 +147,7 @@ pub record IsPlannedFlush (config : Config) (id : ℕ) (s : State) (t : ℕ) (g 
   pub none : vec_len o.outcomes ≡ 0
   pub room : vec_len o.notices ≤ vec_capacity o.outcomes
 
--- what a begin at t that takes a group works out: nobody is notified, or a flush is opened and one more may be open
+-- the plan of a begin at t that takes a group: nobody is notified, or a flush is opened, and the limit allows one more
 abbrev pub IsPlan : Config → ℕ → ℕ → State → ℕ → GroupState → Result (Option PlannedFlush) Fault → Type 0
 IsPlan config id opened s t g (Ok None) = notified_of config s t g ≡ []
 IsPlan config id opened s t g (Ok (Some o)) =
@@ -157,7 +157,7 @@ IsPlan config id opened s t g (Err fault) =
 
 -- ---- the group that is taken, and how the begin may end
 
--- whether a group may be taken at t where these flushes are open
+-- whether a group can be taken at t where these flushes are open
 abbrev pub may_take : List FlushState → ℕ → GroupState → Bool
 may_take flushes t g = nat_le g.due t && not (is_flushing flushes g.name)
 
@@ -170,7 +170,7 @@ abbrev pub IsFirst : List Group → Option ℕ → Option GroupState → Type 0
 IsFirst groups None first = first ≡ None
 IsFirst groups (Some i) first = (d : Group) → first ≡ Some (group_state (slice_index_or groups i d))
 
--- of the groups that may be taken and have their key among these, the one at this index is the first;
+-- of the groups that can be taken and have their key among these, the one at this index is the first;
 -- with no index, there is no such group
 abbrev pub IsFirstOfKeys : List FlushState → ℕ → List Group → List DueKey → Option ℕ → Type 0
 IsFirstOfKeys flushes t groups keys None =
@@ -196,7 +196,7 @@ pub record IsTaking (config : Config) (s : kept.State) (p n : ℕ) (c : ChosenGr
   pub group : Group
   pub chosen : IsChosen config s c group
 
--- what a call of a pass at this time takes: a group, or none where none may be taken
+-- what a call of a pass at this time takes: a group, or none where none can be taken
 abbrev pub IsChoice : Config → kept.State → ℕ → ℕ → Option ChosenGroup → Type 0
 IsChoice config s pass now None = taken (state_of s) (time (state_of s) now) ≡ None
 IsChoice config s pass now (Some chosen) = IsTaking config s pass now chosen

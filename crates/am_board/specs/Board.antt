@@ -17,8 +17,8 @@ use Rattle.am_model.specs.Replay.{replay, IsLegal}
 abbrev pub whole : Inside → List Record
 whole b = b.past.items ++ b.state.history.items
 
--- the whole history is legal, and the state is its replay; the records that were handed out are counted, and no more than may be; the
--- limits hold; each group's route is there; each open flush has room among the kept records for its finish, and is prepared for it; each
+-- the whole history is legal, and the state is its replay; the records that were handed out are counted, and no more than the limit; the
+-- limits hold; each group's route is there; each open flush has capacity among the kept records for its finish, and is prepared; each
 -- group says whether it has an open flush; what was learnt is of the rules and of the known alerts, and the names that are kept for these
 -- are those of their groups
 pub record IsSound (b : Inside) : Type 0 where

@@ -33,7 +33,7 @@ EndsInTime repeat Repeat = ⊤
 EndsInTime repeat NothingFiring = ⊤
 EndsInTime repeat (NotYet since) = since + repeat + 1 < 2 ^ 64
 
--- the reason by the row that is kept, if there is one, but where nothing fires and nothing is resolved nothing is left to say
+-- the reason by the row that is kept, if there is one; `NothingLeft` where nothing fires and nothing is resolved
 abbrev pub reason_by_row : Option (LogRow (List Label)) → AlertSets → Bool → ℕ → ℕ → Reason
 reason_by_row logged sets send_resolved repeat t =
     if is_empty sets.firing && is_empty sets.resolved then NothingLeft

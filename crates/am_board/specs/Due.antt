@@ -42,7 +42,7 @@ IsCurrent groups key (Some i) =
     × ((d : Group) → key_of (slice_index_or groups i d) ≡ key)
     × ((j : ℕ) (d : Group) → j < length groups → key_of (slice_index_or groups j d) ≡ key → j ≡ i)
 
--- the group at this index is the only one that has the key, and no flush of it is open; or none has it that has no open flush
+-- the group at this index is the only one that has the key, and no flush of it is open; or each group with the key has an open flush
 abbrev pub IsFree : List FlushState → List Group → DueKey → Option ℕ → Type 0
 IsFree flushes groups key None = All (λ g. key_of g ≡ key → is_flushing flushes key.name ≡ true) groups
 IsFree flushes groups key (Some i) = IsCurrent groups key (Some i) × (is_flushing flushes key.name ≡ false)

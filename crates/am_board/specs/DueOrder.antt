@@ -42,7 +42,7 @@ pub key_cmp_total : IsTotalOrder key_cmp
 key_cmp_total =
     back_total (then_total (on_total (λ (k : DueKey). k.due) nat_cmp_total) (on_total (λ (k : DueKey). k.name) name_cmp_total))
 
--- names are the same where the order, in reverse, says none apart
+-- names are the same where the reverse order has them equal
 same_name-ties : (a b : GroupName) → same_name a b ≡ eq_by_cmp name_cmp b a
 same_name-ties a b =
     both_tied _ _ (nat_cmp b.route a.route) (label_set_cmp b.labels a.labels)

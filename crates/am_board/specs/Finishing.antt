@@ -44,7 +44,7 @@ abbrev pub rows_with : OpenFlush → ℕ → List (ℕ × Outcome) → List Noti
 rows_with f t outcomes notified rows =
     fold (λ log a. log_with (row_for f t a.integration) log) rows (logged_of outcomes notified)
 
--- whether an alert of a group is there as it did when it was found resolved
+-- whether an alert of a group is as it was when it was found resolved
 abbrev pub is_same_as : LeavingAlert → Member → Bool
 is_same_as l m = same_label_set l.labels m.alert.labels && (l.stamp == m.stamp)
 
@@ -52,7 +52,7 @@ is_same_as l m = same_label_set l.labels m.alert.labels && (l.stamp == m.stamp)
 abbrev pub marked : Member → Member
 marked m = record { alert = m.alert; stamp = m.stamp; leaves = true }
 
--- whether a member leaves its group: all succeeded, and it is there as one that was found resolved
+-- whether a member leaves its group: all succeeded, and it is one that was found resolved
 abbrev pub leaves_where : Bool → List LeavingAlert → MemberState → Bool
 leaves_where all_succeeded leaving m = all_succeeded && is_leaving (map stamped leaving) m
 

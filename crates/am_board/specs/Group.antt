@@ -27,15 +27,15 @@ AreRouted tree names = All (λ n. n.route ≤ last_of tree) names
 abbrev pub AddsAtMost : List GroupName → GroupName → List GroupName → Type 0
 AddsAtMost old name new = (new ≡ old) ⊎ (new ≡ old ++ name ∷ [])
 
--- a group has room for so many more alerts
+-- a group has capacity for so many more alerts
 abbrev pub Fits : ℕ → Group → Type 0
 Fits n g = n ≤ g.members.room
 
--- a group of this name has room for so many more alerts
+-- a group of this name has capacity for so many more alerts
 abbrev pub HasRoom : ℕ → GroupName → List Group → Type 0
 HasRoom n name groups = All (λ g. g.name ≡ name → Fits n g) groups
 
--- the group is the same, with no less room
+-- the group is the same, with no less capacity
 pub record IsReserved (old new : Group) : Type 0 where
   pub name : new.name ≡ old.name
   pub is_open : new.is_open ≡ old.is_open

@@ -3,7 +3,7 @@ use Rattle.std.specs.Prelude.{ℕ, List}
 use Rattle.am_board.specs.declared.group.Group.{Group}
 use Rattle.am_model.specs.declared.group.GroupName.{GroupName}
 
--- groups, with room for so many more
+-- groups, with capacity for so many more
 pub record GroupList : Type 0 where
   pub items : List Group
   pub room : ℕ

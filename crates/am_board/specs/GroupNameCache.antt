@@ -6,7 +6,7 @@ use Rattle.am_model.specs.declared.group.GroupName.{GroupName}
 use Rattle.am_model.specs.Insert.{names_for}
 use Rattle.am_mute.specs.Sources.{IsAt}
 
--- names are kept for the first of these known alerts, for each at its index, or none are: they are those of its groups
+-- the cache has an entry for each of the first known alerts, at its index: the names of its groups, or nothing
 pub record AreKept (config : Config) (known : List AlertData) (kept : List (Option (List GroupName))) : Type 0 where
   pub within : length kept ≤ length known
   pub names : (i : ℕ) (a : AlertData) (names : List GroupName) → IsAt known i a → IsAt kept i (Some names)

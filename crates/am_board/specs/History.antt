@@ -49,7 +49,7 @@ kept_of board = drop (length board.handed) board.history
 abbrev pub records_at : BoardData → ℕ
 records_at board = length (kept_of board)
 
--- why a board doesn't hand out its records: it would have handed out more than may be
+-- why a board doesn't hand out its records: it would have handed out more than the limit
 abbrev pub take_cause : BoardData → Option TakeFault
 take_cause board = if nat_lt MAX_HANDED (length board.history) then Some TooManyCalls else None
 

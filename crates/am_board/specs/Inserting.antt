@@ -41,7 +41,7 @@ AreFound groups placements = All (λ p. IsFound groups (target_of p)) placements
 abbrev pub AreApart : List Placement → Type 0
 AreApart placements = IsDistinct (λ p q. p.name.route == q.name.route) placements
 
--- the list for a group that has to be made has room for an alert, and the group's name and the alert's labels are there once more
+-- the list for a group that has to be made has capacity for an alert, and the group's name and the alert's labels are there once more
 abbrev pub IsEmptyWithRoom : Placement → Type 0
 IsEmptyWithRoom placement =
     (placement.members.items ≡ [])
@@ -49,11 +49,11 @@ IsEmptyWithRoom placement =
     × (placement.key ≡ placement.name)
     × (placement.labels ≡ placement.member.alert.labels)
 
--- the group of each placement has room for one more alert
+-- the group of each placement has capacity for one more alert
 abbrev pub HaveRoom : List Group → List Placement → Type 0
 HaveRoom groups placements = All (λ p. HasRoom 1 p.name groups) placements
 
--- a state holds what it held, with no less room for records
+-- a state holds what it held, with no less capacity for records
 pub record IsReservedState (old new : State) : Type 0 where
   pub state : state_of new ≡ state_of old
   pub names : names_of new.groups.items ≡ names_of old.groups.items
@@ -66,7 +66,7 @@ pub record IsReservedState (old new : State) : Type 0 where
   pub known : length new.known.items ≡ length old.known.items
   pub inserts : new.inserts ≡ old.inserts
 
--- a state has room for all that an insert adds, and for the finish of each open flush
+-- a state has capacity for all that an insert adds, and for the finish of each open flush
 pub record IsReadyFor (state : State) (placements : List Placement) : Type 0 where
   pub records : vec_len state.history + vec_len state.flushes + 1 ≤ vec_capacity state.history
   pub known : 1 ≤ state.known.room
@@ -95,7 +95,7 @@ pub record IsPlacementOf (tree : RoutingTree) (m : MemberState) (p : Placement) 
 abbrev pub IsToPut : RoutingTree → List Group → MemberState → Placement → Type 0
 IsToPut tree groups m p = IsFound groups (target_of p) × IsEmptyWithRoom p × IsPlacementOf tree m p
 
--- what an insert found: there is room for its record and for its label set, the known alert is the one with its labels, and the
+-- what an insert found: there is capacity for its record and for its label set, the known alert is the one with its labels, and the
 -- placements put it into the groups that it goes to
 pub record IsWhereToPut (config : Config) (s : State) (alert : AlertData) (found : Found) : Type 0 where
   pub room : is_full config (vec_len s.history) (state_of s) 1 ≡ false

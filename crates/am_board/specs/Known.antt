@@ -3,7 +3,7 @@ use Rattle.std.specs.Prelude.{ℕ, List}
 use Rattle.am_alerts.specs.AlertData.{AlertData}
 use Rattle.am_alerts.specs.declared.labels.Label.{Label}
 
--- alerts, with room for so many more
+-- alerts, with capacity for so many more
 pub record KnownAlerts : Type 0 where
   pub items : List AlertData
   pub room : ℕ

@@ -6,7 +6,7 @@ use Rattle.am_alerts.specs.declared.labels.Label.{Label}
 use Rattle.am_board.specs.declared.group.Member.{Member}
 use Rattle.am_board.specs.Keyed.{AreKeyed}
 
--- alerts of a group, with room for so many more
+-- alerts of a group, with capacity for so many more
 pub record MemberList : Type 0 where
   pub items : List Member
   pub room : ℕ

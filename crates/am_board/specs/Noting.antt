@@ -7,7 +7,7 @@ use Rattle.am_model.specs.Notice.{NoticeData}
 use Rattle.am_model.specs.Ticket.{TicketData, outcome_of}
 use Rattle.am_board.specs.Finishing.{IsReadyAt}
 
--- the notice at an index of a ticket is of this integration, which was reported so; its flush is open, and asked it, and it may be noted
+-- the notice at an index of a ticket is of this integration, which was reported so; its flush is open and notified it, and it can be noted
 pub record IsNoteTarget (flushes : List OpenFlush) (ticket : TicketData) (index : ℕ) (n : NoteTarget) : Type 0 where
   pub first : position (λ f. f.number == ticket.number) flushes ≡ Some n.flush
   pub notice : option_map (λ (notice : NoticeData). notice.integration) (slice_get ticket.notices index) ≡ Some n.integration

@@ -21,7 +21,7 @@ index_cmp sets i j = option_cmp label_set_cmp (slice_get sets i) (slice_get sets
 abbrev pub indexes_in_order : List (List Label) → List ℕ
 indexes_in_order sets = in_order (index_cmp sets) (range_with_len 0 (length sets))
 
--- these are the first so many indexes, each once
+-- these are the indexes below a number, each once
 abbrev pub AreFirst : List ℕ → Type 0
 AreFirst indexes = IsPermutation (range_with_len 0 (length indexes)) indexes
 

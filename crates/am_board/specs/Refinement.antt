@@ -65,7 +65,7 @@ pub record IsNew (s : kept.State) : Type 0 where
   pub history : s.history.items ≡ []
   pub records : vec_len s.history ≡ 0
 
--- two states are one but for the order of the log's rows
+-- two states are one except for the order of the log's rows
 pub record EqualUpToRowOrder (a b : State) : Type 0 where
   pub rows : IsPermutation a.rows b.rows
   pub rest : a ≡ record b { rows = a.rows }

@@ -59,8 +59,8 @@ pub record LeavesUnchanged (config : Config) (old new : kept.State) : Type 0 whe
   pub records : vec_len new.history ≡ vec_len old.history
   pub room : vec_len new.history + vec_len new.flushes ≤ vec_capacity new.history
 
--- a fault that may be answered where this is the first cause other than memory: it is that cause;
--- where there is none memory was refused, and it may have been refused before groups or open flushes were counted
+-- a fault that can be answered where this is the first cause other than memory: it is that cause;
+-- where there is none there was no memory, and it may have been refused before groups or open flushes were counted
 abbrev pub IsAnswer : Option Fault → Fault → Type 0
 IsAnswer None fault = fault ≡ NoMemory
 IsAnswer (Some NoMemory) fault = fault ≡ NoMemory
@@ -70,12 +70,12 @@ IsAnswer (Some TooManySilences) fault = fault ≡ TooManySilences
 IsAnswer (Some TooManyOpen) fault = (fault ≡ TooManyOpen) ⊎ (fault ≡ NoMemory)
 IsAnswer (Some HistoryFull) fault = fault ≡ HistoryFull
 
--- a result is caused by this first cause other than memory: accepted where there is none, else refused by a fault that may be answered
+-- a result is caused by this first cause other than memory: accepted where there is none, else refused by a fault that can be answered
 abbrev pub IsCaused : {T : Type 0} → Option Fault → Result T Fault → Type 0
 IsCaused cause (Ok x) = cause ≡ None
 IsCaused cause (Err fault) = IsAnswer cause fault
 
--- a fault that a note may be answered where this is the first cause other than memory
+-- a fault that a note can be answered where this is the first cause other than memory
 abbrev pub IsNoteAnswer : Option NoteFault → NoteFault → Type 0
 IsNoteAnswer None fault = fault ≡ note.NoMemory
 IsNoteAnswer (Some cause) fault = fault ≡ cause
@@ -85,7 +85,7 @@ abbrev pub IsNoteCaused : {T : Type 0} → Option NoteFault → Result T NoteFau
 IsNoteCaused cause (Ok x) = cause ≡ None
 IsNoteCaused cause (Err fault) = IsNoteAnswer cause fault
 
--- a fault that a load may be answered where this is the first cause other than memory
+-- a fault that a load can be answered where this is the first cause other than memory
 abbrev pub IsLoadAnswer : Option LoadFault → LoadFault → Type 0
 IsLoadAnswer None fault = fault ≡ load.NoMemory
 IsLoadAnswer (Some cause) fault = fault ≡ cause
@@ -95,7 +95,7 @@ abbrev pub IsLoadCaused : {T : Type 0} → Option LoadFault → Result T LoadFau
 IsLoadCaused cause (Ok x) = cause ≡ None
 IsLoadCaused cause (Err fault) = IsLoadAnswer cause fault
 
--- a fault that a taking of the records may be answered where this is the cause other than memory
+-- a fault that a taking of the records can be answered where this is the cause other than memory
 abbrev pub IsTakeAnswer : Option TakeFault → TakeFault → Type 0
 IsTakeAnswer None fault = fault ≡ taking.NoMemory
 IsTakeAnswer (Some cause) fault = fault ≡ cause

@@ -58,7 +58,7 @@ muted_member causes m = option_map (λ c. record { labels = m.alert.labels; caus
 
 -- ---- a group
 
--- what a walk that wants causes or not finds at these indexes among members
+-- what a walk finds at these indexes among members; `causes`: whether it also finds why alerts are muted
 pub record AreFound (rules : List RuleData) (s : State) (t : ℕ) (members : List Member) (indexes : List ℕ)
     (causes : Bool) (walk : Walk) : Type 0 where
   pub firing : copies_at t walk.firing.items ≡ firing_among rules s t (filter_map (slice_get members) indexes)

@@ -103,7 +103,7 @@ fn put_known(
 /// Puts an alert with a stamp in place of the one with its labels in each of these groups, if all of
 /// them are there and have it. Else it changes nothing. Returns whether they have it.
 ///
-/// The last group is found first and changed last, so that all are found before one is changed.
+/// The last group is found first and changed last, so all are found before one is changed.
 fn put_in_each(
     alloc: Global,
     config: &Config,

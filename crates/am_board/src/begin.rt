@@ -1,10 +1,10 @@
 //! Begins: `Board::begin` calls `take_group`, which picks the group and opens a flush or ends it at
 //! once.
 //!
-//! Steps, if the history has room (`take_with_room`): `Groups::first_due` picks the group,
+//! Steps, if the history has capacity (`take_with_room`): `Groups::first_due` picks the group,
 //! `prepare` sorts it and notes what no silence mutes, `plan` finds what is unmuted and whom to
 //! notify, and `begin_planned` ends the begin. `previewed` has the same steps, with a preview in the
-//! index of what `plan` finds. A begin that opens a flush allocates in this order:
+//! place of what `plan` finds. A begin that opens a flush allocates in this order:
 //! - the references to the unmuted alerts, the reasons of the integrations;
 //! - the copies of these alerts, and all else that goes into the board and the ticket;
 //! - the capacity of the history, the open flush, the log keys.
@@ -102,7 +102,7 @@ pub(crate) fn take_group(
     take_with_room(alloc, config, id, state, sources, pass, now)
 }
 
-/// Does what `take_group` does once the history is known to have room.
+/// Does what `take_group` does once the history is known to have capacity.
 fn take_with_room(
     alloc: Global,
     config: &Config,

@@ -1,6 +1,6 @@
 //! `Board` and its calls. Each hands the board's fields to the module of the call. `note` and
 //! `finish` first compare the ticket's id with the board's. The history is in `history`.
-ghost use Rattle.std.specs.Prelude.{◌≡◌, ◌≢◌, ◌↔◌, None, Some, IfOk, IfErr, OnOk, OnErr, IsErrOf};
+ghost use Rattle.std.specs.Prelude.{◌≡◌, ◌≢◌, ◌≤◌, ◌↔◌, None, Some, IfOk, IfErr, OnOk, OnErr, IsErrOf};
 ghost use Rattle.std.specs.Option.{option_map};
 ghost use Rattle.am_alerts.specs.Fault.{ok_unless};
 ghost use Rattle.am_model.specs.Causes.{insert_cause, silence_cause, begin_cause, maintain_cause, forget_cause, load_cause, note_cause};
@@ -199,13 +199,16 @@ impl Board {
     ///   stays due.
     /// - `NoMemory`, which can precede `TooManyOpen` while the log is read.
     ///
-    /// Clause `fresh`: the ticket carries the board's id, and has no outcome.
+    /// Clause `fresh`: the ticket carries the board's id, and has no outcome. Clause `unhindered`: where
+    /// as many flushes may be open as there may be groups, `TooManyOpen` never comes.
     pub fn begin(&mut self, alloc: Global, pass: u32, now: u64) -> Result<Begun, Fault>
         ensures recorded { IfOk result (λ begun. self.new ≡ with_record self.old (entry pass (Call.Begin now) (reply_of begun))) }
         ensures reply { IfOk result (λ begun. IsReplyAt self.old (Call.Begin now) (reply_of begun)) }
         ensures fresh { IfOk result (IsFresh self.old.id) }
         ensures cause { let s = state_at self.old in IsCaused (begin_cause self.old.config (records_at self.old) s (time s now)) result }
         ensures refused { OnErr result (self.new ≡ self.old) }
+        ensures unhindered { self.old.config.limits.groups ≤ self.old.config.limits.flushes
+            → IfErr result (λ fault. fault ≢ Fault.TooManyOpen) }
     {
         let board_id = self.id;
         take_group(

@@ -75,7 +75,7 @@ impl GroupNameCache {
         }
     }
 
-    /// Puts names at an index. Where memory is refused there are none there.
+    /// Puts names at an index. Where there is no memory there are none there.
     fn put(&mut self, index: usize, names: Sequence<GroupName>) -> Result<(), AllocError>
         ensures { (config : Config) (known : List AlertData) → AreKept config known self.old → index < length known
             → ((a : AlertData) → IsAt known index a → names ≡ names_for config a.labels) → AreKept config known self.new }

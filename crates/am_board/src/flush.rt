@@ -31,7 +31,7 @@ pub(crate) struct Notified {
     pub(crate) sets: Option<AlertSets>,
 }
 
-/// An alert that was resolved when the flush began, as it stood in the group.
+/// An alert that was resolved when the flush began, as it was in the group.
 #[derive(Drop)]
 pub(crate) struct LeavingAlert {
     pub(crate) labels: Labels,

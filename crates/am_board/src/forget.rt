@@ -4,8 +4,12 @@
 //! The label sets that are in groups are gathered first, and then looked up: one look-up for each
 //! alert of a group, and two for each known alert that is resolved, since the cached group names
 //! move by a walk of their own. From the first change on nothing can fail. The log forgets its keys
-//! without a row too, except those of open flushes, whose finish needs them. The definitions don't
-//! see these keys: clause `keys` of `forget_idle` alone says that they go.
+//! without a row too, except those of open flushes, whose finish needs them.
+//!
+//! Clause `keys` of `forget_idle` says that these keys go, and no clause of `Board::forget` does.
+//! Contracts see a board as its configuration, its id and its history, and no reply depends on a key
+//! without a row: its memory alone does. To name the keys in public, each call would have to say
+//! which of them it leaves.
 ghost use Rattle.std.specs.Prelude.{◌≡◌, ℕ, List, None, IfOk, MatchResult, OnOk, map, vec_len};
 ghost use Rattle.am_alerts.specs.AlertData.{AlertData};
 ghost use Rattle.am_model.specs.Causes.{forget_cause};

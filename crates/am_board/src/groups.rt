@@ -6,7 +6,7 @@
 //! name, which no other group has. While the set of due times is complete, it has the key of each
 //! group.
 //!
-//! A group says itself whether a flush of it is open, so that a begin needs no look at the flushes.
+//! A group says itself whether a flush of it is open, so a begin needs no look at the flushes.
 //! `marks_of` (specs/Marks.antt) lists what groups say. A begin that opens a flush sets a group's
 //! mark and a finish clears it. That the marks agree with the open flushes (`AreMarked`) belongs to
 //! `StateInvariant`.

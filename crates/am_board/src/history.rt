@@ -49,9 +49,14 @@ impl Board {
     /// In this order, and each changes nothing:
     /// - `TooManyCalls`: more than 10^15 records would be handed out. The board then takes calls
     ///   until `HistoryFull`.
-    /// - `NoMemory`.
+    /// - `NoMemory`, which comes only with an open flush.
     ///
-    /// Cost: constant. Dropping the records frees each.
+    /// `NoMemory` can't hold a board at `HistoryFull`. There each begin is refused, so that no
+    /// further flush opens. A finish allocates nothing, and its capacity is kept. After the last
+    /// finish no flush is open, and the take succeeds.
+    ///
+    /// Cost: constant. The walk over the records is there for proofs alone, and a built program has
+    /// no code of it (`GhostList::add_all`). Dropping the records frees each.
     pub fn take_history(&mut self, alloc: Global) -> Result<Vec<Record>, TakeFault>
         ensures records { IfOk result (λ taken. self.old.handed ++ taken.items ≡ self.old.history) }
         ensures after { OnOk result (self.new ≡ handed_out self.old) }

@@ -5,7 +5,7 @@
 //! adds it behind the others and sorts. The sort finds that the others are in their order, so they cost
 //! at most two comparisons each. Above 20 alerts it takes a buffer for the time of the sort.
 //!
-//! It only saves time. Where its memory is refused, each use computes it again.
+//! It only saves time. Without memory for it, each use computes it again.
 ghost use Rattle.std.specs.Prelude.{◌≡◌, ◌≤◌, ◌==◌, [], IfOk, IfSome, IsPermutation, OnOk, length, map, slice_get};
 ghost use Rattle.std.specs.List.{IsDistinct, filter_map, range_with_len};
 ghost use Rattle.std.specs.Option.{option_copied};
@@ -20,7 +20,7 @@ use am_alerts::labels::Labels;
 use std::alloc::{AllocError, Global};
 use std::cmp::Ordering;
 
-/// Completes the indexes in the order of labels. Where memory is refused, none is there.
+/// Completes the indexes in the order of labels. Where there is no memory, none is there.
 pub(crate) fn renew(order: &mut Vec<usize>, members: &[Member])
     requires apart { IsDistinct same_member (map member_state members.now) }
     requires known { AreIndexes order.old.items members.now }

@@ -1,5 +1,5 @@
 //! The flush to open: all that its begin puts into the board and its ticket. `begin` calls `plan`. A
-//! begin with its preview calls `plan_notifying`, with what the preview found.
+//! begin with its preview calls `plan_notifying` with the preview.
 //!
 //! Copies are made only where an integration is to be notified. The label sets are made once then:
 //! the open flush and each notified integration share them, so a note or the finish moves them into
@@ -172,7 +172,7 @@ fn open(
     })
 }
 
-/// Returns what the record keeps of a flush, beside its group.
+/// Returns what the record keeps of a flush, besides its group.
 fn recorded(
     alloc: Global,
     number: u64,

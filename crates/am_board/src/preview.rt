@@ -3,7 +3,7 @@
 //!
 //! A preview changes nothing. Where a begin would sort the group, a preview sorts it for itself
 //! alone. It uses what an earlier begin noted of the silences.
-ghost use Rattle.std.specs.Prelude.{◌≡◌, ◌≤◌, All, IfOk, map};
+ghost use Rattle.std.specs.Prelude.{◌≡◌, ◌≤◌, All, IfOk, IsOk, None, map};
 ghost use Rattle.std.specs.List.{IsDistinct};
 ghost use Rattle.am_mute.specs.Sources.{AreLearnt};
 ghost use Rattle.am_alerts.specs.RoutingTree.{last_of};
@@ -43,8 +43,11 @@ impl Board {
     ///
     /// The reasons are those that the history gives (`law::previews_look_back`). A begin at once
     /// notifies exactly the integrations whose reason says so (`law::reasons_are_exact`).
+    ///
+    /// Clause `answers`: where no group is due it takes no memory. Else it makes lists, which do.
     pub fn preview(&self, alloc: Global, now: u64) -> Result<Option<Preview>, AllocError>
-        ensures { IfOk result (λ found. found ≡ preview self.now.config self.now.history now) }
+        ensures preview { IfOk result (λ found. found ≡ preview self.now.config self.now.history now) }
+        ensures answers { preview self.now.config self.now.history now ≡ None → IsOk result }
     {
         preview_of(alloc, &self.config, &self.state, &self.sources, now)
     }
@@ -82,7 +85,8 @@ fn preview_of(
     requires good { StateInvariant config.now state.now }
     requires sources { AreLearnt config.now.rules state.now.known.items sources.now }
     requires times { All (λ row. row.time ≤ MAX_TIME) (log_rows state.now.log) }
-    ensures { IfOk result (λ preview. preview ≡ preview_at config.now (state_of state.now) (time (state_of state.now) now)) }
+    ensures preview { IfOk result (λ preview. preview ≡ preview_at config.now (state_of state.now) (time (state_of state.now) now)) }
+    ensures answers { preview_at config.now (state_of state.now) (time (state_of state.now) now) ≡ None → IsOk result }
 {
     let t = state.time(now);
     let Some(index) = state.groups.first_due(t) else {

@@ -3,7 +3,7 @@
 //!
 //! The group is prepared as for any begin, and the preview comes next. The begin goes on with what it
 //! found: what is unmuted, and whom to notify.
-ghost use Rattle.std.specs.Prelude.{◌≡◌, ◌+◌, ◌<◌, ◌≤◌, All, None, Ok, IfOk, MatchResult, OnErr, length, slice_index_or, vec_len};
+ghost use Rattle.std.specs.Prelude.{◌≡◌, ◌≢◌, ◌+◌, ◌<◌, ◌≤◌, All, None, Ok, IfErr, IfOk, MatchResult, OnErr, length, slice_index_or, vec_len};
 ghost use Rattle.am_mute.specs.Sources.{AreLearnt};
 ghost use Rattle.am_alerts.specs.RoutingTree.{last_of};
 ghost use Rattle.std.specs.List.{IsDistinct};
@@ -54,6 +54,8 @@ impl Board {
         ensures fresh { IfOk result (λ both. IsFresh self.old.id both.0) }
         ensures cause { let s = state_at self.old in IsCaused (begin_cause self.old.config (records_at self.old) s (time s now)) result }
         ensures refused { OnErr result (self.new ≡ self.old) }
+        ensures unhindered { self.old.config.limits.groups ≤ self.old.config.limits.flushes
+            → IfErr result (λ fault. fault ≢ Fault.TooManyOpen) }
     {
         let board_id = self.id;
         take_previewed(

@@ -1,7 +1,7 @@
 //! Label sets that no silence mutes, noted one behind the other. `silences` has one list of them.
 //!
 //! Whoever asks for the same label sets again, in the same order, remembers the index of the first.
-//! Each is then compared with the one that is noted at its index, and no silence is looked at. A
+//! Each is then compared with the one that is noted at its index, and no silence is looked at. An
 //! index is only a hint: a stale one costs a look-up of the silences, and gives no wrong answer.
 //!
 //! Invariant: at each time from `since` on and before `until`, no silence mutes a label set of the

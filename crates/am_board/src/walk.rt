@@ -2,7 +2,7 @@
 //! resolved, and what mutes the others (the mute stages of `notify`). `plan` and `preview` call it.
 //!
 //! A preview wants the causes, a plain begin doesn't: to know that an alert is muted costs less than to
-//! know why. A muted alert is found with its index, so that a preview lists it where it is in the
+//! know why. A muted alert is found with its index, so a preview lists it where it is in the
 //! group. The others are found as they are in the group: no walk copies an alert.
 ghost use Rattle.std.specs.Prelude.{◌≡◌, ◌++◌, [], false, true, IfOk, OnOk, Option, map};
 ghost use Rattle.std.specs.List.{IsDistinct, cons_option, filter_map};

@@ -78,7 +78,7 @@ pub handed_on : {T X : Type 0} (Decodes : X → Type 0) (result : Result T Input
 handed_on Decodes (Ok x) fault is excluded = absurd is
 handed_on Decodes (Err f) fault is excluded = subst (Excludes Decodes) (sym is) excluded
 
--- want of memory excludes nothing
+-- lack of memory excludes nothing
 pub starved : {T X : Type 0} (Decodes : X → Type 0) (result : Result T InputFault) → IsErrAnd result (λ f. f ≡ NoMemory) → IfErr result (Excludes Decodes)
 starved Decodes result is = handed_on Decodes result NoMemory is (λ refusal x decoded. absurd (cc))
 

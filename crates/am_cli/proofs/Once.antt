@@ -10,7 +10,6 @@ use Rattle.am_alerts.specs.declared.matcher.MatcherParts.{MatcherParts}
 use Rattle.am_alerts.specs.declared.route.Child.{Child}
 use Rattle.am_alerts.specs.declared.route.GroupBy.TheVariants.{All, Names}
 use Rattle.am_alerts.specs.declared.route.Route.{Route}
-use Rattle.am_model.specs.Config.{greatest_limits}
 use Rattle.am_model.specs.declared.config.Config.{Config}
 use Rattle.am_model.specs.declared.config.Integration.{Integration}
 use Rattle.am_model.specs.declared.config.Limits.{Limits}
@@ -18,7 +17,7 @@ use Rattle.am_model.specs.declared.config.Receiver.{Receiver}
 use Rattle.am_mute.specs.Inhibit.{RuleData}
 use Rattle.am_cli.specs.Configured.{DecodesToPairs, DecodesToMatcher, DecodesToOptions, IsGroupBy, IsMatcher, IsMatcherIn, IsPair, all_labels, text_members}
 use Rattle.am_cli.specs.Configured.{DecodesToChild, DecodesToIntegration, DecodesToLimits, DecodesToReceiver, DecodesToRoot, DecodesToRule}
-use Rattle.am_cli.specs.Configured.{HasChild, HasIntegration, HasLimits, HasParts, HasReceiver, HasRoot, HasRule}
+use Rattle.am_cli.specs.Configured.{HasChild, HasIntegration, HasLimits, HasParts, HasReceiver, HasRoot, HasRule, limits_in}
 use Rattle.am_cli.specs.Decoding.{DecodeEach, IsDuration, IsFlag, IsInterval, IsList, IsNumber, IsObject, IsText}
 use Rattle.am_alerts.specs.Matcher.{operator_text}
 use Rattle.am_cli.specs.MatcherText.{IsMatcherText}
@@ -190,7 +189,7 @@ all_named (n ∷ []) each =
     ap (λ (t : List ℕ). list_any (λ name. bytes_eq name all_labels) (t ∷ [])) same
 all_named (n ∷ m ∷ ns) each = absurd each.1
 
--- names that are given beside all labels alone
+-- names that are given next to all labels alone
 pub all_or_names : (value : Data) (names : List (List ℕ)) → as_array value ≡ Some (item (string all_labels) no_items) → IsList IsText value names
     → list_any (λ name. bytes_eq name all_labels) names ≡ true
 all_or_names value names is decoded =
@@ -253,11 +252,11 @@ one_receiver mode = one_object (HasReceiver mode) (one_receiver_of mode)
 
 one_limits_of : (mode : Mode) (members : Members) (l m : Limits) → HasLimits mode members l → HasLimits mode members m → l ≡ m
 one_limits_of mode members l m is also =
-    let alerts = one_or IsNumber (one_read number_in) greatest_limits.alerts (get_member (codes "names") members) l.alerts m.alerts is.alerts also.alerts in
-    let groups = one_or IsNumber (one_read number_in) greatest_limits.groups (get_member (codes "groups") members) l.groups m.groups is.groups also.groups in
-    let silences = one_or IsNumber (one_read number_in) greatest_limits.silences (get_member (codes "silences") members) l.silences m.silences is.silences also.silences in
-    let flushes = one_or IsNumber (one_read number_in) greatest_limits.flushes (get_member (codes "flushes") members) l.flushes m.flushes is.flushes also.flushes in
-    let history = one_or IsNumber (one_read number_in) greatest_limits.history (get_member (codes "history") members) l.history m.history is.history also.history in
+    let alerts = one_or IsNumber (one_read number_in) (limits_in mode).alerts (get_member (codes "names") members) l.alerts m.alerts is.alerts also.alerts in
+    let groups = one_or IsNumber (one_read number_in) (limits_in mode).groups (get_member (codes "groups") members) l.groups m.groups is.groups also.groups in
+    let silences = one_or IsNumber (one_read number_in) (limits_in mode).silences (get_member (codes "silences") members) l.silences m.silences is.silences also.silences in
+    let flushes = one_or IsNumber (one_read number_in) (limits_in mode).flushes (get_member (codes "flushes") members) l.flushes m.flushes is.flushes also.flushes in
+    let history = one_or IsNumber (one_read number_in) (limits_in mode).history (get_member (codes "history") members) l.history m.history is.history also.history in
     λ i. record { alerts = alerts i; groups = groups i; silences = silences i; flushes = flushes i; history = history i }
 
 pub one_limits : (mode : Mode) → IsOne (DecodesToLimits mode)
@@ -266,7 +265,7 @@ one_limits mode = one_object (HasLimits mode) (one_limits_of mode)
 one_parts_of : (mode : Mode) (members : Members) (c d : Config) → HasParts mode members c → HasParts mode members d → c ≡ d
 one_parts_of mode members c d is also =
     let retention = one_or IsDuration (one_read duration_in) 432000000 (get_member (codes "retention") members) c.retention d.retention is.retention also.retention in
-    let limits = one_or (DecodesToLimits mode) (one_limits mode) greatest_limits (get_member (codes "limits") members) c.limits d.limits is.limits also.limits in
+    let limits = one_or (DecodesToLimits mode) (one_limits mode) (limits_in mode) (get_member (codes "limits") members) c.limits d.limits is.limits also.limits in
     let receivers = one_there (IsList (DecodesToReceiver mode)) (one_list (DecodesToReceiver mode) (one_receiver mode)) (get_member (codes "receivers") members)
     c.receivers d.receivers is.receivers also.receivers in
     let root = one_there (DecodesToRoot mode) (one_root mode) (get_member (codes "route") members) c.routes.root d.routes.root is.root also.root in

@@ -1,5 +1,5 @@
--- What the JSON value of a configuration says, a line for each member.
-use Rattle.std.specs.Prelude.{◌≡◌, ◌≤◌, ◌++◌, ◌&&◌, ℕ, Bool, List, [], ◌∷◌, Some, None, true, false, codes, length, IsTrue, MatchOption}
+-- What the JSON value of a configuration decodes to, a line for each field.
+use Rattle.std.specs.Prelude.{◌≡◌, ◌≤◌, ◌++◌, ◌&&◌, ℕ, Bool, List, [], ◌∷◌, Some, None, true, false, codes, length, nat_le, IsTrue, MatchOption}
 use Rattle.std.specs.Borrow.{Bor}
 use Rattle.std.specs.List.{list_all, list_any}
 use Rattle.std.specs.Str.{bytes_eq}
@@ -15,7 +15,7 @@ use Rattle.am_alerts.specs.declared.route.Child.{Child}
 use Rattle.am_alerts.specs.declared.route.GroupBy.{GroupBy}
 use Rattle.am_alerts.specs.declared.route.GroupBy.TheVariants.{All, Names}
 use Rattle.am_alerts.specs.declared.route.Route.{Route}
-use Rattle.am_model.specs.Config.{config_fault, greatest_limits}
+use Rattle.am_model.specs.Config.{config_fault, default_limits, greatest_limits}
 use Rattle.am_model.specs.declared.config.Config.{Config}
 use Rattle.am_model.specs.declared.config.Integration.{Integration}
 use Rattle.am_model.specs.declared.config.Limits.{Limits}
@@ -36,7 +36,7 @@ abbrev pub text_members : List (Bor (List ℕ) × Bor (List ℕ)) → Members
 text_members [] = no_members
 text_members (p ∷ ps) = member p.0.now (string p.1.now) (text_members ps)
 
--- an array of pairs; in the strict mode an object can represent it too, whose members are the pairs
+-- an array of pairs decodes to them; in strict mode so does an object, whose fields are the pairs
 abbrev pub DecodesToPairs : Mode → Data → List (Bor (List ℕ) × Bor (List ℕ)) → Type 0
 DecodesToPairs Lenient value pairs = IsList IsPair value pairs
 DecodesToPairs Strict value pairs = MatchOption (as_object value) (IsList IsPair value pairs) (λ members. members ≡ text_members pairs)
@@ -52,7 +52,7 @@ pub record DecodesToLabels (mode : Mode) (value : Data) (labels : List Label) : 
 abbrev pub IsMatcher : Data → MatcherParts → Type 0
 IsMatcher value m = as_array value ≡ Some (item (string m.name) (item (string (operator_text m.op)) (item (string m.value) no_items)))
 
--- in the strict mode one text can represent a matcher too
+-- in strict mode a text decodes to a matcher too
 abbrev pub IsMatcherIn : Mode → Data → MatcherParts → Type 0
 IsMatcherIn Lenient value m = IsMatcher value m
 IsMatcherIn Strict value m = MatchOption (as_str value) (IsMatcher value m) (λ text. IsMatcherText text m)
@@ -66,7 +66,7 @@ pub record DecodesToMatcher (mode : Mode) (value : Data) (m : MatcherParts) : Ty
   pub written : IsMatcherIn mode value m
   pub sound : IsSound m
 
--- what the members of an inhibition rule say
+-- the fields of an object decode to an inhibition rule
 pub record HasRule (mode : Mode) (members : Members) (rule : RuleData) : Type 0 where
   pub only : IsTrue (has_only mode (codes "source" ∷ codes "target" ∷ codes "equal" ∷ []) members)
   pub source : HasOr (IsList (DecodesToMatcher mode)) [] (codes "source") members rule.source
@@ -81,7 +81,7 @@ DecodesToRule mode value rule = IsObject (HasRule mode) value rule
 abbrev pub rule_compares_texts : RuleData → Bool
 rule_compares_texts rule = compare_texts rule.source && compare_texts rule.target
 
--- what is in `group_by` for all labels, and alone
+-- `group_by` has this text alone for all labels
 abbrev pub all_labels : List ℕ
 all_labels = codes "..."
 
@@ -104,7 +104,7 @@ abbrev pub option_names : List (List ℕ)
 option_names =
     codes "receiver" ∷ codes "group_by" ∷ codes "group_wait" ∷ codes "group_interval" ∷ codes "repeat_interval" ∷ []
 
--- what the members of the root say
+-- the fields of an object decode to the root route
 pub record HasRoot (mode : Mode) (members : Members) (route : Route) : Type 0 where
   pub only : IsTrue (has_only mode option_names members)
   pub options : DecodesToOptions members route
@@ -113,7 +113,7 @@ pub record HasRoot (mode : Mode) (members : Members) (route : Route) : Type 0 wh
 abbrev pub DecodesToRoot : Mode → Data → Route → Type 0
 DecodesToRoot mode value route = IsObject (HasRoot mode) value route
 
--- what the members of a child say
+-- the fields of an object decode to a child route
 pub record HasChild (mode : Mode) (members : Members) (child : Child) : Type 0 where
   pub only : IsTrue (has_only mode (option_names ++ codes "name" ∷ codes "matchers" ∷ codes "continue" ∷ []) members)
   pub options : DecodesToOptions members child.route
@@ -125,7 +125,7 @@ pub record HasChild (mode : Mode) (members : Members) (child : Child) : Type 0 w
 abbrev pub DecodesToChild : Mode → Data → Child → Type 0
 DecodesToChild mode value child = IsObject (HasChild mode) value child
 
--- what the members of an integration say
+-- the fields of an object decode to an integration
 pub record HasIntegration (mode : Mode) (members : Members) (integration : Integration) : Type 0 where
   pub only : IsTrue (has_only mode (codes "kind" ∷ codes "send_resolved" ∷ []) members)
   pub kind : Has IsText (codes "kind") members integration.kind
@@ -134,7 +134,7 @@ pub record HasIntegration (mode : Mode) (members : Members) (integration : Integ
 abbrev pub DecodesToIntegration : Mode → Data → Integration → Type 0
 DecodesToIntegration mode value integration = IsObject (HasIntegration mode) value integration
 
--- what the members of a receiver say
+-- the fields of an object decode to a receiver
 pub record HasReceiver (mode : Mode) (members : Members) (receiver : Receiver) : Type 0 where
   pub only : IsTrue (has_only mode (codes "name" ∷ codes "integrations" ∷ []) members)
   pub name : Has IsText (codes "name") members receiver.name
@@ -143,18 +143,29 @@ pub record HasReceiver (mode : Mode) (members : Members) (receiver : Receiver) :
 abbrev pub DecodesToReceiver : Mode → Data → Receiver → Type 0
 DecodesToReceiver mode value receiver = IsObject (HasReceiver mode) value receiver
 
+-- the limits where a configuration says none, none of which it may pass
+abbrev pub limits_in : Mode → Limits
+limits_in Lenient = default_limits
+limits_in Strict = greatest_limits
+
+-- whether none of these limits is above the greatest
+abbrev pub are_at_most : Limits → Limits → Bool
+are_at_most greatest limits =
+    nat_le limits.alerts greatest.alerts && nat_le limits.groups greatest.groups && nat_le limits.silences greatest.silences
+    && nat_le limits.flushes greatest.flushes && nat_le limits.history greatest.history
+
 -- the names of limits
 abbrev pub limit_names : List (List ℕ)
 limit_names = codes "names" ∷ codes "groups" ∷ codes "silences" ∷ codes "flushes" ∷ codes "history" ∷ []
 
--- what the members of limits say
+-- the fields of an object decode to limits
 pub record HasLimits (mode : Mode) (members : Members) (limits : Limits) : Type 0 where
   pub only : IsTrue (has_only mode limit_names members)
-  pub alerts : HasOr IsNumber greatest_limits.alerts (codes "names") members limits.alerts
-  pub groups : HasOr IsNumber greatest_limits.groups (codes "groups") members limits.groups
-  pub silences : HasOr IsNumber greatest_limits.silences (codes "silences") members limits.silences
-  pub flushes : HasOr IsNumber greatest_limits.flushes (codes "flushes") members limits.flushes
-  pub history : HasOr IsNumber greatest_limits.history (codes "history") members limits.history
+  pub alerts : HasOr IsNumber (limits_in mode).alerts (codes "names") members limits.alerts
+  pub groups : HasOr IsNumber (limits_in mode).groups (codes "groups") members limits.groups
+  pub silences : HasOr IsNumber (limits_in mode).silences (codes "silences") members limits.silences
+  pub flushes : HasOr IsNumber (limits_in mode).flushes (codes "flushes") members limits.flushes
+  pub history : HasOr IsNumber (limits_in mode).history (codes "history") members limits.history
 
 abbrev pub DecodesToLimits : Mode → Data → Limits → Type 0
 DecodesToLimits mode value limits = IsObject (HasLimits mode) value limits
@@ -164,11 +175,11 @@ abbrev pub config_names : List (List ℕ)
 config_names =
     codes "retention" ∷ codes "limits" ∷ codes "receivers" ∷ codes "route" ∷ codes "children" ∷ codes "inhibit" ∷ []
 
--- what the members of a configuration say, whether or not a dispatcher may have it
+-- the fields of an object decode to a configuration, with or without a fault
 pub record HasParts (mode : Mode) (members : Members) (config : Config) : Type 0 where
   pub only : IsTrue (has_only mode config_names members)
   pub retention : HasOr IsDuration 432000000 (codes "retention") members config.retention
-  pub limits : HasOr (DecodesToLimits mode) greatest_limits (codes "limits") members config.limits
+  pub limits : HasOr (DecodesToLimits mode) (limits_in mode) (codes "limits") members config.limits
   pub receivers : Has (IsList (DecodesToReceiver mode)) (codes "receivers") members config.receivers
   pub root : Has (DecodesToRoot mode) (codes "route") members config.routes.root
   pub children : List Child
@@ -180,6 +191,7 @@ pub record HasParts (mode : Mode) (members : Members) (config : Config) : Type 0
 pub record DecodesToConfig (mode : Mode) (value : Data) (config : Config) : Type 0 where
   pub parts : IsObject (HasParts mode) value config
   pub sound : config_fault config ≡ None
+  pub within : IsTrue (are_at_most (limits_in mode) config.limits)
 
 -- whether no matcher of a configuration needs a regex
 abbrev pub config_compares_texts : Config → Bool

@@ -1,4 +1,4 @@
--- What JSON values say: texts, numbers, answers, lists, and members with what represents one that isn't there.
+-- What JSON values decode to: texts, numbers, answers, lists, and fields with their defaults.
 use Rattle.std.specs.Prelude.{◌≡◌, ℕ, Bool, List, [], ◌∷◌, Option, Some, None, IsSomeAnd, MatchOption, codes}
 use Rattle.serde_json.specs.Data.{Data, Items, no_items, item, Members}
 use Rattle.serde_json.specs.Find.{as_array, as_bool, as_object, as_str, get_member}
@@ -33,30 +33,30 @@ answer_text Never = codes "never"
 abbrev pub IsAnswer : Data → Answer → Type 0
 IsAnswer value answer = as_str value ≡ Some (answer_text answer)
 
--- the items of an array say those of a list, one by one
+-- the items of an array decode to those of a list, one by one
 abbrev pub DecodeEach : {X : Type 0} → (Data → X → Type 0) → Items → List X → Type 0
 DecodeEach decodes_to no_items [] = Unit {0}
 DecodeEach decodes_to no_items (x ∷ xs) = ⊥
 DecodeEach decodes_to (item value values) [] = ⊥
 DecodeEach decodes_to (item value values) (x ∷ xs) = decodes_to value x × DecodeEach decodes_to values xs
 
--- an array of what says the items of a list
+-- an array whose items decode to those of a list
 abbrev pub IsList : {X : Type 0} → (Data → X → Type 0) → Data → List X → Type 0
 IsList decodes_to value xs = MatchOption (as_array value) ⊥ (λ items. DecodeEach decodes_to items xs)
 
--- an object whose members say this
+-- an object whose fields decode to this value
 abbrev pub IsObject : {X : Type 0} → (Members → X → Type 0) → Data → X → Type 0
 IsObject has value x = MatchOption (as_object value) ⊥ (λ members. has members x)
 
--- the member of this name is there, and says this
+-- the field of this name is there, and decodes to this value
 abbrev pub Has : {X : Type 0} → (Data → X → Type 0) → List ℕ → Members → X → Type 0
 Has decodes_to name members x = MatchOption (get_member name members) ⊥ (λ value. decodes_to value x)
 
--- the member of this name says this, or it isn't there, and this is what represents it
+-- the field of this name decodes to this value, or it is absent, and this value is its default
 abbrev pub HasOr : {X : Type 0} → (Data → X → Type 0) → X → List ℕ → Members → X → Type 0
 HasOr decodes_to absent name members x = MatchOption (get_member name members) (x ≡ absent) (λ value. decodes_to value x)
 
--- the member of this name is there, and says this, or it isn't there, and this is none
+-- the field of this name is there, and decodes to this value, or it is absent, and there is none
 abbrev pub HasIf : {X : Type 0} → (Data → X → Type 0) → List ℕ → Members → Option X → Type 0
 HasIf decodes_to name members found = MatchOption (get_member name members) (found ≡ None) (λ value. IsSomeAnd found (decodes_to value))
 

@@ -28,7 +28,7 @@ abbrev pub EndsReading : {T : Type 0} → Result T InputFault → InputFault →
 EndsReading (Ok read) end = ⊥
 EndsReading (Err fault) end = Ends fault end
 
--- a refusal says a fault at least
+-- a refusal lists at least one fault
 abbrev pub HasFaults : Refusal → Type 0
 HasFaults (One fault) = Unit {0}
 HasFaults (All faults) = 0 < length faults

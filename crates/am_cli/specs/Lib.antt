@@ -1,6 +1,6 @@
 -- the bytes that go through a device, by its answers
 pub mod Bytes
--- what the JSON value of a configuration says, a line for each member
+-- what the JSON value of a configuration decodes to, a line for each field
 pub mod Configured
 -- the faults of an input: how they add up, and which end the reading
 pub mod Faults
@@ -10,5 +10,5 @@ pub mod MatcherText
 pub mod Read
 -- a route, from what is read of it
 pub mod Routed
--- what JSON values say: texts, numbers, answers, lists, and members with what represents one that isn't there
+-- what JSON values decode to: texts, numbers, answers, lists, and fields with their defaults
 pub mod Decoding

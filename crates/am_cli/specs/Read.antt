@@ -47,16 +47,16 @@ interval_in value = option_and_then (λ duration. if duration == 0 then None els
 abbrev pub HasItems : Data → ℕ → Type 0
 HasItems value count = option_map items_len (as_array value) ≡ Some count
 
--- whether a fault refuses a value; the other is want of memory
+-- whether a fault rejects a value; the other fault is `NoMemory`
 abbrev pub is_refusal : InputFault → Bool
 is_refusal (Refused pointer by) = true
 is_refusal NoMemory = false
 
--- a value that is refused says none of these; want of memory says nothing of it
+-- a rejected value decodes to none of these; `NoMemory` says nothing about the value
 abbrev pub Excludes : {X : Type 0} → (X → Type 0) → InputFault → Type 0
 Excludes {X = X} Decodes fault = IsTrue (is_refusal fault) → (x : X) → Decodes x → ⊥
 
--- refused by this kind of fault, or for want of memory to say the pointer
+-- rejected with this error kind, or with `NoMemory` if there is none for the pointer
 abbrev pub IsRefusedBy : FaultKind → InputFault → Type 0
 IsRefusedBy fault_kind (Refused pointer by) = by ≡ fault_kind
 IsRefusedBy fault_kind NoMemory = Unit {0}
@@ -69,7 +69,7 @@ IsJson input = (value : Data) × (read input ≡ Some value)
 abbrev pub IsNoJson : List ℕ → Type 0
 IsNoJson input = IsUtf8 input → read input ≡ None
 
--- why bytes are no value: they are no JSON text, or memory was refused
+-- why bytes are no value: they are no JSON text, or there was no memory
 abbrev pub RefusesText : List ℕ → ParseFault → Type 0
 RefusesText input (parse.NotJson line column) = IsNoJson input
 RefusesText input parse.NoMemory = Unit {0}

@@ -6,21 +6,21 @@
 //! value.
 ghost use Rattle.std.specs.Prelude.{◌≡◌, ◌≢◌, IfErr, IfOk, IsTrue, None, codes};
 ghost use Rattle.am_alerts.specs.RoutingTree.{level_fault, tree_of};
-ghost use Rattle.am_model.specs.Config.{config_fault, greatest_limits};
-ghost use Rattle.am_cli.specs.Configured.{DecodesToConfig, DecodesToLimits, HasParts, config_compares_texts};
+ghost use Rattle.am_model.specs.Config.{config_fault};
+ghost use Rattle.am_cli.specs.Configured.{DecodesToConfig, DecodesToLimits, HasParts, are_at_most, config_compares_texts, limits_in};
 ghost use Rattle.am_cli.specs.Decoding.{IsNumber, IsObject, HasOr};
 ghost use Rattle.am_cli.specs.Read.{Excludes};
 ghost use Rattle.serde_json.specs.View.{members_view, view};
 
 use crate::duration::duration_or;
 use crate::fault::InputFault;
-use crate::reader::{FromJson, Object, Reader};
+use crate::reader::{FromJson, Mode, Object, Reader};
 use crate::refusal::{refuse_config, refuse_receivers, refuse_routes};
 use crate::route::read_root;
 use am_alerts::limits::MAX_CHILDREN;
 use am_alerts::route::{Child, Route, RouteFault, Routes};
 use am_alerts::sequence::Sequence;
-use am_model::config::{Config, Integration, Limits, MAX_RECEIVERS, Receiver};
+use am_model::config::{Config, ConfigFault, Integration, Limits, MAX_RECEIVERS, Receiver};
 use am_mute::inhibit::InhibitRule;
 
 /// How long the notification log keeps an entry: 120 hours, in milliseconds.
@@ -35,9 +35,35 @@ pub fn read_config(reader: &Reader<'_, '_>) -> Result<Config, InputFault>
 {
     let config = read_parts(reader)?;
     match config.check() {
-        Ok(()) => Ok(config),
+        Ok(()) if keeps_limits(reader.mode(), &config) => Ok(config),
+        Ok(()) => Err(refuse_config(reader, &config, ConfigFault::BadLimit)),
         Err(cause) => Err(refuse_config(reader, &config, cause)),
     }
+}
+
+/// The limits where a configuration says none, none of which it may pass.
+///
+/// A scenario of `am-run` keeps those of a small dispatcher: it gives the same report as ever.
+pub(crate) fn limits_in(mode: Mode) -> Limits
+    ensures { result ≡ limits_in mode }
+{
+    match mode {
+        Mode::Lenient => Limits::default(),
+        Mode::Strict => Limits::greatest(),
+    }
+}
+
+/// Whether no limit of a configuration is above those of the mode.
+fn keeps_limits(mode: Mode, config: &Config) -> bool
+    ensures { result ≡ are_at_most (limits_in mode) config.now.limits }
+{
+    let greatest = limits_in(mode);
+    let limits = &config.limits;
+    limits.alerts <= greatest.alerts
+        && limits.groups <= greatest.groups
+        && limits.silences <= greatest.silences
+        && limits.flushes <= greatest.flushes
+        && limits.history <= greatest.history
 }
 
 /// Reads the parts of a configuration.
@@ -94,15 +120,15 @@ fn make_routes(
     }
 }
 
-/// The limits of a configuration, or the greatest where it says none.
+/// The limits of a configuration, or those of the mode where it has none.
 fn read_limits(config: &Object<'_, '_>) -> Result<Limits, InputFault>
-    ensures decoded { IfOk result (HasOr (DecodesToLimits config.now.mode) greatest_limits (codes "limits")
+    ensures decoded { IfOk result (HasOr (DecodesToLimits config.now.mode) (limits_in config.now.mode) (codes "limits")
         (members_view config.now.members)) }
-    ensures refused { IfErr result (Excludes (HasOr (DecodesToLimits config.now.mode) greatest_limits (codes "limits")
+    ensures refused { IfErr result (Excludes (HasOr (DecodesToLimits config.now.mode) (limits_in config.now.mode) (codes "limits")
         (members_view config.now.members))) }
 {
     match config.optional("limits") {
-        None => Ok(Limits::default()),
+        None => Ok(limits_in(config.mode())),
         Some(member) => Limits::read(&member),
     }
 }
@@ -117,7 +143,7 @@ impl<'v> FromJson<'v> for Limits {
     fn read(reader: &Reader<'v, '_>) -> Result<Limits, InputFault> {
         let limits = reader.object()?;
         limits.only(&["names", "groups", "silences", "flushes", "history"])?;
-        let most = Limits::default();
+        let most = limits_in(limits.mode());
         Ok(Limits {
             alerts: read_limit(&limits, "names", most.alerts)?,
             groups: read_limit(&limits, "groups", most.groups)?,

@@ -12,9 +12,9 @@ pub enum FaultKind {
     WrongType,
     /// The kind is right, and the value is refused.
     BadValue,
-    /// Nobody knows a member of this name, which the strict mode refuses.
+    /// No field of this name is known here. Strict mode rejects it.
     Unknown,
-    /// A call of the board was refused for want of room.
+    /// A call of the board was refused for lack of capacity.
     Full,
     /// It has a meaning, which nothing here has.
     Unsupported,
@@ -27,7 +27,7 @@ pub enum ParseFault {
     /// column in bytes; 0 is the column of a line's end before it.
     #[error("not JSON: line {line}, column {column}")]
     NotJson { line: usize, column: usize },
-    /// Memory was refused.
+    /// Out of memory.
     #[error("no memory")]
     NoMemory,
 }
@@ -41,7 +41,7 @@ pub enum InputFault {
         pointer: String,
         fault_kind: FaultKind,
     },
-    /// Memory was refused.
+    /// Out of memory.
     #[error("no memory")]
     NoMemory,
 }

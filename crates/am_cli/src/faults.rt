@@ -5,7 +5,7 @@ use crate::reader::{Object, is_one_of};
 use std::alloc::Global;
 use std::marker::Model;
 
-/// How many faults are listed at most.
+/// The greatest number of faults that are listed.
 pub const MAX_FAULTS: usize = 100;
 
 /// A value that is refused.

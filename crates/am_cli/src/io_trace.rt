@@ -55,7 +55,7 @@ impl IoTrace {
         self.moved.add_all(bytes);
     }
 
-    /// The device was asked, and reported that this is the end.
+    /// The device was called, and reported the end.
     pub fn add_end(&mut self)
         ensures reads { self.new.reads ≡ self.old.reads + 1 }
         ensures failed { self.new.failed ≡ self.old.failed }

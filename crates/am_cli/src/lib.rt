@@ -4,6 +4,7 @@
 
 mod answer;
 pub mod config;
+pub mod default_waits;
 pub mod device;
 pub mod duration;
 pub mod fault;

@@ -28,7 +28,7 @@ const OPERATOR: usize = 1;
 /// Where the value is.
 const VALUE: usize = 2;
 
-/// Three texts, or in the strict mode also one. A pattern that needs a regex may be refused for its size.
+/// Three texts, or in the strict mode also one. A pattern that needs a regex can be refused for its size.
 impl<'v> FromJson<'v> for Matcher {
     ghost use Rattle.am_alerts.specs.Matcher.{compares_texts};
     ghost use Rattle.am_cli.specs.Configured.{DecodesToMatcher};

@@ -6,7 +6,7 @@ ghost use Rattle.am_cli.specs.Read.{IsRefusedBy};
 use crate::fault::{FaultKind, InputFault};
 use std::alloc::{AllocError, Global};
 
-/// A pointer in an input: the way down to it from the top. Its text is a JSON pointer.
+/// Where a value is in an input: the way down to it from the top. Its text is a JSON pointer.
 #[derive(Clone, Copy)]
 pub enum JsonPointer<'a> {
     Root,

@@ -7,7 +7,7 @@
 //! A type that is read (`FromJson`) has a relation `decodes_to` between a JSON value and itself,
 //! with a line for each field and its default. The reader of a list hands the relation of its items
 //! on. It is a relation and not a function: a reference to a text and a built pattern have no value
-//! to compute. What decodes to a value that is `never_refused` is read, unless memory is refused.
+//! to compute. What decodes to a value that is `never_refused` is read, unless there is no memory.
 ghost use Rattle.std.specs.Prelude.{◌≡◌, ◌≢◌, ◌<◌, ◌≤◌, [], length, Some, IfErr, IfOk, IfSome, IsErrAnd, MatchOption};
 ghost use Rattle.std.specs.Prelude.{List, ℕ, IsTrue, find, is_ok, is_some, map, not, option_map, string_bytes, vec_len};
 ghost use Rattle.std.specs.List.{list_all};
@@ -36,8 +36,8 @@ pub enum Mode {
     /// Members of unknown names are passed over. What is made of several values is refused at the value
     /// that holds them.
     Lenient,
-    /// A member of an unknown name is refused, and so is each value at its very own pointer. Labels may be
-    /// an object of texts, and a matcher may be one text.
+    /// A member of an unknown name is refused, and so is each value at its very own pointer. Labels can be
+    /// an object of texts, and a matcher can be one text.
     Strict,
 }
 
@@ -92,7 +92,7 @@ pub trait FromJson<'v>: Drop + Sized {
     // What a JSON value says in a mode; where nothing is said here, nothing is known of it.
     ghost decodes_to: { Mode → Data → Self → Type 0 } = { λ _ _ _. ⊤ };
 
-    // Whether what says this is never refused; where nothing is said here, it may be.
+    // Whether what says this is never refused; where nothing is said here, it can be.
     ghost never_refused: { Self → Bool } = { λ _. false };
 
     /// Reads it. The first fault is answered, at its pointer.
@@ -358,6 +358,13 @@ impl<'v> Object<'v, '_> {
     /// The allocator of what is read.
     pub fn alloc(&self) -> Global {
         self.alloc
+    }
+
+    /// The mode of reading.
+    pub fn mode(&self) -> Mode
+        ensures { result ≡ self.now.mode }
+    {
+        self.mode
     }
 
     /// In the strict mode refuses, as `Unknown`, the first member, by name, that has none of these

@@ -1,4 +1,5 @@
 //! The pointer of the fault for which a configuration is rejected as a whole. `config` calls it.
+use crate::config::limits_in;
 use crate::fault::{FaultKind, InputFault};
 use crate::reader::{FromJson, Mode, Reader};
 use crate::route::ALL_LABELS;
@@ -130,7 +131,7 @@ fn bad_kind(receiver: &Receiver) -> Option<usize> {
 
 /// Refuses the first limit that is zero or above its greatest value.
 fn refuse_limit(reader: &Reader<'_, '_>, limits: &Limits) -> InputFault {
-    let most = Limits::default();
+    let most = limits_in(reader.mode());
     let pointer = reader.pointer().member("limits");
     for (name, limit, greatest) in [
         ("names", limits.alerts, most.alerts),

@@ -13,6 +13,7 @@ ghost use Rattle.am_cli.specs.Decoding.{HasOr};
 ghost use Rattle.am_cli.specs.Read.{Excludes};
 ghost use Rattle.serde_json.specs.View.{members_view, view};
 
+use crate::default_waits::{GROUP_INTERVAL, GROUP_WAIT, REPEAT_INTERVAL};
 use crate::duration::{duration_or, interval_or};
 use crate::fault::{FaultKind, InputFault};
 use crate::reader::{FromJson, Object, Reader};
@@ -22,16 +23,7 @@ use am_alerts::route::{Child, GroupBy, Route};
 use am_alerts::sequence::Sequence;
 use am_alerts::text::Text;
 
-/// How long a new group waits until it is flushed: 30 seconds, in milliseconds.
-const GROUP_WAIT: u64 = 30_000;
-
-/// How long a group waits from flush to flush: 5 minutes, in milliseconds.
-const GROUP_INTERVAL: u64 = 300_000;
-
-/// When a notice without news is repeated: after 4 hours, in milliseconds.
-const REPEAT_INTERVAL: u64 = 14_400_000;
-
-/// Is in `group_by` for all labels.
+/// The item of `group_by` that means all labels.
 pub(crate) const ALL_LABELS: &str = "...";
 
 /// What the root and its children have alike: all of a route but its name.

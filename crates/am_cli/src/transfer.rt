@@ -18,7 +18,7 @@ pub enum ReadFault {
     /// A read failed, or the input has more than 16,777,216 bytes.
     #[error("input not readable")]
     Unreadable,
-    /// Memory was refused.
+    /// Out of memory.
     #[error("no memory")]
     NoMemory,
 }

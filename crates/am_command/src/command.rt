@@ -1,4 +1,5 @@
 //! The definition of the command line, from which parsing, help, the manual page and completions come.
+use crate::exit_status::STATUSES;
 use clap::{Arg, ArgAction, Command};
 use std::alloc::{AllocError, Global};
 
@@ -17,11 +18,6 @@ const VERSION: &str = "1.0.0";
 const ABOUT: &str =
     "Rehearses an alertmanager.yml: simulates alerts, silences and outages on a clock";
 
-const STATUSES: &str = "\
-Statuses: 0 done; 1 a file isn't readable, or there are no random numbers; \
-2 a file or the command line is rejected; 3 out of memory; 4 the output isn't writable; \
-5 an expectation isn't met; 6 --verify differs, or --exit-code and a notification differs.";
-
 /// What an argument takes.
 #[derive(Clone, Copy)]
 enum Takes {
@@ -35,7 +31,7 @@ enum Takes {
     Nothing,
     /// A value behind the option, which help calls by this name.
     Value(&'static str),
-    /// Such a value. The option may be given again.
+    /// Such a value. The option can be given again.
     Values(&'static str),
     /// Such a value, which is one of these.
     Among(&'static str, &'static [&'static str]),

@@ -91,7 +91,7 @@ fn push_shown(out: &mut String, text: &str) -> Result<(), AllocError> {
     Ok(())
 }
 
-/// Memory was refused.
+/// Out of memory.
 #[derive(Clone, Copy)]
 struct Refused;
 

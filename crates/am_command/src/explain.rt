@@ -7,6 +7,10 @@ use serde_json::Value;
 use std::alloc::{AllocError, Global};
 
 /// How a value is wrong.
+///
+/// It has the variants of `am_cli`'s `FaultKind`, and `Bounds` has limits of several crates. This crate
+/// uses none of them: it is proved at the same time as they are. `am_console` makes both, by a match
+/// over `FaultKind` and from the limits' own constants.
 #[derive(Clone, Copy, PartialEq, Eq)]
 pub enum Wrong {
     /// A field that must be there isn't.
@@ -167,7 +171,7 @@ fn unknown(alloc: Global, spot: &Spot<'_>) -> Result<String, AllocError> {
     }
 }
 
-/// Returns the name of the known field that may be meant.
+/// Returns the name of the known field that is probably meant.
 fn nearest_field(alloc: Global, name: &str) -> Result<Option<&str>, AllocError> {
     let mut nearest = Nearest::to(name);
     for (known, _) in &FIELDS {
@@ -342,7 +346,7 @@ const REASONS: [&str; 6] = [
     "repeat",
 ];
 
-/// Says that no notification is sent for such a reason, and which one may be meant.
+/// Says that no notification is sent for such a reason, and which one is probably meant.
 fn no_reason(alloc: Global, text: &str) -> Result<String, AllocError> {
     let mut nearest = Nearest::to(text);
     for reason in REASONS {
@@ -356,7 +360,7 @@ fn no_reason(alloc: Global, text: &str) -> Result<String, AllocError> {
     }
 }
 
-/// Says that there is no such receiver, and which one may be meant.
+/// Says that there is no such receiver, and which one is probably meant.
 fn no_receiver(
     alloc: Global,
     top: &Value,
@@ -374,8 +378,8 @@ fn no_receiver(
     }
 }
 
-/// Returns the name of the receiver that may be meant: one of the configuration that the location belongs to. What an outage or an
-/// expectation names may be of any configuration of the story.
+/// Returns the name of the receiver that is probably meant: one of the configuration that the location belongs to. What an outage or an
+/// expectation names can be of any configuration of the story.
 fn nearest_receiver<'v>(
     alloc: Global,
     top: &'v Value,

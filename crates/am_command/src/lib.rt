@@ -5,6 +5,7 @@ pub mod command;
 pub mod complaint;
 pub mod completions;
 pub mod durations;
+pub mod exit_status;
 pub mod explain;
 mod fields;
 pub mod manual;

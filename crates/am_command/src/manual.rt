@@ -1,5 +1,6 @@
 //! The manual page.
 use crate::command::command;
+use crate::exit_status::EXIT_STATUSES;
 use clap::{Arg, Command};
 use std::alloc::{AllocError, Global};
 
@@ -72,20 +73,10 @@ fn push_escaped(page: &mut String, text: &str) -> Result<(), AllocError> {
 }
 
 fn push_statuses(page: &mut String) -> Result<(), AllocError> {
-    for (status, meaning) in [
-        (0, "done"),
-        (1, "a file isn't readable, or there are no random numbers"),
-        (2, "a file or the command line is rejected"),
-        (3, "out of memory"),
-        (4, "the output isn't writable"),
-        (5, "an expectation isn't met"),
-        (
-            6,
-            "--verify differs, or --exit-code and a notification differs",
-        ),
-    ] {
-        write!(page, ".TP\n.B {status}\n")?;
-        push_escaped(page, meaning)?;
+    for status in EXIT_STATUSES {
+        let code = status.code();
+        write!(page, ".TP\n.B {code}\n")?;
+        push_escaped(page, status.meaning())?;
         page.push('\n')?;
     }
     Ok(())

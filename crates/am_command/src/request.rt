@@ -6,7 +6,7 @@ use crate::command::command;
 use clap::{ArgMatches, Error};
 use std::alloc::{AllocError, Global};
 
-/// Represents standard input where a file is named.
+/// The file name that means standard input.
 pub const STANDARD_INPUT: &str = "-";
 
 /// When colors are used.
@@ -68,7 +68,7 @@ pub struct CompareRequest<'a> {
     pub new: &'a str,
     pub story: &'a str,
     pub until: Option<&'a str>,
-    /// Whether the status says whether something differs.
+    /// Whether status 6 reports a difference.
     pub exit_code: bool,
     pub style: Style,
 }

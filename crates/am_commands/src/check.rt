@@ -5,6 +5,7 @@ use crate::once::accept_inputs;
 use crate::system_zones::SystemZones;
 use crate::warnings::push_warnings;
 use crate::zones::push_missing_zones;
+use am_command::exit_status::ExitStatus;
 use am_console::console::{Console, Document, shown};
 use am_input::configured::Configured;
 use am_input::faults::ReceiversOf;
@@ -14,19 +15,25 @@ use std::alloc::AllocError;
 use std::rt::Files;
 
 /// Checks each file, and returns the status: that of the first file that isn't accepted, if there is one.
-pub fn check<R: Files + Eprint + AllocGlobal>(rt: &R, console: &mut Console, files: &[&str]) -> u8 {
+pub fn check<R: Files + Eprint + AllocGlobal>(
+    rt: &R,
+    console: &mut Console,
+    files: &[&str],
+) -> ExitStatus {
     if let Err(refused) = accept_inputs(rt, files) {
         return refused;
     }
-    let mut status = 0;
+    let mut status = ExitStatus::Done;
     let mut lines = String::new(rt.alloc());
     for path in files {
         if let Err(fault) = check_file(rt, console, path, &mut lines) {
-            status = if status == 0 { fault } else { status };
+            if status == ExitStatus::Done {
+                status = fault;
+            }
         }
     }
     match console.print(rt, lines.as_str()) {
-        0 => status,
+        ExitStatus::Done => status,
         unwritten => unwritten,
     }
 }
@@ -37,7 +44,7 @@ fn check_file<R: Files + Eprint + AllocGlobal>(
     console: &mut Console,
     path: &str,
     lines: &mut String,
-) -> Result<(), u8> {
+) -> Result<(), ExitStatus> {
     let document = console.read(rt, path)?;
     let form = form_of(&document.value);
     match form {
@@ -83,7 +90,7 @@ fn check_story<R: Files + Eprint + AllocGlobal>(
     console: &Console,
     document: &Document<'_>,
     receivers: ReceiversOf<'_>,
-) -> Result<(), u8> {
+) -> Result<(), ExitStatus> {
     let overrides = Overrides {
         output: None,
         until: None,

@@ -1,5 +1,6 @@
 //! Configurations that are given to a story, whose clocks they have.
 use crate::system_zones::SystemZones;
+use am_command::exit_status::ExitStatus;
 use am_console::console::{Console, Document};
 use am_input::configured::{Configured, configured_for};
 use am_input::input::Overrides;
@@ -12,7 +13,7 @@ pub fn given_to<R: Files + Eprint + AllocGlobal>(
     story: &Document<'_>,
     config: &Document<'_>,
     overrides: Overrides,
-) -> Result<Configured, u8> {
+) -> Result<Configured, ExitStatus> {
     let mut files = SystemZones::new(rt);
     let until = overrides.until;
     match configured_for(rt.alloc(), &story.value, &config.value, until, &mut files) {

@@ -1,20 +1,27 @@
 //! `am-rehearse json`: prints files as the JSON that is read in them.
 use crate::once::accept_inputs;
+use am_command::exit_status::ExitStatus;
 use am_console::console::Console;
 use std::rt::Files;
 
 /// Prints the value of each file on a line, and returns the status: that of the first file that isn't read, if there is one.
-pub fn json<R: Files + Eprint + AllocGlobal>(rt: &R, console: &mut Console, files: &[&str]) -> u8 {
+pub fn json<R: Files + Eprint + AllocGlobal>(
+    rt: &R,
+    console: &mut Console,
+    files: &[&str],
+) -> ExitStatus {
     if let Err(refused) = accept_inputs(rt, files) {
         return refused;
     }
-    let mut status = 0;
+    let mut status = ExitStatus::Done;
     let mut lines = String::new(rt.alloc());
     for path in files {
         let document = match console.read(rt, path) {
             Ok(document) => document,
             Err(fault) => {
-                status = if status == 0 { fault } else { status };
+                if status == ExitStatus::Done {
+                    status = fault;
+                }
                 continue;
             }
         };
@@ -26,7 +33,7 @@ pub fn json<R: Files + Eprint + AllocGlobal>(rt: &R, console: &mut Console, file
         }
     }
     match console.print(rt, lines.as_str()) {
-        0 => status,
+        ExitStatus::Done => status,
         unwritten => unwritten,
     }
 }

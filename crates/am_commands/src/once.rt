@@ -1,9 +1,9 @@
 //! Standard input among the files of a command line.
+use am_command::exit_status::ExitStatus;
 use am_command::request::STANDARD_INPUT;
-use am_console::console::REJECTED;
 
 /// Refuses standard input as two of these files, since it can be read once. The error is the status.
-pub fn accept_inputs<R: Eprint>(rt: &R, files: &[&str]) -> Result<(), u8> {
+pub fn accept_inputs<R: Eprint>(rt: &R, files: &[&str]) -> Result<(), ExitStatus> {
     let mut is_taken = false;
     for file in files {
         if *file == STANDARD_INPUT {
@@ -11,7 +11,7 @@ pub fn accept_inputs<R: Eprint>(rt: &R, files: &[&str]) -> Result<(), u8> {
                 let _ = eprintln!(rt;
                     "am-rehearse: two files are -, and standard input is read once"
                 );
-                return Err(REJECTED);
+                return Err(ExitStatus::Rejected);
             }
             is_taken = true;
         }

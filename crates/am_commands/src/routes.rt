@@ -3,11 +3,13 @@ ghost use Rattle.std.specs.Prelude.{◌≤◌};
 ghost use Rattle.am_alerts.specs.RoutingTree.{last_of};
 
 use crate::config::configured;
-use crate::times::WrittenRoutes;
+use crate::times::{push_times, written_routes};
 use crate::tree::{push_reached, tree_text};
 use am_alerts::labels::{LabelFault, Labels};
 use am_alerts::route::Routes;
-use am_console::console::{Console, DIFFERS, Document, REJECTED};
+use am_command::exit_status::ExitStatus;
+use am_config::written::WrittenRoutes;
+use am_console::console::{Console, Document};
 use std::alloc::{AllocError, Global};
 use std::rt::Files;
 
@@ -24,7 +26,7 @@ pub fn routes<R: Files + Eprint + AllocGlobal>(
     rt: &R,
     console: &mut Console,
     request: RoutesRequest<'_, '_>,
-) -> u8 {
+) -> ExitStatus {
     match try_routes(rt, console, request) {
         Ok(status) | Err(status) => status,
     }
@@ -34,7 +36,7 @@ fn try_routes<R: Files + Eprint + AllocGlobal>(
     rt: &R,
     console: &mut Console,
     request: RoutesRequest<'_, '_>,
-) -> Result<u8, u8> {
+) -> Result<ExitStatus, ExitStatus> {
     let document = console.read(rt, request.file)?;
     let configured = configured(rt, console, &document)?;
     let status = print_routes(rt, console, &document, &configured.config.routes, request);
@@ -49,8 +51,8 @@ fn print_routes<R: Eprint + AllocGlobal>(
     document: &Document<'_>,
     routes: &Routes,
     request: RoutesRequest<'_, '_>,
-) -> Result<u8, u8> {
-    let Ok(written) = WrittenRoutes::of(rt.alloc(), &document.value) else {
+) -> Result<ExitStatus, ExitStatus> {
+    let Ok(written) = written_routes(rt.alloc(), &document.value) else {
         return Err(console.complain_of_memory(rt));
     };
     if !request.labels.is_empty() {
@@ -58,7 +60,7 @@ fn print_routes<R: Eprint + AllocGlobal>(
     }
     if request.verify.is_some() {
         let _ = eprintln!(rt; "am-rehearse: --verify needs labels, such as severity=critical");
-        return Err(REJECTED);
+        return Err(ExitStatus::Rejected);
     }
     print_tree(rt, console, routes, &written)
 }
@@ -69,7 +71,7 @@ fn print_tree<R: Eprint + AllocGlobal>(
     console: &mut Console,
     routes: &Routes,
     written: &WrittenRoutes<'_>,
-) -> Result<u8, u8> {
+) -> Result<ExitStatus, ExitStatus> {
     match tree_text(rt.alloc(), routes, written) {
         Ok(text) => Ok(console.print(rt, text.as_str())),
         Err(_) => Err(console.complain_of_memory(rt)),
@@ -83,13 +85,13 @@ fn print_reached<R: Eprint + AllocGlobal>(
     routes: &Routes,
     written: &WrittenRoutes<'_>,
     request: RoutesRequest<'_, '_>,
-) -> Result<u8, u8> {
+) -> Result<ExitStatus, ExitStatus> {
     let labels = labels_of(rt, console, request.labels)?;
     let Ok(reached) = reached_by(rt.alloc(), routes, written, &labels) else {
         return Err(console.complain_of_memory(rt));
     };
     let printed = console.print(rt, reached.lines.as_str());
-    if printed != 0 {
+    if printed != ExitStatus::Done {
         return Ok(printed);
     }
     Ok(verified(rt, request.verify, reached.receivers.as_str()))
@@ -100,14 +102,14 @@ fn labels_of<R: Eprint + AllocGlobal>(
     rt: &R,
     console: &Console,
     words: &[&str],
-) -> Result<Labels, u8> {
+) -> Result<Labels, ExitStatus> {
     let mut pairs = Vec::new(rt.alloc());
     for word in words {
         let Some((name, value)) = word.split_once('=') else {
             let _ = eprintln!(rt;
                 "am-rehearse: `{word}` is no label; write it as severity=critical"
             );
-            return Err(REJECTED);
+            return Err(ExitStatus::Rejected);
         };
         if pairs.push((name, without_quotes(value))).is_err() {
             return Err(console.complain_of_memory(rt));
@@ -118,7 +120,7 @@ fn labels_of<R: Eprint + AllocGlobal>(
         Err(LabelFault::NoMemory) => Err(console.complain_of_memory(rt)),
         Err(fault) => {
             let _ = eprintln!(rt; "am-rehearse: these labels are no label set: {fault}");
-            Err(REJECTED)
+            Err(ExitStatus::Rejected)
         }
     }
 }
@@ -153,7 +155,7 @@ fn reached_by(
     let positions = routes.of(alloc, labels)?;
     for position in &positions {
         push_position(alloc, routes, *position, labels, &mut reached)?;
-        written.push_times(alloc, *position, &mut reached.lines)?;
+        push_times(alloc, written, *position, &mut reached.lines)?;
         reached.lines.push('\n')?;
     }
     Ok(reached)
@@ -181,12 +183,12 @@ fn push_position(
 }
 
 /// Returns the status by what is verified, and says what differs.
-fn verified<R: Eprint>(rt: &R, verify: Option<&str>, receivers: &str) -> u8 {
+fn verified<R: Eprint>(rt: &R, verify: Option<&str>, receivers: &str) -> ExitStatus {
     match verify {
         Some(wanted) if wanted != receivers => {
             let _ = eprintln!(rt; "am-rehearse: the label set reaches {receivers}, not {wanted}");
-            DIFFERS
+            ExitStatus::Differs
         }
-        _ => 0,
+        _ => ExitStatus::Done,
     }
 }

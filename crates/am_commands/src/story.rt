@@ -4,10 +4,11 @@ use am_alerts::duration::read_duration;
 use am_cli::fault::InputFault;
 use am_cli::faults::Refusal;
 use am_cli::reader::Reader;
+use am_command::exit_status::ExitStatus;
 use am_command::explain::FileShape;
 use am_command::request::StoryRequest;
 use am_console::bounds::bounds;
-use am_console::console::{Console, Document, REJECTED};
+use am_console::console::{Console, Document};
 use am_story::alertmanager::{read_alerts, read_silences};
 use am_story::incident::{Incident, SeenSilence};
 use am_story::prometheus::read_prometheus;
@@ -20,9 +21,9 @@ pub fn story<R: Files + Eprint + AllocGlobal>(
     rt: &R,
     console: &mut Console,
     request: StoryRequest<'_>,
-) -> u8 {
+) -> ExitStatus {
     match try_story(rt, console, request) {
-        Ok(()) => 0,
+        Ok(()) => ExitStatus::Done,
         Err(status) => status,
     }
 }
@@ -31,7 +32,7 @@ fn try_story<R: Files + Eprint + AllocGlobal>(
     rt: &R,
     console: &mut Console,
     request: StoryRequest<'_>,
-) -> Result<(), u8> {
+) -> Result<(), ExitStatus> {
     let mut incident = incident_of(rt, console, request)?;
     if incident.alerts.is_empty() {
         let _ = eprintln!(rt;
@@ -50,7 +51,7 @@ fn incident_of<R: Files + Eprint + AllocGlobal>(
     rt: &R,
     console: &mut Console,
     request: StoryRequest<'_>,
-) -> Result<Incident, u8> {
+) -> Result<Incident, ExitStatus> {
     match (request.prometheus, request.alertmanager) {
         (Some(path), None) => {
             let gap = gap_of(rt, request.gap)?;
@@ -66,18 +67,18 @@ fn incident_of<R: Files + Eprint + AllocGlobal>(
             let _ = eprintln!(rt;
                 "am-rehearse: give either --prometheus FILE or --alertmanager FILE"
             );
-            Err(REJECTED)
+            Err(ExitStatus::Rejected)
         }
     }
 }
 
 /// Refuses a gap where there are no samples. The error is the status.
-fn refuse_gap<R: Eprint>(rt: &R, gap: Option<&str>) -> Result<(), u8> {
+fn refuse_gap<R: Eprint>(rt: &R, gap: Option<&str>) -> Result<(), ExitStatus> {
     if gap.is_none() {
         return Ok(());
     }
     let _ = eprintln!(rt; "am-rehearse: --gap is for --prometheus alone");
-    Err(REJECTED)
+    Err(ExitStatus::Rejected)
 }
 
 /// Refuses what lasted longer than a story may. The error is the status.
@@ -85,7 +86,7 @@ fn refuse_long<R: Eprint + AllocGlobal>(
     rt: &R,
     console: &Console,
     incident: &Incident,
-) -> Result<(), u8> {
+) -> Result<(), ExitStatus> {
     match incident.too_early(rt.alloc(), MAX_UNTIL) {
         Ok(None) => Ok(()),
         Ok(Some(start)) => {
@@ -93,7 +94,7 @@ fn refuse_long<R: Eprint + AllocGlobal>(
             let _ = eprintln!(rt;
                 "am-rehearse: an alert fires from {start} on, and a story has at most {days} days"
             );
-            Err(REJECTED)
+            Err(ExitStatus::Rejected)
         }
         Err(_) => Err(console.complain_of_memory(rt)),
     }
@@ -105,7 +106,7 @@ fn prometheus<R: Files + Eprint + AllocGlobal>(
     console: &mut Console,
     path: &str,
     gap: Option<u64>,
-) -> Result<Incident, u8> {
+) -> Result<Incident, ExitStatus> {
     let document = console.read(rt, path)?;
     refuse_error(rt, console, &document, "Prometheus")?;
     let read = read_prometheus(&Reader::top(rt.alloc(), &document.value), gap);
@@ -117,7 +118,7 @@ fn alertmanager<R: Files + Eprint + AllocGlobal>(
     rt: &R,
     console: &mut Console,
     path: &str,
-) -> Result<Incident, u8> {
+) -> Result<Incident, ExitStatus> {
     let mut document = console.read(rt, path)?;
     document.shape = FileShape::List;
     refuse_error(rt, console, &document, "Alertmanager")?;
@@ -131,7 +132,7 @@ fn refuse_error<R: Eprint + AllocGlobal>(
     console: &Console,
     document: &Document<'_>,
     server: &str,
-) -> Result<(), u8> {
+) -> Result<(), ExitStatus> {
     match error_in(&document.value) {
         None => Ok(()),
         Some((pointer, said)) => Err(complain_of_error(
@@ -160,7 +161,7 @@ fn complain_of_error<R: Eprint + AllocGlobal>(
     pointer: &str,
     server: &str,
     said: &str,
-) -> u8 {
+) -> ExitStatus {
     match format!(in rt.alloc(); "{server} answered with an error: {said}") {
         Ok(words) => console.complain_in_words(rt, document, pointer, words.as_str()),
         Err(_) => console.complain_of_memory(rt),
@@ -172,7 +173,7 @@ fn silences<R: Files + Eprint + AllocGlobal>(
     rt: &R,
     console: &mut Console,
     path: &str,
-) -> Result<Vec<SeenSilence>, u8> {
+) -> Result<Vec<SeenSilence>, ExitStatus> {
     let mut document = console.read(rt, path)?;
     document.shape = FileShape::List;
     let read = read_silences(&Reader::top(rt.alloc(), &document.value));
@@ -185,7 +186,7 @@ fn accepted<R: Eprint + AllocGlobal, T>(
     console: &Console,
     document: &Document<'_>,
     read: Result<T, InputFault>,
-) -> Result<T, u8> {
+) -> Result<T, ExitStatus> {
     match read {
         Ok(read) => Ok(read),
         Err(fault) => Err(console.complain_of_refusal(rt, document, Refusal::One(fault))),
@@ -197,18 +198,18 @@ fn print<R: Files + Eprint + AllocGlobal>(
     rt: &R,
     console: &mut Console,
     incident: &Incident,
-) -> Result<(), u8> {
+) -> Result<(), ExitStatus> {
     let Ok(text) = incident.story(rt.alloc(), MAX_UNTIL) else {
         return Err(console.complain_of_memory(rt));
     };
     match console.print(rt, text.as_str()) {
-        0 => Ok(()),
+        ExitStatus::Done => Ok(()),
         status => Err(status),
     }
 }
 
 /// Returns the gap that the command line gives.
-fn gap_of<R: Eprint>(rt: &R, gap: Option<&str>) -> Result<Option<u64>, u8> {
+fn gap_of<R: Eprint>(rt: &R, gap: Option<&str>) -> Result<Option<u64>, ExitStatus> {
     let Some(text) = gap else {
         return Ok(None);
     };
@@ -216,7 +217,7 @@ fn gap_of<R: Eprint>(rt: &R, gap: Option<&str>) -> Result<Option<u64>, u8> {
         Ok(gap) => Ok(Some(gap)),
         Err(_) => {
             let _ = eprintln!(rt; "am-rehearse: --gap: `{text}` is no duration; write 90s or 5m");
-            Err(REJECTED)
+            Err(ExitStatus::Rejected)
         }
     }
 }

@@ -1,5 +1,5 @@
 //! The time intervals that the routes of a file name. `tree` and `routes` show them.
-use am_alerts::limits::MAX_DEPTH;
+use am_config::written::WrittenRoutes;
 use am_input::form::alertmanager_in;
 use serde_json::Value;
 use std::alloc::{AllocError, Global};
@@ -7,57 +7,31 @@ use std::alloc::{AllocError, Global};
 /// The lists of a route, each of the names of time intervals.
 const LISTS: [&str; 2] = ["mute_time_intervals", "active_time_intervals"];
 
-/// The routes of a file below the root, as it has them, in the order of their positions.
-#[derive(Drop)]
-pub struct WrittenRoutes<'v> {
-    routes: Vec<&'v Value>,
+/// Returns the routes of a file below the root; none where it isn't a configuration of Alertmanager.
+pub fn written_routes<'v>(alloc: Global, file: &'v Value) -> Result<WrittenRoutes<'v>, AllocError> {
+    match alertmanager_in(file).and_then(|config| config.get("route")) {
+        None => Ok(WrittenRoutes::none(alloc)),
+        Some(root) => WrittenRoutes::below(alloc, root),
+    }
 }
 
-impl<'v> WrittenRoutes<'v> {
-    /// Returns the routes of a file; none where it isn't a configuration of Alertmanager.
-    pub fn of(alloc: Global, file: &'v Value) -> Result<WrittenRoutes<'v>, AllocError> {
-        let mut written = WrittenRoutes {
-            routes: Vec::new(alloc),
-        };
-        if let Some(root) = alertmanager_in(file).and_then(|config| config.get("route")) {
-            written.add_below(root, MAX_DEPTH)?;
+/// Adds the names of the time intervals of the route at a position, if it has some. The root has none.
+pub fn push_times(
+    alloc: Global,
+    written: &WrittenRoutes<'_>,
+    position: u32,
+    lines: &mut String,
+) -> Result<(), AllocError> {
+    let index = (position as usize).checked_sub(1);
+    let Some(route) = index.and_then(|index| written.as_slice().get(index)) else {
+        return Ok(());
+    };
+    for list in LISTS {
+        if let Some(names) = route.get(list).and_then(Value::as_array) {
+            push_names(alloc, list, names.as_slice(), lines)?;
         }
-        Ok(written)
     }
-
-    /// Adds the routes below a route, under which so many levels may be.
-    fn add_below(&mut self, route: &'v Value, levels: usize) -> Result<(), AllocError> {
-        let Some(below) = levels.checked_sub(1) else {
-            return Ok(());
-        };
-        let Some(routes) = route.get("routes").and_then(Value::as_array) else {
-            return Ok(());
-        };
-        for route in routes {
-            self.routes.push(route)?;
-            self.add_below(route, below)?;
-        }
-        Ok(())
-    }
-
-    /// Adds the names of the time intervals of the route at a position, if it has some. The root has none.
-    pub fn push_times(
-        &self,
-        alloc: Global,
-        position: u32,
-        lines: &mut String,
-    ) -> Result<(), AllocError> {
-        let index = (position as usize).checked_sub(1);
-        let Some(route) = index.and_then(|index| self.routes.get(index)) else {
-            return Ok(());
-        };
-        for list in LISTS {
-            if let Some(names) = route.get(list).and_then(Value::as_array) {
-                push_names(alloc, list, names.as_slice(), lines)?;
-            }
-        }
-        Ok(())
-    }
+    Ok(())
 }
 
 /// Adds a list of names, if it has one.

@@ -1,9 +1,10 @@
 //! Routes as text.
-use crate::times::WrittenRoutes;
+use crate::times::push_times;
 use am_alerts::labels::Labels;
 use am_alerts::matcher::{Matcher, Operator};
 use am_alerts::route::{Child, GroupBy, Route, Routes};
 use am_command::durations::push_duration;
+use am_config::written::WrittenRoutes;
 use std::alloc::{AllocError, Global};
 
 /// Returns the routing tree, a line for each route.
@@ -76,7 +77,7 @@ fn push_children(
             Some(above) => &above.route,
         };
         push_child(child, above, route_position.level, lines)?;
-        written.push_times(alloc, position, lines)?;
+        push_times(alloc, written, position, lines)?;
         lines.push('\n')?;
     }
     Ok(())

@@ -38,7 +38,7 @@ pub fn push_warnings(
     Ok(())
 }
 
-/// Adds a line on the route at this index, if one before it and beside it is the cause.
+/// Adds a line on the route at this index, if an earlier sibling is the cause.
 fn push_warning(
     file: &str,
     entries: &[Entry<'_>],

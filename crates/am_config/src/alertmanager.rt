@@ -1,7 +1,7 @@
 //! Reads a whole `alertmanager.yml`, as JSON. `am_rehearse` calls `read_alertmanager`.
 ghost use Rattle.std.specs.Prelude.{◌≡◌, IfErr, IfOk, None};
 ghost use Rattle.am_cli.specs.Faults.{HasFaults};
-ghost use Rattle.am_model.specs.Config.{config_fault};
+ghost use Rattle.am_model.specs.Config.{config_fault, greatest_limits};
 
 use crate::dropped::IgnoredSettings;
 use crate::hours::Hours;
@@ -83,7 +83,7 @@ const RETENTION: u64 = 432_000_000;
 #[derive(Drop)]
 pub struct Alertmanager {
     pub config: Config,
-    /// What it says beside.
+    /// What else it says.
     pub dropped: IgnoredSettings,
     /// Whether a route names a time interval.
     pub timed: bool,
@@ -100,7 +100,7 @@ struct Parts {
 
 /// Reads Alertmanager's configuration. Where it can't be read exactly all faults are answered, in the
 /// order of reading: unknown members, `global`, `tracing`, `templates`, the times, the routes from the root
-/// down, receivers and inhibition rules.
+/// down, receivers and inhibition rules. Its limits are the greatest: the file says none.
 ///
 /// Without `hours` time intervals are read, but no route is muted by them; `timed` says whether one
 /// would be. With it a location that isn't among its zones is refused.
@@ -109,6 +109,7 @@ pub fn read_alertmanager(
     hours: Option<&Hours>,
 ) -> Result<Alertmanager, Refusal>
     ensures sound { IfOk result (λ read. config_fault read.config ≡ None) }
+    ensures limits { IfOk result (λ read. read.config.limits ≡ greatest_limits) }
     ensures reported { IfErr result HasFaults }
 {
     let mut faults = Faults::none(reader.alloc());
@@ -172,6 +173,7 @@ fn finish(
     parts: Parts,
 ) -> Result<Alertmanager, Refusal>
     ensures sound { IfOk result (λ read. config_fault read.config ≡ None) }
+    ensures limits { IfOk result (λ read. read.config.limits ≡ greatest_limits) }
     ensures reported { IfErr result HasFaults }
 {
     let Parts {
@@ -193,7 +195,7 @@ fn finish(
         receivers: Sequence::from(receivers),
         rules: Sequence::from(rules),
         retention: RETENTION,
-        limits: Limits::default(),
+        limits: Limits::greatest(),
     };
     match config.check() {
         Ok(()) => Ok(Alertmanager {

@@ -2,7 +2,7 @@
 //! `am_rehearse` prints them.
 use std::fmt;
 
-/// What Alertmanager's configuration says beside what is read of it. Nothing of it changes which notice
+/// What Alertmanager's configuration says besides what is read. Nothing of it changes which notice
 /// is sent when, and to whom.
 #[derive(Clone, Copy, PartialEq, Eq)]
 pub struct IgnoredSettings {
@@ -14,7 +14,7 @@ pub struct IgnoredSettings {
     pub templates: bool,
     /// Times that no route names.
     pub time_intervals: bool,
-    /// What integrations are set to, beside `send_resolved`.
+    /// What integrations are set to, besides `send_resolved`.
     pub settings: bool,
 }
 

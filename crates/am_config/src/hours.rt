@@ -206,7 +206,7 @@ impl ZoneNames {
         Ok(())
     }
 
-    /// Adds a zone, if there is room and it isn't there already.
+    /// Adds a zone, if there is capacity and it isn't there already.
     fn add(&mut self, alloc: Global, name: &str) -> Result<(), InputFault> {
         if self.list.len() < MAX_ZONES && is_looked_for(name) && !self.has(name) {
             self.list.push(Text::new(alloc, name)?)?;

@@ -18,3 +18,4 @@ mod receiver;
 mod route;
 mod scalar;
 mod times;
+pub mod written;

@@ -96,7 +96,7 @@ fn read_texts(
     Ok(())
 }
 
-/// Whether there may be another matcher, which is refused where there may not.
+/// Whether there can be another matcher, which is rejected where there can't be.
 fn has_room(
     faults: &mut Faults,
     matchers: &[Matcher],
@@ -138,8 +138,8 @@ fn matcher_of(reader: &Reader<'_, '_>, parts: MatcherParts) -> Result<Matcher, I
     }
 }
 
-/// The texts of single matchers in one text: it may be in braces, and a comma outside quotes ends a
-/// matcher. One may be behind the last.
+/// The texts of single matchers in one text: it can be in braces, and a comma outside quotes ends a
+/// matcher. One can be behind the last.
 fn split(alloc: Global, text: &str) -> Result<Vec<String>, AllocError> {
     let text = text.strip_prefix('{').unwrap_or(text);
     let text = text.strip_suffix('}').unwrap_or(text);

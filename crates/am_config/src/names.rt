@@ -1,7 +1,7 @@
 //! The names of routes, which Alertmanager doesn't name. `route` gives each one its receiver's
 //! name, with its path where several routes have the receiver.
 use crate::scalar::known_text;
-use am_alerts::limits::{MAX_DEPTH, MAX_ROUTES};
+use crate::written::WrittenRoutes;
 use am_alerts::text::Text;
 use am_cli::fault::InputFault;
 use am_cli::reader::Object;
@@ -23,9 +23,7 @@ impl RouteNames {
         given.push(Text::new(alloc, "root")?)?;
         let mut shared = SharedNames::of_root(alloc)?;
         if let Some(root) = top.members().get("route") {
-            let receiver = receiver_of(alloc, root)?;
-            let above = receiver.as_ref().map_or("", Text::as_str);
-            shared.add_routes(alloc, root, above, MAX_DEPTH)?;
+            shared.add_routes(alloc, root)?;
         }
         Ok(RouteNames { given, shared })
     }
@@ -73,13 +71,10 @@ struct NameCount {
     count: usize,
 }
 
-/// The names of the receivers of a file's routes as label names, and how many routes have each. They are those of the
-/// first 1,023 routes below the root: further ones aren't read.
+/// The names of the receivers of a file's routes as label names, and how many routes have each.
 #[derive(Drop)]
 struct SharedNames {
     counts: Vec<NameCount>,
-    /// How many routes were counted.
-    counted: usize,
 }
 
 impl SharedNames {
@@ -88,7 +83,7 @@ impl SharedNames {
         let mut counts = Vec::new(alloc);
         let name = Text::new(alloc, "root")?;
         counts.push(NameCount { name, count: 1 })?;
-        Ok(SharedNames { counts, counted: 0 })
+        Ok(SharedNames { counts })
     }
 
     /// Whether several routes have a name.
@@ -98,29 +93,16 @@ impl SharedNames {
             .any(|known| known.count > 1 && known.name.as_str() == name)
     }
 
-    /// Counts the routes below a route with this receiver, under which so many levels may be.
-    fn add_routes(
-        &mut self,
-        alloc: Global,
-        route: &Value,
-        receiver: &str,
-        levels: usize,
-    ) -> Result<(), AllocError> {
-        let Some(below) = levels.checked_sub(1) else {
-            return Ok(());
-        };
-        let Some(routes) = route.get("routes").and_then(Value::as_array) else {
-            return Ok(());
-        };
-        for route in routes {
-            if self.counted >= MAX_ROUTES {
-                return Ok(());
-            }
-            self.counted = self.counted.saturating_add(1);
-            let own = receiver_of(alloc, route)?;
-            let receiver = own.as_ref().map_or(receiver, Text::as_str);
-            self.add(alloc, receiver)?;
-            self.add_routes(alloc, route, receiver, below)?;
+    /// Counts the routes below this root. One that names no receiver has that of the route above it.
+    fn add_routes(&mut self, alloc: Global, root: &Value) -> Result<(), AllocError> {
+        let written = WrittenRoutes::below(alloc, root)?;
+        let mut receivers = Vec::new(alloc);
+        receivers.push(receiver_or(alloc, root, "")?)?;
+        for (route, above) in written.as_slice().iter().zip(written.above()) {
+            let above = receivers.get(*above).map_or("", Text::as_str);
+            let receiver = receiver_or(alloc, route, above)?;
+            self.add(alloc, receiver.as_str())?;
+            receivers.push(receiver)?;
         }
         Ok(())
     }
@@ -139,11 +121,15 @@ impl SharedNames {
     }
 }
 
-/// The receiver that a route names, if it is known. The empty text names none.
-fn receiver_of(alloc: Global, route: &Value) -> Result<Option<Text>, AllocError> {
-    match route.get("receiver") {
-        None => Ok(None),
-        Some(value) => known_text(alloc, value),
+/// The receiver that a route names, if it is known; else the one above. The empty text names none.
+fn receiver_or(alloc: Global, route: &Value, above: &str) -> Result<Text, AllocError> {
+    let known = match route.get("receiver") {
+        None => None,
+        Some(value) => known_text(alloc, value)?,
+    };
+    match known {
+        None => Text::new(alloc, above),
+        Some(receiver) => Ok(receiver),
     }
 }
 

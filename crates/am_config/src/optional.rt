@@ -70,7 +70,7 @@ pub(crate) fn flag_or(
     }
 }
 
-/// A duration that isn't null, in milliseconds. A zero may be a number.
+/// A duration that isn't null, in milliseconds. A zero can be a number.
 pub(crate) fn optional_duration(
     faults: &mut Faults,
     object: &Object<'_, '_>,

@@ -13,7 +13,7 @@ use am_cli::faults::Faults;
 use am_cli::reader::{Object, Reader};
 use serde_json::Value;
 
-/// Is in `group_by` for all labels.
+/// The item of `group_by` that means all labels.
 const ALL_LABELS: &str = "...";
 
 /// Reads what a route says of its receiver, its groups and its times.

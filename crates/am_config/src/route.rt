@@ -16,6 +16,7 @@ use am_alerts::route::{GroupBy, Route};
 use am_alerts::sequence::Sequence;
 use am_alerts::text::Text;
 use am_alerts::tree::{Node, Options, RouteSpec};
+use am_cli::default_waits::{GROUP_INTERVAL, GROUP_WAIT, REPEAT_INTERVAL};
 use am_cli::fault::{FaultKind, InputFault};
 use am_cli::faults::Faults;
 use am_cli::reader::{Object, Reader};
@@ -44,15 +45,6 @@ const MATCHERS: MatcherMembers = MatcherMembers {
     texts: "matchers",
 };
 
-/// How long a new group waits until it is flushed: 30 seconds, in milliseconds.
-const GROUP_WAIT: u64 = 30_000;
-
-/// How long a group waits from flush to flush: 5 minutes, in milliseconds.
-const GROUP_INTERVAL: u64 = 300_000;
-
-/// When a notice without news is repeated: after 4 hours, in milliseconds.
-const REPEAT_INTERVAL: u64 = 14_400_000;
-
 /// A root, and the routes right below it.
 #[derive(Drop)]
 pub(crate) struct Tree {
@@ -71,7 +63,7 @@ pub(crate) struct Routing<'h> {
     path: Vec<usize>,
     /// How many routes below the root were begun.
     begun: usize,
-    /// Whether one wasn't, for want of capacity.
+    /// Whether one wasn't, for lack of capacity.
     is_full: bool,
 }
 
@@ -95,7 +87,7 @@ impl<'h> Routing<'h> {
         }
     }
 
-    /// Counts another route, under which so many levels may be, itself the first. One that there is no
+    /// Counts another route, under which so many levels can be, itself the first. One that there is no
     /// capacity for isn't read, and the first such is refused.
     fn begins(
         &mut self,
@@ -204,7 +196,7 @@ fn root_of(alloc: Global, options: Options) -> Result<Route, InputFault> {
     })
 }
 
-/// Reads the routes below a route with this receiver, under which so many levels may be.
+/// Reads the routes below a route with this receiver, under which so many levels can be.
 #[cycle(routes)]
 fn read_routes(
     faults: &mut Faults,

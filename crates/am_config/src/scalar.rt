@@ -1,6 +1,6 @@
 //! Scalars that Alertmanager reads into a text. The modules that read texts of its own types call it.
 //!
-//! Its reader of YAML keeps such a scalar as the file has it, so that `7` is the text `7`. An integer
+//! Its reader of YAML keeps such a scalar as the file has it, so `7` is the text `7`. An integer
 //! of JSON is written in plain decimal digits, and the reader of YAML here gives an integer only for
 //! those. The text of other numbers and of flags isn't known any more (`True` is a flag too), so they
 //! are refused. In `match` and `match_re` the reader of YAML keeps each text itself; there a flag is

@@ -53,7 +53,7 @@ const INTERVAL: [&str; 6] = [
 /// The members of a range of times of day.
 const RANGE: [&str; 2] = ["start_time", "end_time"];
 
-/// How many names there may be, and how many a route may list.
+/// How many names there can be, and how many a route may list.
 const MAX_DEFINITIONS: usize = 64;
 
 /// How many intervals a name may have.

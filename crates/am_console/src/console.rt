@@ -10,6 +10,7 @@ use am_cli::fault::{FaultKind, InputFault};
 use am_cli::faults::{Fault, Faults, Refusal};
 use am_cli::transfer::write_all;
 use am_command::complaint::Complaint;
+use am_command::exit_status::ExitStatus;
 use am_command::explain::{FileShape, Wrong, explain};
 use am_command::request::{FaultFormat, STANDARD_INPUT};
 use am_yaml::document::{DocumentFault, read_document};
@@ -19,18 +20,6 @@ use am_yaml::location::Location;
 use serde_json::Value;
 use std::alloc::{AllocError, Global};
 use std::rt::Files;
-
-/// The status of a file that isn't accepted, or of a wrong command line.
-pub const REJECTED: u8 = 2;
-
-/// The status where memory was refused.
-pub const NO_MEMORY: u8 = 3;
-
-/// The status where the output wasn't taken.
-pub const UNWRITABLE: u8 = 4;
-
-/// The status where the routes don't have the receivers that are verified, or, if it is asked for, where a notice differs.
-pub const DIFFERS: u8 = 6;
 
 /// How many bytes of text are gone over to find where faults are. The whole text is, for each fault, so of a long file
 /// with many faults only the first ones get a line and a column.
@@ -69,12 +58,12 @@ pub fn shown(path: &str) -> &str {
 
 impl Console {
     /// Writes a text to the standard output, and returns the status.
-    pub fn print<R: Eprint>(&mut self, rt: &R, text: &str) -> u8 {
+    pub fn print<R: Eprint>(&mut self, rt: &R, text: &str) -> ExitStatus {
         if write_all(&mut self.output, text.as_bytes()).is_ok() {
-            return 0;
+            return ExitStatus::Done;
         }
         let _ = eprintln!(rt; "am-rehearse: output not writable");
-        UNWRITABLE
+        ExitStatus::Unwritable
     }
 
     /// Reads a file as a value. Where that fails it complains, and the error is the status.
@@ -82,7 +71,7 @@ impl Console {
         &mut self,
         rt: &R,
         path: &'p str,
-    ) -> Result<Document<'p>, u8> {
+    ) -> Result<Document<'p>, ExitStatus> {
         let text = match read(rt, &mut self.input, path) {
             Ok(text) => text,
             Err(fault) => return Err(self.complain_of_file(rt, path, fault)),
@@ -104,7 +93,7 @@ impl Console {
         rt: &R,
         path: &str,
         fault: FileFault,
-    ) -> u8 {
+    ) -> ExitStatus {
         match self.complain(rt, path, None, None, "file", fault.message()) {
             Ok(()) => fault.status(),
             Err(_) => self.complain_of_memory(rt),
@@ -117,13 +106,13 @@ impl Console {
         rt: &R,
         path: &str,
         fault: DocumentFault,
-    ) -> u8 {
+    ) -> ExitStatus {
         let location = location_of(fault);
         let Ok(message) = message_of(rt, fault) else {
             return self.complain_of_memory(rt);
         };
         match self.complain(rt, path, location, None, "text", message.as_str()) {
-            Ok(()) => REJECTED,
+            Ok(()) => ExitStatus::Rejected,
             Err(_) => self.complain_of_memory(rt),
         }
     }
@@ -134,13 +123,13 @@ impl Console {
         rt: &R,
         document: &Document<'_>,
         faults: &Faults,
-    ) -> u8 {
+    ) -> ExitStatus {
         let said = match in_order(rt.alloc(), document, faults.as_slice()) {
             Ok(ordered) => self.complain_of_each(rt, document, ordered.as_slice()),
             Err(refused) => Err(refused),
         };
         match said {
-            Ok(()) => REJECTED,
+            Ok(()) => ExitStatus::Rejected,
             Err(_) => self.complain_of_memory(rt),
         }
     }
@@ -164,7 +153,7 @@ impl Console {
         rt: &R,
         document: &Document<'_>,
         refusal: Refusal,
-    ) -> u8 {
+    ) -> ExitStatus {
         match refusal {
             Refusal::All(faults) => self.complain_of_faults(rt, document, &faults),
             Refusal::One(InputFault::NoMemory) => self.complain_of_memory(rt),
@@ -175,7 +164,7 @@ impl Console {
                 },
             ) => {
                 match self.complain_at(rt, document, pointer.as_str(), fault_kind) {
-                    Ok(()) => REJECTED,
+                    Ok(()) => ExitStatus::Rejected,
                     Err(_) => self.complain_of_memory(rt),
                 }
             }
@@ -189,7 +178,7 @@ impl Console {
         document: &Document<'_>,
         pointer: &str,
         words: &str,
-    ) -> u8 {
+    ) -> ExitStatus {
         let kind = FaultKind::BadValue;
         let said = match location_in(rt.alloc(), document, pointer, kind) {
             Err(refused) => Err(refused),
@@ -199,15 +188,15 @@ impl Console {
             }
         };
         match said {
-            Ok(()) => REJECTED,
+            Ok(()) => ExitStatus::Rejected,
             Err(_) => self.complain_of_memory(rt),
         }
     }
 
-    /// Complains that memory was refused, and returns the status.
-    pub fn complain_of_memory<R: Eprint>(&self, rt: &R) -> u8 {
+    /// Complains that there was no memory, and returns the status.
+    pub fn complain_of_memory<R: Eprint>(&self, rt: &R) -> ExitStatus {
         let _ = eprintln!(rt; "am-rehearse: no memory");
-        NO_MEMORY
+        ExitStatus::NoMemory
     }
 
     /// Complains of a value of a document, at its location in the text.

@@ -4,6 +4,7 @@ ghost use Rattle.std.specs.Prelude.{◌≡◌, ◌≤◌, length, IfOk};
 use am_cli::device::{DeviceFault, Sink, Source, StandardInput, StandardOutput};
 use am_cli::io_trace::IoTrace;
 use am_cli::transfer::{ReadFault, read_all, write_all};
+use am_command::exit_status::ExitStatus;
 use am_command::paint::painted;
 use am_command::request::STANDARD_INPUT;
 use std::alloc::Global;
@@ -51,10 +52,10 @@ impl FileFault {
     }
 
     /// Returns the status with which the program ends on the fault.
-    pub fn status(self) -> u8 {
+    pub fn status(self) -> ExitStatus {
         match self {
-            FileFault::NoMemory => 3,
-            _ => 1,
+            FileFault::NoMemory => ExitStatus::NoMemory,
+            _ => ExitStatus::Unreadable,
         }
     }
 }

@@ -26,7 +26,7 @@ pub fn matcher_of(alloc: Global, text: &str) -> Result<Matcher, MatcherFault> {
     }
 }
 
-/// Returns what is wrong with a text that a matcher isn't made of, in words; none where memory was refused.
+/// Returns what is wrong with a text that a matcher isn't made of, in words; none where there was no memory.
 pub fn words_for(fault: MatcherFault) -> Option<&'static str> {
     match fault {
         MatcherFault::BadPattern => {

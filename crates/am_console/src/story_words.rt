@@ -237,7 +237,7 @@ fn is_empty(value: &Value) -> bool {
     }
 }
 
-/// Returns what a field can't be beside, in words.
+/// Returns which fields a field excludes, in words.
 fn words_beside(field: &Field<'_, '_>) -> Option<&'static str> {
     match field.name {
         "exactly" if is_empty(field.value) => {

@@ -1,4 +1,4 @@
--- A desk may be shared by threads, and handed to one. One search is too short to see it, for the patterns that matchers keep: so here is each type of a board on the way, of which it can be moved and shared. A caller whose threads share a desk lists `crossing` in its search.
+-- A desk can be shared by threads, and handed to one. One search is too short to see it, for the patterns that matchers keep: so here is each type of a board on the way, of which it can be moved and shared. A caller whose threads share a desk lists `crossing` in its search.
 use Rattle.std.proofs.Crossing.{crosses}
 use denote.Param.Send.{IsSend, IsSync, sendable}
 use denote.Param.SendFields.{as_row_send, as_row_sync, declared_send, declared_sync, variants_send, variants_sync, array_field_send, array_field_sync}

@@ -29,7 +29,7 @@ CloseCausesAre = (close_cause_number close.Missing ≡ 1) × ((count : ℕ) → 
 abbrev pub HandsNoRowIn : List Record → Type 0
 HandsNoRowIn history = All (λ r. row_in r.call ≡ None) history
 
--- each row of the log represents a notice that was reported delivered, or had nothing to send, at its time
+-- each row of the log comes from a notice that was reported delivered, or had nothing to send, at the row's time
 abbrev pub EachRowWasDelivered : Config → List Record → Type 0
 EachRowWasDelivered config history = All (λ row. IsTrue (was_delivered row (past_of history))) (replay config history).rows
 

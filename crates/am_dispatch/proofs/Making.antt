@@ -46,7 +46,7 @@ made r old new call reply before after due recorded =
       },
     ))
 
--- what holds anyhow, beside what is so of an Ok
+-- what holds anyhow, besides what an Ok has
 pub both : {T E : Type 0} (A B : Type 0) (r : Result T E) → OnOk r A → B → OnOk r (A × B)
 both A B r answered b = on_ok_weaker {Q = A × B} r (λ (a : A). (a, b)) answered
 

@@ -38,14 +38,14 @@ pub record IsOpenedBy (opening : Opening) (text : List ℕ) (new : Session) : Ty
 abbrev pub Opened : List ℕ → List ℕ → Session → Type 0
 Opened line text new = (opening : Opening) × IsRequest line (request.Open opening) × IsOpenedBy opening text new
 
--- the line does what it asks, and the text says it. Where there is no board yet, it asks for one
+-- the request of the line is done, and the text is its answer. Where there is no board yet, the request opens one
 abbrev pub DoesRequest : Option Session → List ℕ → List ℕ → Option Session → Type 0
 DoesRequest None line text None = ⊥
 DoesRequest None line text (Some new) = Opened line text new
 DoesRequest (Some old) line text None = ⊥
 DoesRequest (Some old) line text (Some new) = IsAnswered old line text new
 
--- something else than a board is asked, and the fault says that there is none
+-- the request doesn't open a board, and the fault says that there is none
 abbrev pub LacksBoard : Request → LineFault → Type 0
 LacksBoard requested f = ((opening : Opening) → requested ≢ request.Open opening) × IsRefusedAs f [] (codes "NoBoard")
 

@@ -1,4 +1,4 @@
--- Session: what a session does with what a line asks, and what the answer says.
+-- Session: what a session does for a request, and what its answer has.
 use Rattle.std.specs.Prelude.{◌≡◌, ◌≢◌, ◌⊎◌, ◌<◌, ◌==◌, ℕ, List, [], ◌∷◌, ◌++◌, Some, None, codes, length, remove}
 use Rattle.std.specs.List.{position}
 use Rattle.json.specs.Print.{print}
@@ -56,7 +56,7 @@ use Rattle.am_dispatch.specs.declared.ticket.TheConstants.{BOARD_ID}
 abbrev pub IsSame : Session → Session → Type 0
 IsSame old new = (new.board ≡ old.board) × (new.tickets.items ≡ old.tickets.items)
 
--- the board makes this call: it records it with the reply that the definitions give, and the answer says that reply
+-- the board makes this call: it records the call with the reply that the definitions give, and the answer has that reply
 pub record MakesWith (old new : Session) (made : Call) (reply : Reply) (before after : List Token) : Type 0 where
   pub due : IsReplyAt old.board made reply
   pub recorded : new.board ≡ with_record old.board (entry 0 made reply)
@@ -145,7 +145,7 @@ InsertsAll old inserts new before after =
 abbrev pub Shows : Session → Session → List Token → List Token → List Token → Type 0
 Shows old new tokens before after = IsSame old new × (after ≡ before ++ tokens)
 
--- the answer says what a board has in all
+-- the answer has the counts of a board
 abbrev pub AnswersSummary : BoardData → List Token → List Token → Type 0
 AnswersSummary board before after =
     (s : Summary) × (summary_data s ≡ summary board.config board.history) × (after ≡ before ++ summary_tokens s)
@@ -170,7 +170,7 @@ abbrev pub Opens : Session → Opening → List Token → List Token → Type 0
 Opens new opening before after =
     (new.board ≡ opening_board opening.config BOARD_ID) × (new.tickets.items ≡ []) × (after ≡ before ++ opened_tokens opening.config opening.ignored)
 
--- the session does what is asked, and the answer says it
+-- the session does what the request asks for, and answers with it
 abbrev pub Does : Session → Request → Session → List Token → List Token → Type 0
 Does old (request.Open opening) new before after = Opens new opening before after
 Does old (request.Insert x) new before after =
@@ -242,13 +242,13 @@ IsUnread line fault.Spent = ⊥
 IsUnread line (fault.Refused index kind) = (value : Data) × (read line ≡ Some value)
 IsUnread line (fault.NotMade index kind message) = ⊥
 
--- the session does what is asked, and the text says it: its tokens, and a line feed
+-- the session does what the request asks for, and the text is the answer: its tokens, and a line feed
 pub record IsAnswerTo (old : Session) (request : Request) (text : List ℕ) (new : Session) : Type 0 where
   pub tokens : List Token
   pub does : Does old request new [] tokens
   pub text_is : text ≡ print tokens ++ 10 ∷ []
 
--- the line asks something of the session, and the text says what it did
+-- the line is a request to the session, and the text is the answer to it
 abbrev pub IsAnswered : Session → List ℕ → List ℕ → Session → Type 0
 IsAnswered old line text new = (request : Request) × IsRequest line request × IsAnswerTo old request text new
 

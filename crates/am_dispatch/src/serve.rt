@@ -30,7 +30,7 @@ use std::alloc::{AllocError, Global};
 ///
 /// # Errors
 ///
-/// `Unreadable`: a read failed. `Unwritable`: a write failed. Each want of memory is answered by a line.
+/// `Unreadable`: a read failed. `Unwritable`: a write failed. Each lack of memory is answered by a line.
 pub fn serve<S: Source, K: Sink>(
     alloc: Global,
     seed: Seed,

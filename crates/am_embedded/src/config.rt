@@ -13,7 +13,7 @@ pub fn base(alloc: Global) -> Result<Config, AllocError> {
         receivers,
         rules: Sequence::empty(alloc),
         retention: 432_000_000,
-        limits: Limits::default(),
+        limits: Limits::greatest(),
     })
 }
 
@@ -59,7 +59,7 @@ fn integrations(alloc: Global) -> Result<Sequence<Integration>, AllocError> {
     )
 }
 
-/// Returns both values. If either is missing, the other is dropped here, so that callers have nothing to drop.
+/// Returns both values. If either is missing, the other is dropped here, so callers have nothing to drop.
 fn both<A: Drop, B: Drop>(
     one: Result<A, AllocError>,
     other: Result<B, AllocError>,

@@ -8,13 +8,13 @@ use am_alerts::alert::Alert;
 use am_alerts::limits::MAX_TIME;
 use am_board::begin::Begun;
 use am_board::board::Board;
-use am_board::config::{Config, MAX_FLUSHES};
+use am_board::config::{Config, MAX_INTEGRATIONS};
 use am_board::fault::{BoardFault, Fault};
 use am_board::notice::{Notice, Report};
 use am_board::own_ticket::OwnTicket;
 use am_board::record::Inserted;
 use am_board::views::Summary;
-use am_pool::{Courier, Job, PoolFault, run_jobs};
+use am_pool::{Courier, Job, MAX_JOBS, PoolFault, run_jobs};
 use am_seed::Seed;
 use std::alloc::{AllocError, Global};
 use std::sync::Wait;
@@ -25,6 +25,9 @@ const BOARD_ID: u64 = 1;
 
 /// The pass of each call: one thread makes them all.
 const PASS: u32 = 0;
+
+/// How many groups a round begins at most: 128, so that their notices aren't too many for `run_jobs`.
+const MOST_BEGUN: usize = MAX_JOBS / MAX_INTEGRATIONS;
 
 /// The board.
 #[derive(Drop)]
@@ -63,7 +66,7 @@ impl Dispatcher {
         Ok(Dispatcher { board })
     }
 
-    /// Says the board of an alert.
+    /// Inserts an alert into the board.
     pub fn insert(&mut self, alloc: Global, now: u64, alert: Alert) -> Result<Inserted, Fault> {
         self.board.insert(alloc, PASS, now, alert)
     }
@@ -73,7 +76,7 @@ impl Dispatcher {
         self.board.next_due()
     }
 
-    /// Begins the groups that are due, at most 64, sends their notices with the couriers in threads, and finishes them.
+    /// Begins the groups that are due, at most 128, sends their notices with the couriers in threads, and finishes them.
     /// Call it again while `next_due` is at most `now`.
     pub fn send_due<R: Threads + Wait + Sync, C: Courier + Send>(
         &mut self,
@@ -100,7 +103,7 @@ impl Dispatcher {
         }
     }
 
-    /// Begins groups until none is due, or as many flushes are open as may be.
+    /// Begins groups until none is due, `MOST_BEGUN` are begun, or the limit of open flushes is reached.
     fn begin_due(
         &mut self,
         alloc: Global,
@@ -108,7 +111,7 @@ impl Dispatcher {
         open: &mut Vec<OwnTicket<BOARD_ID>>,
         round: &mut Round,
     ) -> Result<(), Fault> {
-        for _ in 0..MAX_FLUSHES {
+        for _ in 0..MOST_BEGUN {
             // (the memory for a ticket comes before the ticket)
             open.reserve(1)?;
             match self.board.begin(alloc, PASS, now) {

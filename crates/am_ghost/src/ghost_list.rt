@@ -41,6 +41,9 @@ impl<T> GhostList<T> {
     }
 
     /// Adds these items at the end, in their order.
+    ///
+    /// The loop does nothing, and a built program has no code of it, whether LLVM or Rattle's own
+    /// compiler builds it: a thousand calls with a million items take as long as none.
     pub fn add_all(&mut self, items: &[T])
         ensures { self.new.items ≡ self.old.items ++ items.now }
     {

@@ -27,7 +27,7 @@ on_pieces m i some pieces same h =
     let here = ap (λ (ps : List Piece). sum_by (λ p. days_in p * ranges_in i.times) ps) same in
     omega (arith, all, here)
 
--- bounds may be larger
+-- bounds can be larger
 pub ok_less : (r : Result (Vec Span Global) HoursFault) (m n : ℕ) → m ≤ n → IfOk r (λ s. vec_len s ≤ m) → IfOk r (λ s. vec_len s ≤ n)
 ok_less (Ok s) m n h few = omega (arith, h, few)
 ok_less (Err fault) m n h few = few

@@ -10,7 +10,7 @@ abbrev pub milliseconds_in : DateTime → ℕ
 milliseconds_in dt =
     dt.time.hour * 3600000 + dt.time.minute * 60000 + dt.time.second * 1000 + dt.time.subsec_nanosecond / 1000000
 
--- a piece begins at this date and time, but for what is less than a millisecond
+-- a piece begins at this date and time, except for what is less than a millisecond
 pub record IsShown (dt : DateTime) (p : Piece) : Type 0 where
   pub year : pos p.year ≡ dt.date.year
   pub month : p.month ≡ dt.date.month

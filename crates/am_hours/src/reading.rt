@@ -77,7 +77,7 @@ pub fn read_weekdays(text: &str) -> Result<InclusiveRange, RangeFault>
 
 /// Reads a range of months, such as `january:march`, `1:3` or `may`.
 ///
-/// A number may be any: one below 1 or above 12 is no month, and nothing else is wrong with it.
+/// A number can be any: one below 1 or above 12 is no month, and nothing else is wrong with it.
 ///
 /// # Errors
 /// - `BadForm`: there is more than one colon.

@@ -43,7 +43,7 @@ passed_by {X = X} {Y = Y} Decodes Also (Err f) refusal is more =
     by (One fault) all = λ refused y decoded. let so = all y decoded in so.1 refused so.0 so.2
     by (All faults) all = λ y decoded. let so = all y decoded in so.1 so.0 so.2
 
--- want of memory excludes nothing
+-- lack of memory excludes nothing
 pub starved_on : {T X : Type 0} (Decodes : X → Type 0) (result : Result T Refusal) (fault : InputFault) → IsErrAnd result (λ f. f ≡ One fault)
     → fault ≡ NoMemory → IfErr result (RefusesAll Decodes)
 starved_on Decodes result fault is starved = one_on Decodes result fault is (λ refusal x decoded. absurd (cc (ap is_refusal starved)))

@@ -1,4 +1,4 @@
--- Configured: under which configuration a story is played.
+-- Configured: under which configuration a story runs.
 use Rattle.std.specs.Prelude.{◌≡◌, ◌||◌, ℕ, Bool, List, [], ◌∷◌, Option, Some, None, codes, is_some}
 use Rattle.std.specs.Prelude.{option_map, if◌then◌else◌, IsSomeAnd, IsTrue, MatchOption}
 use Rattle.std.specs.List.{list_any}
@@ -34,11 +34,11 @@ form_in value =
     if has_one_of story_names value then Story
     else (if is_some (pointer (codes "/receivers/0/integrations") value) || has_one_of own_names value then Own else Alertmanager)
 
--- a configuration that was read of Alertmanager's has no fault. Whether it is the one that its JSON says isn't said
+-- a configuration that was read from Alertmanager's has no fault. Not stated: that it is the one of its JSON
 abbrev pub IsReadOfTheirs : Data → Config → Type 0
 IsReadOfTheirs value config = config_fault config ≡ None
 
--- the configuration in a story: that of `config`, or else Alertmanager's, beside which there is no `config`
+-- the configuration in a story: that of `config`, or else Alertmanager's, which excludes `config`
 abbrev pub IsConfigIn : Mode → Members → Config → Type 0
 IsConfigIn mode members config = MatchOption (get_member (codes "alertmanager") members)
     (Has (DecodesToConfig mode) (codes "config") members config)

@@ -11,11 +11,11 @@ use Rattle.am_model.specs.declared.config.Config.{Config}
 use Rattle.am_plans.specs.DispatcherChange.{AreItemsIn, ItemData}
 use Rattle.am_terms.specs.declared.dispatcher_change.DispatcherChange.{DispatcherChange}
 
--- a reload says a configuration, as a story says its own
+-- a reload decodes to a configuration, as a story does
 abbrev pub ReloadDecodesTo : Mode → Data → Config → Type 0
 ReloadDecodesTo mode reload config = IsSomeAnd (as_object reload) (λ fields. IsConfigIn mode fields config)
 
--- the configuration under a reload: the one that it says. Without a reload it is the story's, or that of a file in its place
+-- the configuration from a reload on: the reload's own. Without a reload: the story's, or that of a file in its place
 abbrev pub IsConfigAt : Option Data → Mode → Members → Option Data → Config → Type 0
 IsConfigAt file mode ms None config = IsConfigFor file mode ms config
 IsConfigAt file mode ms (Some reload) config = ReloadDecodesTo mode reload config

@@ -2,7 +2,7 @@
 pub mod Request
 -- the reloads and restarts of a story
 pub mod DispatcherChanges
--- under which configuration a story is played
+-- under which configuration a story runs
 pub mod Configured
 -- the time zones that a story says
 pub mod Zones

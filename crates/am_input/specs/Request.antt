@@ -45,7 +45,7 @@ abbrev pub output_for : Option Output → Option Data → Option Output
 output_for (Some output) _ = Some output
 output_for None member = output_in member
 
--- the start that a member says, the time that its text is read as; none, where it isn't there
+-- a field decodes to a start: the time that its text is read as; none if the field is absent
 abbrev pub DecodesToStart : Option Data → Option StartData → Type 0
 DecodesToStart None start = start ≡ None
 DecodesToStart (Some member) start = IsSomeAnd (as_str member) (λ text. IsSomeAnd start (IsReadFrom text))

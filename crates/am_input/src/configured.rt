@@ -37,7 +37,7 @@ pub struct Configured {
     pub lacks_hours: bool,
 }
 
-/// Reads the configuration of a story, or the one that is given in its place, with the clocks of the story that is played
+/// Reads the configuration of a story, or the one that is given in its place, with the clocks of the story that runs
 /// until `until` or else until its own end.
 pub fn read_configured<Z: ZoneFiles>(
     top: &Object<'_, '_>,
@@ -115,7 +115,7 @@ fn read_hours_at<Z: ZoneFiles>(
     }
 }
 
-/// Reads the configuration of a reload, with the clocks of its story that is played until `until` or else until its own
+/// Reads the configuration of a reload, with the clocks of its story that runs until `until` or else until its own
 /// end.
 pub(crate) fn read_reload<Z: ZoneFiles>(
     top: &Object<'_, '_>,
@@ -184,7 +184,7 @@ pub fn read_file(alloc: Global, value: &Value, hours: Option<&Hours>) -> Result<
 }
 
 /// Reads the configuration in a story. It is in `config` or, as Alertmanager has it, in `alertmanager`, which is
-/// refused beside `config`.
+/// rejected next to `config`.
 fn read_in_story(top: &Object<'_, '_>, hours: Option<&Hours>) -> Result<Configured, Refusal>
     ensures decoded { IfOk result (λ read. IsConfigIn top.now.mode (members_view top.now.members) read.config) }
     ensures timed { HasNone (codes "alertmanager") (members_view top.now.members) → IfOk result (λ read. read.lacks_hours ≡ false) }

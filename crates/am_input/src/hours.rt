@@ -65,7 +65,7 @@ fn has_room(start: Timestamp, horizon: u64) -> bool {
     }
 }
 
-/// What was read, if it has no fault. Want of memory is one still.
+/// What was read, if it has no fault. Lack of memory is one still.
 fn if_read<T: Drop>(read: Result<T, InputFault>) -> Result<Option<T>, InputFault> {
     match read {
         Ok(read) => Ok(Some(read)),

@@ -132,7 +132,7 @@ abbrev pub resolved_word : List AlertData → List ℕ
 resolved_word [] = codes "resolved "
 resolved_word (a ∷ alerts) = codes "; resolved "
 
--- what a notice reported
+-- the firing and resolved alerts of a notice, as text
 unfoldable pub got_alerts_text : NoticeData → List ℕ
 got_alerts_text n = alerts_text (codes "firing ") n.firing ++ alerts_text (resolved_word n.firing) n.resolved
 

@@ -41,7 +41,7 @@ pub record Moves (from to : LinesData) (given used : List ℕ) : Type 0 where
   pub uses : from.unused ++ given ≡ used ++ to.unused
   pub stays : from.ended ≡ true → (given ≡ []) × (to.ended ≡ true)
 
--- what is kept of the line that has this text so far: all of it, or nothing where it is too long or memory is refused
+-- what is kept of the line that has this text so far: all of it, or nothing where it is too long or there is no memory
 abbrev pub IsKept : LineRead → List ℕ → List ℕ → Type 0
 IsKept Complete text kept = (kept ≡ text) × (length text ≤ MAX_INPUT)
 IsKept TooLong text kept = MAX_INPUT < length text

@@ -12,7 +12,7 @@ use std::marker::Model;
 
 /// The JSON text of an answer. Contracts see its tokens.
 ///
-/// The caller nests them. Where a call is refused memory, some of what it writes may be there.
+/// The caller nests them. Where a call is refused memory, some of what it writes can be there.
 #[derive(Drop)]
 pub struct Answer {
     writer: Writer,
@@ -31,7 +31,7 @@ impl Model for Answer {
     ghost invariant = { λ a. a.writer.before ≡ [] };
 }
 
-/// What answers say as one JSON value. Routes and integrations have their names in a configuration.
+/// An answer as one JSON value. Routes and integrations have their names in a configuration.
 pub trait ToJson {
     ghost use Rattle.std.specs.Prelude.{List};
     ghost use Rattle.json.specs.Token.{Token};

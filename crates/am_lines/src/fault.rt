@@ -21,7 +21,7 @@ const UNTOLD_LINE: &str =
 const SPENT_LINE: &str =
     "{\"error\":{\"pointer\":\"\",\"kind\":\"NotOpen\",\"message\":\"no open flush has this ticket\"}}\n";
 
-/// Returns the line that says that memory was refused. It needs none.
+/// Returns the line that says that there was no memory. It needs none.
 pub fn no_memory_line() -> &'static str
     ensures { result.now ≡ fault_line LineFault.NoMemory }
 {
@@ -37,7 +37,7 @@ pub enum LineFault {
     },
     /// It has more than 16,777,216 bytes.
     TooLong,
-    /// Memory was refused.
+    /// Out of memory.
     NoMemory,
     /// The call was made, and memory for the text of its answer was refused.
     Untold,

@@ -22,7 +22,7 @@ pub enum LineRead {
     Complete,
     /// It has more than 16,777,216 bytes. It was read to its end, and isn't kept.
     TooLong,
-    /// Memory was refused for it. It was read to its end, and isn't kept.
+    /// There was no memory for it. It was read to its end, and isn't kept.
     NoMemory,
     /// No line is left.
     End,
@@ -173,7 +173,7 @@ impl LineReader {
     }
 }
 
-/// Returns the pointer of the first line feed.
+/// Returns the index of the first line feed.
 fn find_feed(bytes: &[u8]) -> Option<usize>
     ensures within { IfSome result (λ n. n < length bytes.now) }
     ensures first { result ≡ position (λ b. b == 10) bytes.now }

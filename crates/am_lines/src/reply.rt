@@ -1,4 +1,4 @@
-//! The answers that say a board's replies to its calls. `am_dispatch` calls it.
+//! The answers to calls: the board's replies. `am_dispatch` calls it.
 ghost use Rattle.std.specs.Prelude.{◌≡◌, ◌++◌, ◌∷◌, [], OnOk};
 ghost use Rattle.std.specs.List.{flat_map};
 ghost use Rattle.json.specs.Token.{begin_object, end_object, key};

@@ -65,7 +65,7 @@ pub enum Request {
 #[derive(Drop)]
 pub struct Opening {
     pub config: Config,
-    /// What the configuration says beside, which is ignored.
+    /// What the configuration also says, which is ignored.
     pub ignored: IgnoredSettings,
 }
 

@@ -15,4 +15,5 @@ pub mod Histories
 pub mod KnownMembers
 pub mod LedRows
 pub mod LoadableRows
+pub mod NeverWait
 pub mod RowTimes

@@ -25,11 +25,11 @@ use Rattle.am_model.specs.Records.{flush_reply}
 use Rattle.am_model.specs.Lists.{without, unless, changed_where, in_order, least}
 use Rattle.am_model.specs.State.{GroupState, NotifiedState, Stamped, FlushState, State, at_time, is_named, same_name, name_cmp, is_flushing}
 
--- the order in which groups are taken: by due time, then by name
+-- the order in which begins take groups: by due time, then by name
 abbrev pub due_cmp : GroupState → GroupState → Ordering
 due_cmp g h = ordering_then (nat_cmp g.due h.due) (name_cmp g.name h.name)
 
--- whether a group may be taken at t: it is due, and no flush of it is open
+-- whether a group can be taken at t: it is due, and no flush of it is open
 abbrev pub may_begin : State → ℕ → GroupState → Bool
 may_begin s t g = nat_le g.due t && not (is_flushing s.flushes g.name)
 

@@ -76,9 +76,9 @@ rows_at row None routes = []
 rows_at row (Some integration) routes = map (moved row integration) routes
 
 -- carried: the rows that a log under the new configuration takes over for a row of one under the old: all that it had but the route and
--- the integration's position. A route inherits by where the row's alerts go under the new configuration. Where several do, the one at
+-- the integration's position. A route takes the row over if its alerts go there under the new configuration. Where several do, the one at
 -- the row's own position has it alone, since each of the others has a row of its own where the configuration is the same; where that
--- one doesn't, all have it, so that an alert that was notified isn't notified again, by whichever of them it comes. Where the positions of several
+-- one doesn't, all have it: a notified alert isn't notified again, by whichever of them it comes. Where the positions of several
 -- shifted, the one that is now at the row's own position has it alone, and one of the others may have none: there it can be notified again
 abbrev pub carried : Config → Config → RowView → List RowView
 carried old new row =
@@ -106,7 +106,7 @@ pub record IsTakenOver (new : Config) (row taken : RowView) : Type 0 where
 abbrev pub CarriedRowsFit : Type 0
 CarriedRowsFit = (old new : Config) (row : RowView) → All (IsTakenOver new row) (carried old new row)
 
--- where a row may be loaded under the old configuration, each row that is taken over for it may be loaded under the new one
+-- where a row can be loaded under the old configuration, each row that is taken over for it can be loaded under the new one
 abbrev pub CarriedRowsMayBeLoaded : Type 0
 CarriedRowsMayBeLoaded =
     (old new : Config) (t : ℕ) (row : RowView) → may_load old t row ≡ true

@@ -24,15 +24,15 @@ use Rattle.am_model.specs.Note.{is_ready, notified_by}
 use Rattle.am_model.specs.State.{GroupState, NotifiedState, FlushState, State, flush_numbered}
 use Rattle.am_model.specs.Maintenance.{silenced}
 
--- whether a history has no room for so many records more, beside one for the finish of each open flush
+-- whether a history has no capacity for so many records more, besides one for the finish of each open flush
 abbrev pub is_full : Config → ℕ → State → ℕ → Bool
 is_full config records s more = nat_lt config.limits.history (records + length s.flushes + more)
 
--- whether an alert is new and no more may be known
+-- whether an alert is new and no more can be known
 abbrev pub is_alert_too_many : Config → State → AlertData → Bool
 is_alert_too_many config s a = nat_le config.limits.alerts (length s.known) && not (list_any (same_alert a) s.known)
 
--- whether an insert would make more groups than there may be
+-- whether an insert would make more groups than the limit allows
 abbrev pub makes_too_many : Config → State → AlertData → Bool
 makes_too_many config s a = nat_lt config.limits.groups (length s.groups + (inserted config s a).made)
 
@@ -43,7 +43,7 @@ insert_cause config records s a =
     else (if is_alert_too_many config s a then Some TooManyAlerts
     else (if makes_too_many config s a then Some TooManyGroups else None))
 
--- whether a silence is new and there may be no more
+-- whether a silence is new and there can be no more
 abbrev pub is_silence_too_many : Config → State → SilenceData → Bool
 is_silence_too_many config s silence = nat_le config.limits.silences (length s.silences) && not (silenced s silence).replaced
 

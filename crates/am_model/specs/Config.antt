@@ -17,6 +17,10 @@ use Rattle.am_model.specs.declared.config.Receiver.{Receiver}
 use Rattle.am_model.specs.declared.config.TheConstants.{MAX_RECEIVERS, MAX_INTEGRATIONS, MAX_RULES, MAX_ALERTS, MAX_GROUPS, MAX_SILENCES}
 use Rattle.am_model.specs.declared.config.TheConstants.{MAX_FLUSHES, MAX_HISTORY}
 
+-- the limits of a small dispatcher
+abbrev pub default_limits : Limits
+default_limits = record { alerts = 65_536; groups = 4_096; silences = 1_024; flushes = 64; history = 1_048_576 }
+
 -- the limits where none is lowered
 abbrev pub greatest_limits : Limits
 greatest_limits = record { alerts = MAX_ALERTS; groups = MAX_GROUPS; silences = MAX_SILENCES; flushes = MAX_FLUSHES; history = MAX_HISTORY }

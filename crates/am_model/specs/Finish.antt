@@ -62,7 +62,7 @@ rows_after config t outcomes f rows =
 abbrev pub is_leaving : List Stamped → MemberState → Bool
 is_leaving leaving m = list_any (λ l. same_label_set l.labels m.alert.labels && (l.stamp == m.stamp)) leaving
 
--- whether a member leaves its group by the finish of a flush: all succeeded, and it is there as it did at the begin, resolved
+-- whether a member leaves its group by the finish of a flush: all succeeded, and it is as it was at the begin, resolved
 abbrev pub leaves_by : List (ℕ × Outcome) → FlushState → MemberState → Bool
 leaves_by outcomes f m = all_succeeded outcomes f && is_leaving f.leaving m
 

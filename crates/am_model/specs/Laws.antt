@@ -1,5 +1,5 @@
 -- Laws: what is true after every history, and how a history's state goes record by record.
-use Rattle.std.specs.Prelude.{◌≡◌, ℕ, ◌+◌, ◌<◌, ◌≤◌, ◌↔◌, min, max, Bool, true, false, IsTrue, All, List, [], ◌∷◌, ◌++◌, fold, not}
+use Rattle.std.specs.Prelude.{◌≡◌, ◌≢◌, ℕ, ◌+◌, ◌<◌, ◌≤◌, ◌↔◌, length, min, max, Bool, true, false, IsTrue, All, List, [], ◌∷◌, ◌++◌, fold, not}
 use Rattle.std.specs.Prelude.{Option, Some, None, ◌==◌, find, if◌then◌else◌}
 use Rattle.std.specs.List.{list_any, IsDistinct}
 use Rattle.std.specs.Option.{option_map}
@@ -12,7 +12,9 @@ use Rattle.am_model.specs.declared.record.Record.{Record}
 use Rattle.am_model.specs.declared.record.Reply.{Reply}
 use Rattle.am_model.specs.declared.record.Reply.TheVariants.{Inserted, Silenced, NothingDue, Quiet, Flush}
 use Rattle.am_model.specs.declared.record.Reply.TheVariants.{Finished, Maintained, Forgotten, Loaded, Noted}
+use Rattle.am_model.specs.declared.fault.Fault.TheVariants.{TooManyOpen}
 use Rattle.am_model.specs.Carry.{carried, is_led_to}
+use Rattle.am_model.specs.Causes.{begin_cause}
 use Rattle.am_model.specs.Load.{may_load}
 use Rattle.am_model.specs.declared.views.RowView.{RowView}
 use Rattle.am_model.specs.Records.{now_of}
@@ -123,7 +125,7 @@ pub record IsConsistent (s : State) : Type 0 where
   pub numbers : IsDistinct same_number s.flushes
   pub held : All (IsHeld s) s.flushes
 
--- an alert of a group is there as the known alert with its labels does, and the group is among those to which it goes
+-- an alert of a group equals the known alert with its labels, and the group is among those to which it goes
 pub record IsKnownMember (config : Config) (s : State) (g : GroupState) (m : MemberState) : Type 0 where
   pub known : find (same_alert m.alert) s.known ≡ Some m.alert
   pub routed : IsTrue (list_any (same_name g.name) (names_for config m.alert.labels))
@@ -145,13 +147,19 @@ ReplaysKnowMembers = (config : Config) (history : List Record) → KnowsMembers 
 abbrev pub ReplaysAreConsistent : Type 0
 ReplaysAreConsistent = (config : Config) (history : List Record) → IsConsistent (replay config history)
 
--- any list of records, legal or not, leaves rows that may be loaded under the same configuration, from the clock on
+-- where the limit of open flushes isn't below that of groups, no begin waits for a finish
+abbrev pub FlushesNeverWait : Type 0
+FlushesNeverWait =
+    (config : Config) (records : ℕ) (s : State) (t : ℕ) → IsConsistent s → length s.groups ≤ config.limits.groups
+    → config.limits.groups ≤ config.limits.flushes → begin_cause config records s t ≢ Some TooManyOpen
+
+-- any list of records, legal or not, leaves rows that can be loaded under the same configuration, from the clock on
 abbrev pub RowsMayBeLoaded : Type 0
 RowsMayBeLoaded =
     (config : Config) (history : List Record) (t : ℕ) → (replay config history).clock ≤ t
     → All (λ row. may_load config t row ≡ true) (replay config history).rows
 
--- a change of the dispatcher: each row that is taken over for one of those that are shown may be loaded at any state under the new configuration, by a
+-- a change of the dispatcher: each row taken over for a shown one can be loaded at any state under the new configuration, by a
 -- call that hands in the clock's time or a later one
 abbrev pub DispatcherChangesMayBeLoaded : Type 0
 DispatcherChangesMayBeLoaded =
@@ -205,13 +213,13 @@ replies_from config id s (c ∷ cs) = option_map bare_reply (reply config id s c
 abbrev pub state_from : Config → State → List Call → State
 state_from config s calls = fold (after_call config) s calls
 
--- calls after a forgetting are replied as they are where nothing was forgotten at its time, but for what bare replies leave out
+-- calls after a forgetting have the replies that they have where nothing was forgotten at its time, except for what bare replies leave out
 abbrev pub ForgettingChangesNoReply : Type 0
 ForgettingChangesNoReply =
     (config : Config) (id : ℕ) (s : State) (t : ℕ) (calls : List Call) → IsConsistent s
     → replies_from config id (after_forget s t) calls ≡ replies_from config id (at_time s t) calls
 
--- and they leave the same state, but for known alerts and silences
+-- and they leave the same state, except for known alerts and silences
 abbrev pub ForgettingChangesNoState : Type 0
 ForgettingChangesNoState =
     (config : Config) (s : State) (t : ℕ) (calls : List Call) → IsConsistent s

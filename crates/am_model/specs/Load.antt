@@ -23,11 +23,11 @@ has_integration config row =
 abbrev pub is_ordered : RowView → Bool
 is_ordered row = is_ascending label_set_cmp row.firing && is_ascending label_set_cmp row.resolved
 
--- whether a row may be loaded at t: the configuration has its integration, its label sets are in order, and it isn't of a later time
+-- whether a row can be loaded at t: the configuration has its integration, its label sets are in order, and it isn't of a later time
 abbrev pub may_load : Config → ℕ → RowView → Bool
 may_load config t row = has_integration config row && is_ordered row && nat_le row.time t
 
--- what becomes of a row by the log's entry for its key: it takes its index, unless the entry is of the same time or a later one
+-- what becomes of a row by the log's entry for its key: the row replaces the entry, unless that is of the same time or a later one
 abbrev pub loaded_by : RowView → Option RowView → Loaded
 loaded_by row None = Put
 loaded_by row (Some entry) = if nat_lt entry.time row.time then Put else Kept

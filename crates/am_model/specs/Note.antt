@@ -22,7 +22,7 @@ abbrev pub may_be_noted : Option Outcome → Option NotifiedState → Bool
 may_be_noted outcome None = false
 may_be_noted outcome (Some a) = is_ready outcome a && not a.noted
 
--- whether an integration may be noted for a flush with this outcome
+-- whether an integration can be noted for a flush with this outcome
 abbrev pub may_note : ℕ → Option Outcome → FlushState → Bool
 may_note integration outcome f = may_be_noted outcome (notified_by f integration)
 

@@ -43,7 +43,7 @@ rekeyed reload row =
     (same_routes reload.new receiver (key_at reload.old.routes row.group.route))
 
 -- a row that is found again has an integration of the new configuration, under a route of the same receiver and the same key: the one of
--- the same kind and index. It is else the row that it represents
+-- the same kind and index. Everything else is as in the row
 pub record IsFoundAgain (reload : Reload) (row found : RowView) : Type 0 where
   pub there : has_integration reload.new found ≡ true
   pub receiver : (route_of reload.new found.group).receiver ≡ (route_of reload.old row.group).receiver
@@ -59,7 +59,7 @@ pub record IsFoundAgain (reload : Reload) (row found : RowView) : Type 0 where
 abbrev pub RekeyedRowsFit : Type 0
 RekeyedRowsFit = (reload : Reload) (row : RowView) → All (IsFoundAgain reload row) (rekeyed reload row)
 
--- where a row may be loaded under the old configuration, each row that is found again for it may be loaded under the new one
+-- where a row can be loaded under the old configuration, each row that is found again for it can be loaded under the new one
 abbrev pub RekeyedRowsMayBeLoaded : Type 0
 RekeyedRowsMayBeLoaded =
     (reload : Reload) (t : ℕ) (row : RowView) → may_load reload.old t row ≡ true

@@ -24,7 +24,7 @@ pub record GroupState : Type 0 where
   pub flushed : Bool
   pub members : List MemberState
 
--- an integration that a flush notified: whether it has nothing to send, and whether its success was noted
+-- an integration of a flush: whether it has nothing to send, and whether its success was noted
 pub record NotifiedState : Type 0 where
   pub integration : ℕ
   pub nothing : Bool

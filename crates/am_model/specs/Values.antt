@@ -12,27 +12,32 @@ use Rattle.am_model.specs.declared.fault.ReportFault.TheVariants as report
 use Rattle.am_model.specs.declared.fault.TakeFault.TheVariants as taking
 use Rattle.am_model.specs.declared.law.TheConstants.{CALL_FAULTS, NOTE_FAULTS, LOAD_FAULTS, CONFIG_FAULTS, TAKE_FAULTS, REPORT_FAULTS}
 use Rattle.am_model.specs.declared.notice.TheConstants.{MIN_FLUSH_TIMEOUT, MAX_DEADLINE}
-use Rattle.am_model.specs.Config.{greatest_limits}
+use Rattle.am_model.specs.Config.{default_limits, greatest_limits}
 use Rattle.am_model.specs.Faults.{board_fault_number}
 
--- law: 64 receivers of 8 integrations, 256 rules; 65,536 known alerts, 4,096 groups, 1,024 silences, 64 open flushes, 1,048,576 records
--- that are kept, 10^15 that are handed out
+-- law: 64 receivers of 8 integrations, 256 rules; 4,000,000 known alerts, 500,000 groups, 1,024 silences, as many open flushes as groups,
+-- 64,000,000 records that are kept, 10^15 that are handed out
 abbrev pub LimitsAre : Type 0
 LimitsAre =
     (MAX_RECEIVERS ≡ 64)
     × (MAX_INTEGRATIONS ≡ 8)
     × (MAX_RULES ≡ 256)
-    × (MAX_ALERTS ≡ 65_536)
-    × (MAX_GROUPS ≡ 4_096)
+    × (MAX_ALERTS ≡ 4_000_000)
+    × (MAX_GROUPS ≡ 500_000)
     × (MAX_SILENCES ≡ 1_024)
-    × (MAX_FLUSHES ≡ 64)
-    × (MAX_HISTORY ≡ 1_048_576)
+    × (MAX_FLUSHES ≡ 500_000)
+    × (MAX_HISTORY ≡ 64_000_000)
     × (MAX_HANDED ≡ 1_000_000_000_000_000)
 
--- law: the default of the limits, none of them lowered
+-- law: the default of the limits
 abbrev pub DefaultIs : Type 0
 DefaultIs =
-    greatest_limits ≡ record { alerts = 65_536; groups = 4_096; silences = 1_024; flushes = 64; history = 1_048_576 }
+    default_limits ≡ record { alerts = 65_536; groups = 4_096; silences = 1_024; flushes = 64; history = 1_048_576 }
+
+-- law: the greatest limits
+abbrev pub GreatestIs : Type 0
+GreatestIs =
+    greatest_limits ≡ record { alerts = 4_000_000; groups = 500_000; silences = 1_024; flushes = 500_000; history = 64_000_000 }
 
 -- law: a flush has 10 s at least, and a deadline is at most 10^15 + 10^12 ms
 abbrev pub TimesAre : Type 0

@@ -4,7 +4,7 @@ ghost use Rattle.std.specs.Prelude.{◌≡◌, IfOk};
 use std::alloc::{AllocError, Global};
 use std::marker::Model;
 
-/// A value in memory of its own, so that what holds it has one word for it.
+/// A value in memory of its own, so what holds it has one word for it.
 ///
 /// Contracts see it as the value.
 #[derive(Debug, Drop)]

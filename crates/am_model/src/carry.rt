@@ -13,7 +13,7 @@ use am_alerts::labels::Labels;
 use std::alloc::{AllocError, Global};
 
 /// Returns the rows that a log under a new configuration takes over for a row of a log under an old
-/// one. They are as the row, but for the route's position and the integration's.
+/// one. They are as the row, except for the route's position and the integration's.
 ///
 /// There is one for each new route that has the row's receiver and puts an alert of the row into a
 /// group with the row's group labels. Exception: if the route at the row's own position is one of

@@ -7,8 +7,8 @@ ghost use Rattle.std.specs.Str.{bytes_eq};
 ghost use Rattle.am_alerts.specs.Fault.{ok_unless};
 ghost use Rattle.am_alerts.specs.RoutingTree.{last_of};
 ghost use Rattle.am_model.specs.Config.{AreAllowed, IsWithin, is_within, are_allowed, has_receiver, has_receivers, has_receiver_twice};
-ghost use Rattle.am_model.specs.Config.{has_many_integrations, has_good_kinds, greatest_limits, receivers_fault, bounds_fault};
-ghost use Rattle.am_model.specs.Config.{config_fault, kind_at};
+ghost use Rattle.am_model.specs.Config.{has_many_integrations, has_good_kinds, default_limits, greatest_limits};
+ghost use Rattle.am_model.specs.Config.{receivers_fault, bounds_fault, config_fault, kind_at};
 ghost use Rattle.am_model.specs.Configured.{route_of, route_muted, integrations_named, integration_text};
 
 use crate::group::GroupName;
@@ -32,19 +32,19 @@ pub const MAX_INTEGRATIONS: usize = 8;
 pub const MAX_RULES: usize = 256;
 
 /// The greatest number of known alerts.
-pub const MAX_ALERTS: usize = 65_536;
+pub const MAX_ALERTS: usize = 4_000_000;
 
 /// The greatest number of groups.
-pub const MAX_GROUPS: usize = 4_096;
+pub const MAX_GROUPS: usize = 500_000;
 
 /// The greatest number of silences.
 pub const MAX_SILENCES: usize = 1_024;
 
 /// The greatest number of open flushes.
-pub const MAX_FLUSHES: usize = 64;
+pub const MAX_FLUSHES: usize = 500_000;
 
 /// The greatest number of records that a board keeps.
-pub const MAX_HISTORY: usize = 1_048_576;
+pub const MAX_HISTORY: usize = 64_000_000;
 
 /// The greatest number of records that a board hands out.
 ///
@@ -67,7 +67,9 @@ pub struct Receiver {
     pub integrations: Sequence<Integration>,
 }
 
-/// The limits of a dispatcher. Each is at least 1 and at most its default.
+/// The limits of a dispatcher. Each is at least 1 and at most its greatest value.
+///
+/// Memory isn't taken before it is needed: a limit says when a call is refused.
 #[derive(Clone, Copy, Debug, PartialEq, Eq)]
 pub struct Limits {
     /// Known alerts.
@@ -81,15 +83,16 @@ pub struct Limits {
 }
 
 impl Default for Limits {
-    ghost is_default = { λ limits. limits ≡ greatest_limits };
+    ghost is_default = { λ limits. limits ≡ default_limits };
 
+    /// Returns the limits of a small dispatcher.
     fn default() -> Limits {
         Limits {
-            alerts: MAX_ALERTS,
-            groups: MAX_GROUPS,
-            silences: MAX_SILENCES,
-            flushes: MAX_FLUSHES,
-            history: MAX_HISTORY,
+            alerts: 65_536,
+            groups: 4_096,
+            silences: 1_024,
+            flushes: 64,
+            history: 1_048_576,
         }
     }
 }
@@ -331,6 +334,19 @@ impl Receiver {
 }
 
 impl Limits {
+    /// Returns the greatest limits that a dispatcher may have. No group waits for the flush of another.
+    pub fn greatest() -> Limits
+        ensures { result ≡ greatest_limits }
+    {
+        Limits {
+            alerts: MAX_ALERTS,
+            groups: MAX_GROUPS,
+            silences: MAX_SILENCES,
+            flushes: MAX_FLUSHES,
+            history: MAX_HISTORY,
+        }
+    }
+
     fn are_allowed(&self) -> bool
         ensures value { result ≡ are_allowed self.now }
         ensures exact { IsTrue result ↔ AreAllowed self.now }

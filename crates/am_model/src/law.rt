@@ -4,7 +4,7 @@ ghost use Rattle.am_model.specs.Carry.{CarriedRowsFit, CarriedRowsMayBeLoaded, R
 ghost use Rattle.am_model.specs.Rekey.{RekeyedRowsFit, RekeyedRowsMayBeLoaded, RekeyedDispatcherChangesMayBeLoaded, RestartsFindRows};
 ghost use Rattle.am_model.specs.Rekey.{RestartsFindShownRows};
 ghost use Rattle.am_model.specs.Laws.{ReplayAppends, LegalAppends, ClockIsTime, BeginningsAreLegal};
-ghost use Rattle.am_model.specs.Laws.{ReplaysAreConsistent, ReplaysKnowMembers, LegalKeepsBegins};
+ghost use Rattle.am_model.specs.Laws.{ReplaysAreConsistent, ReplaysKnowMembers, LegalKeepsBegins, FlushesNeverWait};
 ghost use Rattle.am_model.specs.Laws.{RowsMayBeLoaded, DispatcherChangesMayBeLoaded, RowsAreLed, RestartsKeepRows};
 ghost use Rattle.am_model.specs.Laws.{ForgettingChangesNoReply, ForgettingChangesNoState};
 ghost use Rattle.am_model.specs.look_back.Interval.{BeginsKeepTheInterval};
@@ -14,7 +14,7 @@ ghost use Rattle.am_model.specs.look_back.Laws.{LoadsPutLaterRows, RefiringAlert
 ghost use Rattle.am_model.specs.look_back.Laws.{BeginsNotifyExactlyWhomNeeded, NoticesListPresentAlerts, LooksBack};
 ghost use Rattle.am_model.specs.look_back.Preview.{PreviewsAreFound};
 ghost use Rattle.am_model.specs.look_back.Reasons.{BeginsHaveReasons, ReasonsAreSo, NotYetEnds};
-ghost use Rattle.am_model.specs.Values.{LimitsAre, DefaultIs, TimesAre};
+ghost use Rattle.am_model.specs.Values.{LimitsAre, DefaultIs, GreatestIs, TimesAre};
 ghost use Rattle.am_model.specs.Values.{CallFaultsAre, NoteFaultsAre, LoadFaultsAre, ConfigFaultsAre};
 ghost use Rattle.am_model.specs.Values.{BoardFaultsAre, TakeFaultsAre, ReportFaultsAre};
 
@@ -108,6 +108,13 @@ pub fn legal_histories_are_consistent()
     ensures begins { LegalKeepsBegins }
 {}
 
+/// States that a group that is due never waits for the flush of another.
+///
+/// Where as many flushes may be open as there may be groups, no begin is refused as `TooManyOpen`.
+pub fn flushes_never_wait()
+    ensures { FlushesNeverWait }
+{}
+
 /// States that a forgetting changes no later reply, and of a later state no more than known alerts
 /// and silences.
 ///
@@ -139,7 +146,7 @@ pub fn rows_are_carried()
 ///
 /// Clause `fit`: each row that it returns has an integration of the new configuration, under a route
 /// that has the receiver and the key of the old row's route, and is else as that row. Clause `load`:
-/// where a row may be loaded under the old configuration, each that it returns for it may be loaded
+/// where a row can be loaded under the old configuration, each that it returns for it can be loaded
 /// under the new one. Clause `dispatcher_change`: that is true of each row that a board returns, at any state
 /// of a board of the new configuration, if the load hands in the old board's clock or a later time.
 /// Clause `restart`: under the same configuration it returns the row itself, at least, if the row has
@@ -152,12 +159,12 @@ pub fn rows_are_found_again()
     ensures kept { RestartsFindShownRows }
 {}
 
-/// States that the rows of a log may be loaded, and so may those that `carried` returns for them.
+/// States that the rows of a log can be loaded, and so can those that `carried` returns for them.
 ///
-/// Clause `own`: after every list of records, legal or not, each row of the log may be loaded under
+/// Clause `own`: after every list of records, legal or not, each row of the log can be loaded under
 /// the same configuration, from the clock on. Its route and its integration are there, its label
-/// sets are in order, and its time isn't later. Clause `carried`: where a row may be loaded under an
-/// old configuration, each that `carried` returns for it may be loaded under the new one. Clause
+/// sets are in order, and its time isn't later. Clause `carried`: where a row can be loaded under an
+/// old configuration, each that `carried` returns for it can be loaded under the new one. Clause
 /// `dispatcher_change`: that is true of each row that a board returns, at any state of a board of the new
 /// configuration, if the load hands in the old board's clock or a later time.
 pub fn rows_may_be_loaded()
@@ -267,11 +274,12 @@ pub fn legal_histories_look_back()
     ensures { EveryLegalHistory LooksBack }
 {}
 
-/// States each limit of a configuration, the default of `Limits`, and the bounds of a flush's
-/// deadline.
+/// States each limit of a configuration, the default and the greatest of `Limits`, and the bounds
+/// of a flush's deadline.
 pub fn limits_are()
     ensures limits { LimitsAre }
     ensures default { DefaultIs }
+    ensures greatest { GreatestIs }
     ensures times { TimesAre }
 {}
 

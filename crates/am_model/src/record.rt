@@ -65,7 +65,7 @@ pub enum Loaded {
     Expired,
 }
 
-/// The reply to a begin that opened a flush, beside the group.
+/// The reply to a begin that opened a flush, besides the group.
 #[derive(Debug, Drop)]
 pub struct Opened {
     /// The number of the flush.

@@ -82,7 +82,7 @@ impl<'c> Rekeying<'c> {
     }
 
     /// Returns the rows that a log under the new configuration has for a row of one under the old.
-    /// They are as the row, but for the route's position and the integration's.
+    /// They are as the row, except for the route's position and the integration's.
     ///
     /// There is one for each new route that has the row's receiver and the key of the row's route.
     /// So if a matcher of the route changed, or of a route above it, there is none, save for other

@@ -1,4 +1,4 @@
--- a silence that asks for a label mutes only label sets that have it, so that it is found by one of their labels
+-- a silence that asks for a label mutes only label sets that have it, so it is found by one of their labels
 mod RequiredLabels
 -- a walk over the keys of one bucket: what the first source among their alerts says of all known alerts
 mod BucketWalk

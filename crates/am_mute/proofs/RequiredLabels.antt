@@ -1,4 +1,4 @@
--- A silence that asks for a label mutes only label sets that have it, so that it is found by one of their labels.
+-- A silence that asks for a label mutes only label sets that have it, so it is found by one of their labels.
 use Rattle.std.proofs.Common.{◌≡◌, ℕ, suc, ◌<◌, Bool, true, false, true≢false, cond, ◌||◌, List, [], ◌∷◌, length, get_or, take, drop, ◌-◌}
 use Rattle.std.proofs.Common.{find, unwrap_or, Option, Some, None, option_map, is_some, inl, inr, ◌⊎◌, refl, sym, ap, ◌∙◌, subst, arith}
 use Rattle.std.specs.Prelude.{nat_lt}

@@ -36,7 +36,7 @@ key-is a b tied =
 
 -- ---- one key more
 
--- what was there is there, beside one more
+-- what was there is there, with one more
 had_or : (b had : Bool) → had ≡ true → cond b true had ≡ true
 had_or true had h = refl
 had_or false had h = h

@@ -52,7 +52,7 @@ is_inhibited_by r t labels a =
 abbrev pub inhibits : RuleData → ℕ → List AlertData → List Label → Bool
 inhibits r t known labels = match_all r.target labels && list_any (λ a. is_inhibited_by r t labels a) known
 
--- the first known alert on account of which a rule mutes a label set at t
+-- the first known alert because of which a rule mutes a label set at t
 abbrev pub source_for : RuleData → ℕ → List AlertData → List Label → Option AlertData
 source_for r t known labels = if match_all r.target labels then find (is_inhibited_by r t labels) known else None
 

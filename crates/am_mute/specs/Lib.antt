@@ -10,11 +10,11 @@ pub mod Mute
 pub mod Silence
 -- where silences are in an index, by the labels that they ask for
 pub mod SilenceIndex
--- silences as they are kept, with room for more
+-- silences as they are kept, with capacity for more
 pub mod Silences
 -- an index of sources: the keys of alerts, and how many alerts were learnt
 pub mod SourceIndex
--- known alerts that may be sources, found by their values under the names of `equal`
+-- known alerts that can be sources, found by their values under the names of `equal`
 pub mod Sources
 -- targets: label sets that a rule may mute
 pub mod Target

@@ -1,5 +1,5 @@
 -- What mutes a label set.
-use Rattle.std.specs.Prelude.{ℕ, ◌+◌, Bool, ◌||◌, List, [], ◌∷◌, find, Option, None}
+use Rattle.std.specs.Prelude.{ℕ, ◌+◌, Bool, not, ◌&&◌, ◌||◌, List, [], ◌∷◌, find, Option, None}
 use Rattle.std.specs.Option.{option_map, option_or}
 use Rattle.am_alerts.specs.AlertData.{AlertData}
 use Rattle.am_alerts.specs.declared.labels.Label.{Label}
@@ -12,11 +12,15 @@ use Rattle.am_mute.specs.Silence.{SilenceData, is_silenced, silence_mutes}
 abbrev pub is_muted : List Label → ℕ → List SilenceData → List RuleData → List AlertData → Bool
 is_muted labels t silences rules known = is_silenced labels t silences || is_inhibited labels t rules known
 
+-- whether a rule is why a label set is muted at t: one of these rules mutes it, and none of the silences does
+abbrev pub is_inhibited_alone : List Label → ℕ → List SilenceData → List RuleData → List AlertData → Bool
+is_inhibited_alone labels t silences rules known = not (is_silenced labels t silences) && is_inhibited labels t rules known
+
 -- the first of these silences that mutes a label set at t
 abbrev pub silence_for : List Label → ℕ → List SilenceData → Option SilenceData
 silence_for labels t silences = find (λ s. silence_mutes s t labels) silences
 
--- the first of these rules, numbered from n on, that mutes a label set at t, with the first known alert on account of which it does
+-- the first of these rules, numbered from n on, that mutes a label set at t, with the first known alert because of which it does
 abbrev pub inhibition_from : ℕ → List Label → ℕ → List AlertData → List RuleData → Option MuteCause
 inhibition_from n labels t known [] = None
 inhibition_from n labels t known (r ∷ rules) =

@@ -15,11 +15,11 @@ pub record SilenceData : Type 0 where
   pub start : ℕ
   pub end : ℕ
 
--- an id, matchers and times as a silence
+-- the silence of an id, matchers and times
 abbrev pub silence_of : ℕ → List MatcherParts → ℕ → ℕ → SilenceData
 silence_of id matchers start end = record { id = id; matchers = matchers; start = start; end = end }
 
--- why matchers and times are no silence
+-- why matchers and times make no silence
 abbrev pub silence_fault : SilenceData → Option SilenceFault
 silence_fault s =
     if length s.matchers == 0 then Some NoMatchers
@@ -31,7 +31,7 @@ silence_fault s =
 abbrev pub is_active : SilenceData → ℕ → Bool
 is_active s t = nat_le s.start t && nat_lt t s.end
 
--- whether a silence is over at t: its end has come, so that it mutes nothing any more
+-- whether a silence is over at t: its end has come, so it mutes nothing any more
 abbrev pub is_over : ℕ → SilenceData → Bool
 is_over t s = nat_le s.end t
 

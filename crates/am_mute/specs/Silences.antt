@@ -2,7 +2,7 @@
 use Rattle.std.specs.Prelude.{ℕ, List}
 use Rattle.am_mute.specs.Silence.{SilenceData}
 
--- silences, with room for so many more
+-- silences, with capacity for so many more
 pub record SilenceList : Type 0 where
   pub items : List SilenceData
   pub room : ℕ

@@ -1,4 +1,4 @@
--- Known alerts that may be sources, found by their values under the names of `equal`.
+-- Known alerts that can be sources, found by their values under the names of `equal`.
 use Rattle.std.specs.Prelude.{◌≡◌, ◌<◌, ◌≤◌, ℕ, Bool, true, not, ◌&&◌, List, length, slice_index_or, IsTrue}
 use Rattle.std.specs.List.{list_any}
 use Rattle.std.specs.Ordering.{is_eq, ordering_then, nat_cmp}

@@ -6,10 +6,10 @@
 //! that agree up to the first that isn't resolved. With `Silences` (`muted_under`,
 //! `mute_cause_under`) the first part is one look-up a label and the silences that it finds. What
 //! searches for a rule's patterns is made once for each label set.
-ghost use Rattle.std.specs.Prelude.{◌≡◌, IfOk, IsOk, IsTrue, is_some, option_copied};
+ghost use Rattle.std.specs.Prelude.{◌≡◌, false, IfOk, IsOk, IsTrue, is_some, option_copied};
 ghost use Rattle.am_mute.specs.Inhibit.{is_inhibited};
 ghost use Rattle.am_mute.specs.Silence.{is_silenced};
-ghost use Rattle.am_mute.specs.Mute.{inhibition_from, is_muted, mute_cause_of, silence_for};
+ghost use Rattle.am_mute.specs.Mute.{inhibition_from, is_inhibited_alone, is_muted, mute_cause_of, silence_for};
 ghost use Rattle.am_mute.specs.Sources.{AreLearnt};
 ghost use Rattle.am_mute.specs.Matching.{rules_compare_texts, silences_compare_texts};
 
@@ -27,13 +27,13 @@ use std::alloc::{AllocError, Global};
 pub enum MuteCause {
     /// By the silence of this id, which mutes until its end, in milliseconds.
     Silenced { id: u64, until: u64 },
-    /// By the rule at this index of the list, on account of a known alert of this label set.
+    /// By the rule at this index of the list, because of a known alert of this label set.
     Inhibited { rule: usize, by: Labels },
 }
 
 /// Whether a label set is muted at `t` (milliseconds), where these are the known alerts: by a
 /// silence that has started and hasn't ended and whose matchers all match it, or by a rule whose
-/// target matchers match it, on account of a known alert that isn't resolved at `t`, that the
+/// target matchers match it, because of a known alert that isn't resolved at `t`, that the
 /// source matchers match and that agrees with it in the labels of `equal`; a label that neither
 /// has agrees. If the source matchers match the label set too, a known alert that both sides
 /// match doesn't count.
@@ -57,7 +57,7 @@ pub fn muted(
     muted_with(alloc, labels, t, silences, rules, known, &sources)
 }
 
-/// The same, with what was learnt of these rules and of the known alerts, so that those that weren't
+/// The same, with what was learnt of these rules and of the known alerts, so those that weren't
 /// learnt alone are looked at in turn.
 pub fn muted_with(
     alloc: Global,
@@ -104,7 +104,10 @@ pub fn muted_under(
 
 /// Why a label set is muted at `t` (milliseconds), if `muted` says that it is, where these are the
 /// known alerts: the first silence that mutes it; else the first rule that does, with the first
-/// known alert on account of which it does.
+/// known alert because of which it does.
+///
+/// Matchers that compare texts take no memory, and neither does a silence as the cause. A rule as the
+/// cause shares the label set of its known alert, which is refused where the count of owners is full.
 pub fn mute_cause(
     alloc: Global,
     labels: &Labels,
@@ -117,12 +120,14 @@ pub fn mute_cause(
         cause ≡ mute_cause_of labels.now t silences.now rules.now known.now) }
     ensures muted { IfOk result (λ cause.
         is_some cause ≡ is_muted labels.now t silences.now rules.now known.now) }
+    ensures answers { IsTrue (silences_compare_texts silences.now) → IsTrue (rules_compare_texts rules.now) →
+        is_inhibited_alone labels.now t silences.now rules.now known.now ≡ false → IsOk result }
 {
     let sources = Sources::new(alloc, Seed::fixed());
     mute_cause_with(alloc, labels, t, silences, rules, known, &sources)
 }
 
-/// The same, with what was learnt of these rules and of the known alerts, so that those that weren't
+/// The same, with what was learnt of these rules and of the known alerts, so those that weren't
 /// learnt alone are looked at in turn.
 pub fn mute_cause_with(
     alloc: Global,
@@ -138,6 +143,8 @@ pub fn mute_cause_with(
         cause ≡ mute_cause_of labels.now t silences.now rules.now known.now) }
     ensures muted { IfOk result (λ cause.
         is_some cause ≡ is_muted labels.now t silences.now rules.now known.now) }
+    ensures answers { IsTrue (silences_compare_texts silences.now) → IsTrue (rules_compare_texts rules.now) →
+        is_inhibited_alone labels.now t silences.now rules.now known.now ≡ false → IsOk result }
 {
     match silence_for(alloc, labels, t, silences)? {
         None => inhibition(alloc, labels, t, rules, known, sources),
@@ -163,6 +170,8 @@ pub fn mute_cause_under(
         cause ≡ mute_cause_of labels.now t silences.now.items rules.now known.now) }
     ensures muted { IfOk result (λ cause.
         is_some cause ≡ is_muted labels.now t silences.now.items rules.now known.now) }
+    ensures answers { IsTrue (silences_compare_texts silences.now.items) → IsTrue (rules_compare_texts rules.now) →
+        is_inhibited_alone labels.now t silences.now.items rules.now known.now ≡ false → IsOk result }
 {
     match silences.silence_for(alloc, labels, t)? {
         None => inhibition(alloc, labels, t, rules, known, sources),
@@ -192,7 +201,7 @@ fn silence_for<'s>(
     Ok(None)
 }
 
-/// The first rule that mutes a label set at `t`, with the first known alert on account of which it
+/// The first rule that mutes a label set at `t`, with the first known alert because of which it
 /// does.
 fn inhibition(
     alloc: Global,
@@ -205,6 +214,7 @@ fn inhibition(
     requires { AreLearnt rules.now known.now sources.now }
     ensures cause { IfOk result (λ cause. cause ≡ inhibition_from 0 labels.now t known.now rules.now) }
     ensures some { IfOk result (λ cause. is_some cause ≡ is_inhibited labels.now t rules.now known.now) }
+    ensures answers { IsTrue (rules_compare_texts rules.now) → is_inhibited labels.now t rules.now known.now ≡ false → IsOk result }
 {
     for rule in 0..rules.len() {
         let source = sources.source_for(alloc, rule, &rules[rule], labels, t, known)?;

@@ -29,7 +29,7 @@ use std::hash::{BuildHasher, Hash, Hasher};
 const NO_LABEL: u64 = 0;
 
 /// The indexes of silences in a list, by what they are found by: the hash of a label that each label
-/// set has which they mute. An index may be under what its silence was found by before.
+/// set has which they mute. An index can be under what its silence was found by before.
 ///
 /// This only saves time: silences whose indexes aren't here are looked at in turn.
 #[derive(Debug, Drop)]
@@ -74,7 +74,7 @@ impl SilenceIndex {
         }
     }
 
-    /// A silence is to be at this index, where another is.
+    /// Prepares for a silence that replaces the one at this index.
     pub(crate) fn change(&mut self, alloc: Global, index: usize, silence: &Silence)
         ensures { (silences : List SilenceData) → index < length silences → IsIndexed silences self.old
             → IsIndexed (set silences index silence.now) self.new }
@@ -154,7 +154,8 @@ impl SilenceIndex {
         t: u64,
     ) -> Result<usize, AllocError>
         requires { IsIndexed silences.now self.now }
-        ensures { IfOk result (λ first. IsFirst (λ i. ⊤) labels.now t silences.now (length silences.now) first) }
+        ensures first { IfOk result (λ first. IsFirst (λ i. ⊤) labels.now t silences.now (length silences.now) first) }
+        ensures answers { IsTrue (silences_compare_texts silences.now) → IsOk result }
     {
         let mut first = silences.len();
         for i in 0..labels.len() {
@@ -178,7 +179,8 @@ impl SilenceIndex {
         bound: usize,
     ) -> Result<usize, AllocError>
         requires { ArePlaced silences.now self.now }
-        ensures { IfOk result (λ first. IsFirst (HasIndex self.now key) labels.now t silences.now bound first) }
+        ensures first { IfOk result (λ first. IsFirst (HasIndex self.now key) labels.now t silences.now bound first) }
+        ensures answers { IsTrue (silences_compare_texts silences.now) → IsOk result }
     {
         first_at(alloc, self.at(key), silences, labels, t, bound)
     }
@@ -251,7 +253,8 @@ fn first_at(
     bound: usize,
 ) -> Result<usize, AllocError>
     requires { All (λ p. p < length silences.now) indexes.now }
-    ensures { IfOk result (λ first. IsFirst (IsOneOf indexes.now) labels.now t silences.now bound first) }
+    ensures first { IfOk result (λ first. IsFirst (IsOneOf indexes.now) labels.now t silences.now bound first) }
+    ensures answers { IsTrue (silences_compare_texts silences.now) → IsOk result }
 {
     let mut first = bound;
     for index in indexes {
@@ -270,7 +273,8 @@ fn earlier(
     bound: usize,
 ) -> Result<usize, AllocError>
     requires { index < length silences.now }
-    ensures { IfOk result (λ first. IsFirst (λ i. i ≡ index) labels.now t silences.now bound first) }
+    ensures first { IfOk result (λ first. IsFirst (λ i. i ≡ index) labels.now t silences.now bound first) }
+    ensures answers { IsTrue (silences_compare_texts silences.now) → IsOk result }
 {
     if bound <= index {
         return Ok(bound);
@@ -292,7 +296,8 @@ fn first_from(
     bound: usize,
 ) -> Result<usize, AllocError>
     requires { bound ≤ length silences.now }
-    ensures { IfOk result (λ first. IsFirst (λ i. from ≤ i) labels.now t silences.now bound first) }
+    ensures first { IfOk result (λ first. IsFirst (λ i. from ≤ i) labels.now t silences.now bound first) }
+    ensures answers { IsTrue (silences_compare_texts silences.now) → IsOk result }
 {
     for index in from..bound {
         if silences[index].mutes(alloc, labels, t)? {

@@ -18,7 +18,7 @@ use am_seed::Seed;
 use std::alloc::{AllocError, Global};
 use std::marker::Model;
 
-/// A list of silences, with room for more. Those that may mute a label set are found by its labels, so
+/// A list of silences, with capacity. Those that can mute a label set are found by its labels, so
 /// that the others cost nothing.
 #[derive(Debug, Drop)]
 pub struct Silences {
@@ -71,7 +71,7 @@ impl Silences {
         self.silences.iter().position(|silence| id == silence.id())
     }
 
-    /// Makes room for so many more silences.
+    /// Reserves capacity for so many more silences.
     pub fn reserve(&mut self, more: usize) -> Result<(), AllocError>
         ensures items { self.new.items ≡ self.old.items }
         ensures room { OnOk result (more ≤ self.new.room) }
@@ -79,7 +79,7 @@ impl Silences {
         self.silences.reserve(more)
     }
 
-    /// Adds a silence behind the others, for which there is room.
+    /// Adds a silence behind the others, for which there is capacity.
     pub fn add(&mut self, alloc: Global, silence: Silence)
         requires room { 0 < self.old.room }
         ensures items { self.new.items ≡ self.old.items ++ silence ∷ [] }
@@ -125,7 +125,8 @@ impl Silences {
         self.index.is_silenced(alloc, self.as_slice(), labels, t)
     }
 
-    /// The first silence that mutes a label set at `t` (milliseconds).
+    /// The first silence that mutes a label set at `t` (milliseconds). Matchers that compare texts take
+    /// no memory.
     pub fn silence_for(
         &self,
         alloc: Global,
@@ -134,6 +135,7 @@ impl Silences {
     ) -> Result<Option<&Silence>, AllocError>
         ensures value { IfOk result (λ found. option_copied found ≡ silence_for labels.now t self.now.items) }
         ensures some { IfOk result (λ found. is_some found ≡ is_silenced labels.now t self.now.items) }
+        ensures answers { IsTrue (silences_compare_texts self.now.items) → IsOk result }
     {
         let silences = self.silences.as_slice();
         let first = self.index.first(alloc, silences, labels, t)?;

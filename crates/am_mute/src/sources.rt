@@ -14,7 +14,7 @@
 //! Matchers and labels don't change with time, so an alert is learned once: u matches for u rules,
 //! and a second match and at most two insertions for each rule whose source matches. A call learns
 //! by one rule after the other, of all alerts that are new to it: so what searches for a rule's
-//! pattern is made once a call, however many these are. Where memory is refused, all of them are
+//! pattern is made once a call, however many these are. Where there is no memory, all of them are
 //! left to a later call, and each target walks them. Keys that were put in before do no harm: a
 //! look-up ends before the indexes that weren't learnt, and the later call puts them in again.
 //! Invariant: each of the first alerts that a rule's source matches has its keys.
@@ -46,7 +46,7 @@ pub struct SourceKey {
     index: usize,
 }
 
-/// The first so many known alerts, as far as they may be sources of rules, found by their values under
+/// The first so many known alerts, as far as they can be sources of rules, found by their values under
 /// the names of `equal`. Matchers and labels don't change with time, so an alert is learnt once.
 ///
 /// This only saves time: alerts that weren't learnt are looked at in turn.
@@ -174,7 +174,7 @@ impl Sources {
         Ok(())
     }
 
-    /// The first of these known alerts on account of which a rule, at this index of the list, mutes a
+    /// The first of these known alerts because of which a rule, at this index of the list, mutes a
     /// label set at `t`.
     pub(crate) fn source_for<'k>(
         &self,

@@ -54,7 +54,7 @@ module _ {G N : Type 0} (eq : G → G → Bool) (log : Slots G N) where
   pub HasDistinctKeys-collected : (t : ℕ) → HasDistinctKeys eq log → HasDistinctKeys eq (collected t log)
   HasDistinctKeys-collected t h = subst (IsDistinct (key_eq eq)) (sym (keys-collected t)) h
 
-  -- each key has what it had, but for what is expired
+  -- each key has what it had, except for what is expired
   pub row_of-collected : (t : ℕ) (q : LogKey G) → row_of eq (collected t log) q ≡ kept t (row_of eq log q)
   row_of-collected t q = ap option_flatten (lookup-map_values (kept t) (key_eq eq q) log) ∙ flatten_kept (lookup (key_eq eq q) log)
     where

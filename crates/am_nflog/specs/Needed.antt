@@ -61,7 +61,7 @@ module _ {M N : Type 0} (same : M → M → Bool) (equal : N → N → Bool) whe
   abbrev pub AreNumbersOf : (M → N) → List M → List N → Type 0
   AreNumbersOf number xs ys = AreSameSet equal ys (map number xs)
 
-  -- no row for none, and else a row of the same time with the numbers of the members
+  -- no row if there is none; else a row of the same time with the numbers of the members
   abbrev pub IsNumberedRow : (M → N) → Option (LogRow M) → Option (LogRow N) → Type 0
   IsNumberedRow number None None = Unit {0}
   IsNumberedRow number None (Some numbered) = ⊥

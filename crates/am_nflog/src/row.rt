@@ -2,7 +2,7 @@
 
 use crate::members::Members;
 
-/// What an integration was last notified of a group, and when. Each success puts such a row in place of the one before.
+/// What an integration was last notified of in a group, and when. Each success replaces the row of the one before.
 #[derive(Debug, Drop)]
 pub struct LogRow<N: Ord> {
     /// When the notice succeeded, in milliseconds.

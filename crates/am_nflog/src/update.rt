@@ -142,7 +142,7 @@ pub fn is_subset<N: Ord, F: Lends<N>>(some: &[F], all: &[N]) -> bool
 }
 
 /// Needing an update is a matter of which alerts are the same: under a one-to-one numbering of the alerts it comes out at the
-/// numbers as it does at the alerts. So a log may be kept with numbers for its alerts. The function does nothing.
+/// numbers as it does at the alerts. So a log can be kept with numbers for its alerts. The function does nothing.
 pub fn numbering_keeps_needed<M: Eq, N: Eq>()
     ensures { NumberingKeepsNeeded M.eq N.eq }
 {}

@@ -168,7 +168,7 @@ fn push_time<C: TimeFormat>(
     Ok(())
 }
 
-/// Adds a text that is centered at a offset.
+/// Adds a text that is centered at an offset.
 fn push_at(offset: u64, bottom: &str, text: &str, out: &mut String) -> Result<(), AllocError> {
     push_offset("<text x=\"", offset, out)?;
     out.push_str("\" y=\"")?;

@@ -31,7 +31,7 @@ pub(crate) struct Lanes {
     by_alert: HashMap<Labels, Vec<RowRef>, Seed>,
 }
 
-/// The index of an alert: a lane, and its row there, if it has one of its own.
+/// Where an alert is drawn: a lane, and its row there, if it has one of its own.
 #[derive(Clone, Copy)]
 struct RowRef {
     lane: usize,
@@ -110,7 +110,7 @@ impl Lanes {
         }
     }
 
-    /// Gives an alert an index in the lane of each of its groups.
+    /// Gives an alert a row in the lane of each of its groups.
     fn locate(&mut self, config: &Config, labels: &Labels) -> Result<(), AllocError> {
         let row_refs = self.rows_for(config, labels)?;
         let labels = labels.copy(self.alloc)?;

@@ -114,7 +114,7 @@ fn push_line<C: TimeFormat>(
     push_hint(line.as_str(), out)
 }
 
-/// Adds the shape of a mark around a offset, without its end.
+/// Adds the shape of a mark around an offset, without its end.
 pub(crate) fn push_shape(
     kind: Kind,
     class: &str,

@@ -23,7 +23,7 @@ use std::alloc::{AllocError, Global};
 /// `failed` for each notice that was given up, besides one in the legend. Below the lanes are the
 /// table of receivers and the alerts that no delivered notice has.
 ///
-/// Of a group, 12 alerts have a row of their own. Spans that end on one index, and flushes that are
+/// Of a group, 12 alerts have a row of their own. Spans that end at one offset, and flushes that are
 /// less than 3 pixels apart, are drawn as one; a text over a mark has 700 characters at most. Cost:
 /// that of the timeline for each event, once or twice.
 pub fn page<C: TimeFormat>(

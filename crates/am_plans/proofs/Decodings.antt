@@ -20,7 +20,7 @@ found_if {X} reading (Some value) x is = by (reading value) is refl
     by None made read = absurd (cc)
     by (Some n) made read = let same : Some n ≡ x = cc in subst (λ y. IsSomeAnd y (λ m. reading value ≡ Some m)) same read
 
--- a member that may be missing, and isn't
+-- a member that can be missing, and isn't
 pub found_some : {X : Type 0} (decodes_to : Data → X → Type 0) (found : Option Data) (o : Option X) (x : X) → o ≡ Some x
     → MatchOption found (o ≡ None) (λ value. IsSomeAnd o (decodes_to value)) → MatchOption found ⊥ (λ value. decodes_to value x)
 found_some decodes_to None o x is none = absurd (cc)
@@ -105,7 +105,7 @@ pub one_flag : (found : Option Data) (decoded read : Bool) → MatchOption found
 one_flag None decoded read is also = cc
 one_flag (Some value) decoded read is also = cc
 
--- want of memory denies nothing
+-- lack of memory denies nothing
 pub starved_of : {T : Type 0} (P : Type 0) (result : Result T InputFault) → IsErrAnd result (λ f. f ≡ NoMemory) → IfErr result (λ f. IsTrue (is_refusal f) → P)
 starved_of P (Ok x) is = absurd is
 starved_of P (Err f) is = λ refusal. absurd (cc (ap is_refusal is))
@@ -157,7 +157,7 @@ is_there P (Some a) decoded = refl
 pub if_there : {X : Type 0} (reading : Data → Option X) (value : Data) (found : Option Data) → Some value ≡ found → None ≡ reading value → member_if reading found ≡ None
 if_there reading value found is none = sym (ap (member_if reading) is) ∙ sym (ap (option_map Some) none)
 
--- want of memory alone
+-- lack of memory alone
 pub starved_by : {T : Type 0} (P : Type 0) (result : Result T InputFault) → IfErr result (λ f. f ≡ NoMemory) → IfErr result (λ f. IsTrue (is_refusal f) → P)
 starved_by P (Ok x) is = tt
 starved_by P (Err f) is = λ refusal. absurd (cc (ap is_refusal is))

@@ -1,4 +1,4 @@
--- Spans of expectations: what is given beside `within`, and the matchers of `of`.
+-- Spans of expectations: what is given with `within`, and the matchers of `of`.
 use Rattle.std.proofs.Common.{◌≡◌, ◌≤◌, ◌+◌, ◌^◌, ℕ, List, Option, Some, None, MatchOption, codes, arith}
 use Rattle.std.specs.Prelude.{IsSomeAnd}
 use Rattle.serde_json.specs.Data.{Data, Members}

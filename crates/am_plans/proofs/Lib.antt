@@ -10,7 +10,7 @@ pub mod Spans
 pub mod LabelSets
 -- the members of an expectation say one target and one content at most
 pub mod Contents
--- what is given of alerts and silences may be planned
+-- what is given of alerts and silences can be planned
 pub mod Makes
 -- spans of expectations
 pub mod ExpectedSpans

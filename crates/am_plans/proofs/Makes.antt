@@ -1,4 +1,4 @@
--- What is given of alerts and silences may be planned.
+-- What is given of alerts and silences can be planned.
 use Rattle.std.proofs.Common.{◌≡◌, ◌∙◌, ◌<◌, ◌≤◌, ◌&&◌, ◌==◌, ◌||◌, ℕ, Bool, true, false, List, [], ◌∷◌, Option, Some, None, Ok, Err, MatchOption, codes, get_or, is_none, length, refl, sym, ap, subst, arith, if◌then◌else◌}
 use Rattle.std.specs.List.{list_all}
 use Rattle.std.specs.Option.{option_and_then}
@@ -141,7 +141,7 @@ spans_inserted ls some mode ms None spans decoded =
 spans_inserted ls some mode ms (Some value) spans decoded =
     all_decoded (IsSpan mode) (may_insert_in ls) (λ v span is. span_of_inserted ls some mode v span is) (as_array value) spans decoded.0
 
--- what is given of an alert may be inserted
+-- what is given of an alert can be inserted
 pub alert_inserted : (mode : Mode) (value : Data) (alert : AlertItem) → DecodesToAlert mode value alert → may_insert_all alert ≡ true
 alert_inserted mode value alert decoded = by (as_object value) decoded
   where
@@ -174,7 +174,7 @@ silence_may mode members s decoded =
     no_silence_fault (length s.matchers.items == 0) (nat_lt MAX_MATCHERS (length s.matchers.items)) (nat_lt s.to s.from) (nat_lt MAX_TIME s.from)
     (nat_lt MAX_TIME s.to) some listed ordered early ended
 
--- what is given of a silence may be set
+-- what is given of a silence can be set
 pub silence_set : (mode : Mode) (value : Data) (s : SilenceItem) → DecodesToSilence mode value s → may_set s ≡ true
 silence_set mode value s decoded = by (as_object value) decoded
   where

@@ -1,4 +1,4 @@
--- Configs: the configurations under which a story is played.
+-- Configs: the configurations under which a story runs.
 use Rattle.std.specs.Prelude.{List, ◌∷◌, map}
 use Rattle.am_model.specs.declared.config.Config.{Config}
 use Rattle.am_plans.specs.declared.configs.Configs.{Configs}

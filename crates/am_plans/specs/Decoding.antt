@@ -1,4 +1,4 @@
--- What the JSON values of a story's alerts, silences and outages say, a line for each member.
+-- What the JSON values of a story's alerts, silences and outages decode to, a line for each field.
 use Rattle.std.specs.Prelude.{◌≡◌, ◌<◌, ◌≤◌, ◌&&◌, ℕ, Bool, true, false, List, [], ◌∷◌, Option, Some}
 use Rattle.std.specs.Prelude.{codes, find, length, nat_le, nat_lt, IfSome, IsTrue, MatchOption}
 use Rattle.std.specs.List.{list_all, list_any}
@@ -21,22 +21,22 @@ use Rattle.am_plans.specs.declared.span.Span.{Span}
 use Rattle.am_terms.specs.declared.rehearsal.Outage.{Outage}
 use Rattle.am_retry.specs.declared.outcome.Answer.TheVariants.{Again}
 
--- a refusal denies this; want of memory says nothing of it
+-- a rejection denies this; `NoMemory` says nothing about it
 abbrev pub Denies : Bool → InputFault → Type 0
 Denies so fault = IsTrue (is_refusal fault) → so ≡ false
 
--- a span that these members say: from the start of the story where they don't say, and to a later time, or without an end
+-- these fields decode to a span: from the start of the story by default, and to a later time, or without an end
 pub record DecodesToSpan (members : Members) (span : Span) : Type 0 where
   pub from : HasOr IsDuration 0 (codes "from") members span.from
   pub to : HasIf IsDuration (codes "to") members span.to
   pub later : IfSome span.to (λ to. span.from < to)
 
--- what the members of a span in a list say
+-- the fields of an item of `spans` decode to a span
 pub record HasSpan (mode : Mode) (members : Members) (span : Span) : Type 0 where
   pub only : IsTrue (has_only mode (codes "from" ∷ codes "to" ∷ []) members)
   pub decoded : DecodesToSpan members span
 
--- an object that says a span
+-- an object that decodes to a span
 abbrev pub IsSpan : Mode → Data → Span → Type 0
 IsSpan mode value span = IsObject (HasSpan mode) value span
 
@@ -45,14 +45,14 @@ abbrev pub follow : Option ℕ → List Span → Bool
 follow ended [] = true
 follow ended (span ∷ spans) = option_map_or (λ end. nat_le end span.from) ended false && follow span.to spans
 
--- the spans of an alert: those of its list, beside which it says none, and which follow each other, or else the one that it says
+-- the spans of an alert: those of its list, which follow each other and exclude `from` and `to`; or else the one that it has itself
 abbrev pub AreSpansIn : Mode → Members → List Span → Type 0
 AreSpansIn mode members spans = MatchOption (get_member (codes "spans") members)
     ((span : Span) × DecodesToSpan members span × (spans ≡ span ∷ []))
     (λ value. IsList (IsSpan mode) value spans × HasNone (codes "from") members × HasNone (codes "to") members
     × IsTrue (follow (Some 0) spans))
 
--- what the members of an alert say
+-- the fields of an object decode to an alert
 pub record HasAlert (mode : Mode) (members : Members) (alert : AlertItem) : Type 0 where
   pub only : IsTrue (has_only mode (codes "labels" ∷ codes "from" ∷ codes "to" ∷ codes "spans" ∷ []) members)
   pub labels : Has (DecodesToLabels mode) (codes "labels") members alert.labels
@@ -61,7 +61,7 @@ pub record HasAlert (mode : Mode) (members : Members) (alert : AlertItem) : Type
 abbrev pub DecodesToAlert : Mode → Data → AlertItem → Type 0
 DecodesToAlert mode value alert = IsObject (HasAlert mode) value alert
 
--- what the members of a silence say: it is set where its span begins, unless it says another time
+-- the fields of an object decode to a silence, which is set when its span begins, unless `set` has another time
 pub record HasSilence (mode : Mode) (members : Members) (silence : SilenceItem) : Type 0 where
   pub only : IsTrue (has_only mode (codes "matchers" ∷ codes "from" ∷ codes "to" ∷ codes "set" ∷ []) members)
   pub matchers : Has (IsList (DecodesToMatcher mode)) (codes "matchers") members silence.matchers.items
@@ -80,7 +80,7 @@ abbrev pub outage_names : List (List ℕ)
 outage_names =
     codes "receiver" ∷ codes "integration" ∷ codes "from" ∷ codes "to" ∷ codes "answer" ∷ codes "takes" ∷ []
 
--- what the members of an outage say
+-- the fields of an object decode to an outage
 pub record HasOutage (mode : Mode) (members : Members) (outage : Outage) : Type 0 where
   pub only : IsTrue (has_only mode outage_names members)
   pub receiver : Has IsText (codes "receiver") members outage.receiver

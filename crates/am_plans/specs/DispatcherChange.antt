@@ -46,7 +46,7 @@ carryover_in value = option_and_then carryover_named (as_str value)
 abbrev pub IsCarryover : Data → Carryover → Type 0
 IsCarryover value carryover = carryover_in value ≡ Some carryover
 
--- what the members of a reload say, besides its configuration. Its time isn't the start
+-- the fields of an object decode to a reload, without its configuration. Its time isn't the start
 pub record HasReload (mode : Mode) (members : Members) (item : ItemData) : Type 0 where
   pub only : IsTrue (has_only mode (codes "at" ∷ codes "config" ∷ codes "alertmanager" ∷ []) members)
   pub at : Has IsInterval (codes "at") members item.at
@@ -55,7 +55,7 @@ pub record HasReload (mode : Mode) (members : Members) (item : ItemData) : Type 
 abbrev pub DecodesToReload : Mode → Data → ItemData → Type 0
 DecodesToReload mode value item = IsObject (HasReload mode) value item × (item.reload ≡ Some value)
 
--- what the members of a restart say. Its time isn't the start
+-- the fields of an object decode to a restart. Its time isn't the start
 pub record HasRestart (mode : Mode) (members : Members) (item : ItemData) : Type 0 where
   pub only : IsTrue (has_only mode (codes "at" ∷ codes "keeps" ∷ []) members)
   pub at : Has IsInterval (codes "at") members item.at
@@ -64,7 +64,7 @@ pub record HasRestart (mode : Mode) (members : Members) (item : ItemData) : Type
 abbrev pub DecodesToRestart : Mode → Data → ItemData → Type 0
 DecodesToRestart mode value item = IsObject (HasRestart mode) value item × (item.reload ≡ None)
 
--- what an item of one of the two lists says
+-- an item of one of the two lists decodes to this
 abbrev pub DecodesTo : Kind → Mode → Data → ItemData → Type 0
 DecodesTo kind.Reload mode value item = DecodesToReload mode value item
 DecodesTo kind.Restart mode value item = DecodesToRestart mode value item
@@ -74,12 +74,12 @@ abbrev pub name_of : Kind → List ℕ
 name_of kind.Reload = codes "reload"
 name_of kind.Restart = codes "restart"
 
--- an array says a list, and another value says one thing
+-- an array decodes to a list, and any other value to a list of one item
 abbrev pub IsListOrOne : {X : Type 0} → (Data → X → Type 0) → Data → List X → Type 0
 IsListOrOne {X = X} decodes value xs =
     MatchOption (as_array value) ((x : X) × decodes value x × (xs ≡ x ∷ [])) (λ items. DecodeEach decodes items xs)
 
--- whether a reload or restart may be at a time, beside those that are listed before it: they are fewer than a story may have, the time
+-- whether a reload or restart can be at a time, after those that are listed before it: they are fewer than a story can have, the time
 -- isn't after the end, and none of them is at the time
 abbrev pub may_follow : ℕ → List ItemData → ℕ → Bool
 may_follow until before at =
@@ -95,7 +95,7 @@ may_all_follow until before (item ∷ items) =
 abbrev pub at_cmp : ItemData → ItemData → Ordering
 at_cmp a b = nat_cmp a.at b.at
 
--- the reloads and restarts that the members of a story say, in the order of their times; the story ends at `until`
+-- the fields of a story decode to these reloads and restarts, in the order of their times; the story ends at `until`
 pub record AreItemsIn (mode : Mode) (until : ℕ) (members : Members) (items : List ItemData) : Type 0 where
   pub reloads : List ItemData
   pub restarts : List ItemData

@@ -96,7 +96,7 @@ pub record IsSpanWithin (mode : Mode) (latest : ℕ) (plans : List TimedAction) 
   pub first : first_insert latest resolves matchers plans ≡ Some from
   pub last : IsSomeAnd (duration_in within) (IsEndOf from to)
 
--- the one time that `at` says, beside which neither `from` nor `to` is said
+-- the one time that `at` says, which excludes `from` and `to`
 pub record IsAt (members : Members) (at : Data) (from to : ℕ) : Type 0 where
   pub time : duration_in at ≡ Some from
   pub one : to ≡ from
@@ -119,7 +119,7 @@ abbrev pub IsOwnSpan : ℕ → ℕ → Members → ℕ → ℕ → Type 0
 IsOwnSpan until last members from to =
     HasNone (codes "of") members × HasNone (codes "when") members × IsSpanFrom until last members from to
 
--- the span of an expectation; beside `within` none of its times is said
+-- the span of an expectation; `within` excludes its times
 abbrev pub IsSpanIn : Mode → ℕ → ℕ → List TimedAction → Members → ℕ → ℕ → Type 0
 IsSpanIn mode until last plans members from to =
     MatchOption (get_member (codes "within") members) (IsOwnSpan until last members from to)
@@ -192,7 +192,7 @@ AreResolvedIn mode members sets =
 abbrev pub reason_in : Data → Option SentReason
 reason_in value = option_and_then reason_named (as_str value)
 
--- beside `exactly` neither `firing` nor `resolved` is said
+-- `exactly` excludes `firing` and `resolved`
 abbrev pub SaysExactly : Members → Type 0
 SaysExactly members = MatchOption (get_member (codes "exactly") members) ⊤
     (λ _. HasNone (codes "firing") members × HasNone (codes "resolved") members)

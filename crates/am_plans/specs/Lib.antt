@@ -1,8 +1,8 @@
 -- what the members of an expectation say
 pub mod Expected
--- what the JSON values of a story's alerts, silences and outages say
+-- what the JSON values of a story's alerts, silences and outages decode to
 pub mod Decoding
--- the configurations under which a story is played
+-- the configurations under which a story runs
 pub mod Configs
 -- when a story reloads and restarts the dispatcher
 pub mod DispatcherChange

@@ -1,4 +1,4 @@
-//! The configurations under which a story is played. Outages and expectations are checked by them.
+//! The configurations under which a story runs. Outages and expectations are checked by them.
 ghost use Rattle.std.specs.Prelude.{◌≡◌, is_some};
 ghost use Rattle.std.specs.List.{list_any};
 ghost use Rattle.am_plans.specs.Configs.{configs_in};

@@ -22,7 +22,7 @@ use serde_json::Value;
 /// How many reloads and restarts a story may have, both together.
 pub const MAX_DISPATCHER_CHANGES: usize = 8;
 
-/// A reload or a restart that a story says.
+/// A reload or a restart of a story.
 #[derive(Drop)]
 pub struct DispatcherChangeItem<'v> {
     /// When, in milliseconds from the start of the story.
@@ -131,7 +131,7 @@ fn add_all<'v>(
     add_value(&top.member(name, value), value, kind, until, items)
 }
 
-/// Adds the items of an array, or else the one that a value says.
+/// Adds the items of an array, or else the one item that a value is.
 fn add_value<'v>(
     member: &Reader<'v, '_>,
     value: &'v Value,

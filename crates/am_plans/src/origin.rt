@@ -13,7 +13,7 @@ pub enum Origin {
 }
 
 impl Origin {
-    /// A limit leaves no room for the plan.
+    /// A limit leaves no capacity for the plan.
     pub fn refuse_full(&self, alloc: Global) -> InputFault
         ensures { IsRefusedBy FaultKind.Full result }
     {

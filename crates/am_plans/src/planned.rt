@@ -176,7 +176,7 @@ fn add_silences(
     Ok(())
 }
 
-/// Adds a silence. Its id is its pointer in the input, from 1.
+/// Adds a silence. Its id is its position in the input, from 1.
 fn add_silence(
     alloc: Global,
     item: usize,

@@ -42,7 +42,7 @@ kept rs (run ∷ runs) k none =
     let n = not_there k run.0 (numbers_of runs) none in
     kept (set rs run.0 run.1) runs k n.1 ∙ get_set_other rs run.0 k run.1 n.0
 
--- the report beside each number is in its place, where no number is twice
+-- the report next to each number is in its place, where no number is twice
 pub placed_once : (rs : List Report) (runs : List Run) (all : List Report) → all ≡ placed rs runs
     → ((k : ℕ) → times k (numbers_of runs) ≤ 1) → AllByRecursion (λ (run : Run). run.0 < length rs) runs
     → AllByRecursion (λ (run : Run). slice_get all run.0 ≡ Some run.1) runs

@@ -79,7 +79,7 @@ pool_cause workers jobs =
     if (workers == 0) || nat_lt MAX_WORKERS workers then Some BadWorkers
     else (if nat_lt MAX_JOBS jobs then Some TooManyJobs else None)
 
--- the cause, or want of memory where there is none
+-- the cause, or lack of memory where there is none
 abbrev pub IsPoolFault : Option PoolFault → PoolFault → Type 0
 IsPoolFault None fault = fault ≡ NoMemory
 IsPoolFault (Some cause) fault = fault ≡ cause

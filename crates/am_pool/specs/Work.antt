@@ -11,7 +11,7 @@ use Rattle.am_pool.specs.Dealt.{hand, IsAll}
 use Rattle.am_pool.specs.declared.worker.Job.{Job}
 use Rattle.am_pool.specs.declared.worker.Worker.{Worker}
 
--- a job that may be sent: it has something to send, and starts at a time
+-- a job that can be sent: it has something to send, and starts at a time
 abbrev pub IsReady : Job → Type 0
 IsReady j = (is_nothing j.notice.now ≡ false) × (j.start ≤ MAX_TIME)
 
@@ -53,12 +53,12 @@ pub record DidWork (jobs : List Job) (old new : Worker) (tries : List Tried) (re
   pub ran : RanAll jobs runs tries refusals tries_since refusals_since
   pub all : IsAll (view new.pass)
 
--- a worker has room for the report of each number that it may yet take
+-- a worker has capacity for the report of each number that it may yet take
 abbrev pub HasRoom : Worker → Type 0
 HasRoom w = (vec_len w.done ≤ length (view w.pass).taken) × ((view w.pass).put ≤ vec_capacity w.done)
 
 -- a worker may begin: its pass is of the queue with this table, has a part, and knows of so many jobs at most;
--- there is room for their reports
+-- there is capacity for their reports
 pub record MayWork (queue : TableId) (jobs : ℕ) (w : Worker) : Type 0 where
   pub pass : (w.pass.table_id ≡ queue) × (w.pass.me.1 ≡ [])
   pub parts : 0 < (view w.pass).parts

@@ -118,12 +118,12 @@ answered (Some TooManyOpen) returned answer =
     elim answer [ inl other ↦ inr (ap (λ (f : Fault). Some f) (sym other)) | inr memory ↦ inl memory ]
 answered (Some HistoryFull) returned answer = inr (ap (λ (f : Fault). Some f) (sym answer))
 
--- where as many flushes are open as may be, that is the cause
+-- where the limit of open flushes is reached, that is the cause
 pub open_cause : (cause : Option Fault) (returned : Fault) → returned ≡ TooManyOpen → (returned ≡ NoMemory) ⊎ (cause ≡ Some returned) → cause ≡ Some TooManyOpen
 open_cause cause returned is why =
     elim why [ inl memory ↦ absurd (cc (is, memory)) | inr because ↦ because ∙ ap (λ (f : Fault). Some f) is ]
 
--- a note is refused for its cause, but for want of memory
+-- a note is refused for its cause, except for lack of memory
 pub note_caused : (cause : Option NoteFault) (returned : NoteFault) → (returned ≡ note.NoMemory → ⊥) → IsNoteAnswer cause returned → cause ≡ Some returned
 note_caused None returned other answer = absurd (other answer)
 note_caused (Some why) returned other answer = ap (λ (f : NoteFault). Some f) (sym answer)

@@ -61,7 +61,7 @@ to_come s = length s.ends + 1
 abbrev pub in_flight : List SendingData → ℕ
 in_flight ss = sum_by to_come ss
 
--- a record that is left may be of a begin that opens a flush of eight notices; a finish lets begins come again
+-- a record that is left can be of a begin that opens a flush of eight notices; a finish lets begins come again
 abbrev pub weigh : ℕ → ℕ → ℕ → ℕ → ℕ → ℕ
 weigh limit records flight comes goes = 20 * (limit - records) + 2 * flight + comes + goes
 
@@ -113,7 +113,7 @@ planned_adds b at (Silence silence) taken =
     called_adds b (call_of_silence at silence) (reply.Silenced (silenced (state_at b) (silence_of silence.id silence.matchers silence.start silence.end))) refl
 planned_adds b at (Load row) taken = called_adds b (call.Load at row) (load_reply b at row) (load_taken b at row taken)
 
--- a history that isn't full has room
+-- a history that isn't full has capacity
 room_of : (config : Config) (records : ℕ) (s : State) (more : ℕ) → 0 < more → is_full config records s more ≡ false → records < config.limits.history
 room_of config records s more some free = grind (arith, nat_tests, some, free)
 

@@ -49,6 +49,6 @@ module _ (b : BoardData) (at : ℕ) (row : RowView) where
     pub load_taken : reply_to b.config b.id (state_at b) (call.Load at row) ≡ Some load_reply
     load_taken = ap (λ (may : Bool). if may then Some load_reply else None) (load-allowed b.config when row both.0)
 
-    -- and the history has room for it
+    -- and the history has capacity for it
     pub load_unfull : is_full b.config (records_at b) (state_at b) 1 ≡ false
     load_unfull = unless_full (is_full b.config (records_at b) (state_at b) 1) load.HistoryFull both.1

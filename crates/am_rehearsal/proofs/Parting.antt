@@ -50,7 +50,7 @@ module _ (maintain : ℕ) (outages : List Outage) where
   played_more before (x ∷ xs) [] p q are plays = absurd are
   played_more before (x ∷ xs) (y ∷ ys) p q are plays = (are.0, played_more (Some y.played.value.board) xs ys p q are.1 plays)
 
-  -- as many parts are played as there are
+  -- as many parts run as there are
   pub as_many : (before : Option BoardData) (parts : List PartData) (played : List PlayedPart) → ArePlayed maintain outages before parts played
       → length parts ≡ length played
   as_many before [] [] are = refl

@@ -7,7 +7,7 @@ use Rattle.am_model.specs.declared.fault.LoadFault.TheVariants as load
 use Rattle.am_rehearsal.specs.declared.acting.ActFault.{ActFault}
 use Rattle.am_rehearsal.specs.declared.acting.ActFault.TheVariants.{NoMemory, Refused}
 
--- memory was refused, or a limit is reached
+-- there was no memory, or a limit is reached
 abbrev pub act_fault_of_call : Fault → ActFault
 act_fault_of_call call.NoMemory = NoMemory
 act_fault_of_call call.TooManyAlerts = Refused
@@ -16,7 +16,7 @@ act_fault_of_call call.TooManySilences = Refused
 act_fault_of_call call.TooManyOpen = Refused
 act_fault_of_call call.HistoryFull = Refused
 
--- memory was refused, or the row doesn't fit, or a limit is reached
+-- there was no memory, or the row doesn't fit, or a limit is reached
 abbrev pub act_fault_of_load : LoadFault → ActFault
 act_fault_of_load load.NoMemory = NoMemory
 act_fault_of_load load.HistoryFull = Refused

@@ -32,7 +32,7 @@ abbrev pub sent_by : ℕ → Option Outage → Sent
 sent_by at None = record { answer = Done; ended = at }
 sent_by at (Some o) = record { answer = o.answer; ended = later at o.takes }
 
--- how an attempt at a time goes, where the dispatcher may be stopped: one that would end after the cut ends there, and isn't made again
+-- how an attempt at a time goes, where the dispatcher can be stopped: one that would end after the cut ends there, and isn't made again
 -- (Alertmanager's Dispatcher.Stop, which cancels what is in flight)
 abbrev pub cut_short : Option ℕ → ℕ → Sent → Sent
 cut_short None at sent = sent

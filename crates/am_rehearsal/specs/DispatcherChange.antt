@@ -1,4 +1,4 @@
--- DispatcherChange: what a new dispatcher of a rehearsal is reported before its own plans.
+-- DispatcherChange: what a new dispatcher of a rehearsal is given before its own plans.
 use Rattle.std.specs.Prelude.{ℕ, ◌+◌, ◌==◌, ◌&&◌, Bool, true, false, not, nat_lt, List, [], ◌∷◌}
 use Rattle.std.specs.Prelude.{◌++◌, map, Option, Some, None, if◌then◌else◌}
 use Rattle.std.specs.List.{list_any}

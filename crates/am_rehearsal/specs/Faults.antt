@@ -6,12 +6,12 @@ use Rattle.am_model.specs.declared.fault.Fault.TheVariants as call
 use Rattle.am_rehearsal.specs.declared.play.PlayFault.{PlayFault}
 use Rattle.am_rehearsal.specs.declared.play.PlayFault.TheVariants as play
 
--- memory was refused, or no board may have the configuration
+-- there was no memory, or no board may have the configuration
 abbrev pub fault_of_board : BoardFault → PlayFault
 fault_of_board board.NoMemory = play.NoMemory
 fault_of_board (board.BadConfig fault) = play.BadConfig
 
--- memory was refused, or a limit is reached
+-- there was no memory, or a limit is reached
 abbrev pub fault_of_call : Fault → PlayFault
 fault_of_call call.NoMemory = play.NoMemory
 fault_of_call call.TooManyAlerts = play.Full

@@ -1,6 +1,6 @@
 -- what each begin of a history was to do, by the records before it
 pub mod Previews
--- what the begins of a board were to do, while it is played
+-- what the begins of a board were to do, while it runs
 pub mod PreviewLog
 -- what a history has of the planned actions, and whether a board refuses one
 pub mod Planned

@@ -63,7 +63,7 @@ begin_due until now (Some due) = in_time until (max due now) step.Begin
 abbrev pub next_begin : Setting → Scene → Option Next
 next_begin r c = if c.blocked then None else begin_due r.until c.clock (next_due (state_at c.board))
 
--- what comes next beside begins: the end of a sending, a finish, a plan or a maintenance
+-- what comes next besides begins: the end of a sending, a finish, a plan or a maintenance
 abbrev pub next_but_begins : Setting → Scene → Option Next
 next_but_begins r c =
     earlier (earlier (next_end 0 c.sendings) (next_finish c.clock 0 c.sendings))

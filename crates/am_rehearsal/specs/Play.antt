@@ -1,4 +1,4 @@
--- Play: a rehearsal that was played to its end.
+-- Play: a rehearsal that ran to its end.
 use Rattle.std.specs.Prelude.{◌≡◌, ℕ, zero, suc, List, None}
 use Rattle.am_model.specs.declared.config.Config.{Config}
 use Rattle.am_board.specs.History.{BoardData}

@@ -87,7 +87,7 @@ abbrev pub IsPlayedNext : ℕ → List Outage → PartData → List PlayedPart �
 IsPlayedNext maintain outages p played more =
     (q : PlayedPart) × (more ≡ played ++ q ∷ []) × PlaysPart maintain outages (last_board None played) p q
 
--- why log rows aren't taken over: memory was refused, or no dispatcher may have the configuration
+-- why log rows aren't taken over: there was no memory, or no dispatcher may have the configuration
 abbrev pub IsTakeFault : Config → PlayFault → Type 0
 IsTakeFault config play.NoMemory = Unit {0}
 IsTakeFault config play.BadConfig = config_fault config ≢ None

@@ -1,4 +1,4 @@
--- PreviewLog: what the begins of a board were to do, while it is played.
+-- PreviewLog: what the begins of a board were to do, while it runs.
 use Rattle.std.specs.Prelude.{◌≡◌, ◌<◌, Bool, true, false, List, [], ◌∷◌, length, Option, Some, None}
 use Rattle.am_rehearsal.specs.declared.preview_log.WaitingBegin.{WaitingBegin}
 use Rattle.am_terms.specs.declared.event.PreviewedBegin.{PreviewedBegin}
@@ -18,6 +18,6 @@ abbrev pub is_none : Option WaitingBegin → Bool
 is_none None = true
 is_none (Some b) = false
 
--- there is index for one more begin
+-- there is capacity for one more begin
 abbrev pub IsReady : PreviewLogData → Type 0
 IsReady l = (l.is_settled ≡ true) × (length l.items < 4294967295)

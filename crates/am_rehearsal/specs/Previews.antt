@@ -23,21 +23,21 @@ takes_group (Forgotten forgotten) = false
 takes_group (Loaded loaded) = false
 takes_group Noted = false
 
--- what is reported of the record at an index, where this is what it was to do
+-- the preview of the record at an index, if it is of a begin that took a group
 abbrev pub preview_where : Bool → ℕ → Option Preview → List PreviewedBegin
 preview_where false index is_to_do = []
 preview_where true index None = []
 preview_where true index (Some is_to_do) = record { index = index; preview = is_to_do } ∷ []
 
--- what is reported of a record after these: if it is of a begin that took a group, what that was to do
+-- the preview of a record after these, if it is of a begin that took a group
 abbrev pub preview_of : Config → List Record → Record → List PreviewedBegin
 preview_of config before r = preview_where (takes_group r.reply) (length before) (preview config before (now_of r.call))
 
--- what is reported of records after these
+-- the previews of records after these
 abbrev pub previews_after : Config → List Record → List Record → List PreviewedBegin
 previews_after config before [] = []
 previews_after config before (r ∷ rs) = preview_of config before r ++ previews_after config (before ++ r ∷ []) rs
 
--- reported: of each begin of a history that took a group, in their order, what it was to do
+-- previews_of: the previews of the begins of a history that took a group, in their order
 abbrev pub previews_of : Config → List Record → List PreviewedBegin
 previews_of config history = previews_after config [] history

@@ -88,7 +88,7 @@ impl<'o, O: Outages> OutageCourier<'o, O> {
     }
 }
 
-/// How an attempt at `at` goes that would go so, where the dispatcher may be stopped.
+/// How an attempt at `at` goes that would go so, where the dispatcher can be stopped.
 fn cut_short(cut: Option<u64>, at: u64, sent: Sent) -> Sent
     ensures { result ≡ cut_short cut at sent }
 {

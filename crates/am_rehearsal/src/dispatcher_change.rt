@@ -1,4 +1,4 @@
-//! What a new dispatcher of a rehearsal is reported before its own plans. Callers of `play_span` put it
+//! What a new dispatcher of a rehearsal is given before its own plans. Callers of `play_span` put it
 //! before the plans of the next dispatcher.
 //!
 //! The plans that were done are gone through from the end. So the first action of a label set or of
@@ -155,6 +155,8 @@ fn window_of(carryover: Carryover) -> u64
     }
 }
 
+/// Returns whether silences come to a new dispatcher. They come wherever the log does today
+/// (`carries_log`), but are another file of Alertmanager's.
 fn carries_silences(carryover: Carryover) -> bool
     ensures { result ≡ carries_silences carryover }
 {

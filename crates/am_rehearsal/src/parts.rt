@@ -52,7 +52,7 @@ impl Model for Part {
 
 /// Returns the parts of a rehearsal with these changes of the dispatcher, in the order of their times.
 ///
-/// The first dispatcher starts at zero, and each other at its change of the dispatcher, by which the one before it
+/// The first dispatcher starts at zero, and each other one at its reload or restart, at which the one before it
 /// stops. A plan goes to the dispatcher that runs at its time. Before its own plans a dispatcher is
 /// given again what still counts (`dispatcher_change::set_again`).
 ///

@@ -81,7 +81,7 @@ impl Played {
 /// Why a rehearsal doesn't run to its end.
 #[derive(Clone, Copy, PartialEq, Eq)]
 pub enum PlayFault {
-    /// Memory was refused.
+    /// Out of memory.
     NoMemory,
     /// No dispatcher may have the configuration.
     BadConfig,
@@ -320,7 +320,7 @@ impl<'o> Simulation<'o> {
         ensures { result ≡ next_but_begins (setting_in self.now) (scene_in self.now) }
     {
         let sendings = self.sendings.as_slice();
-        let over = earlier(next_end(sendings), next_finish(self.clock, 0, sendings));
+        let over = earlier(next_end(sendings), next_finish(self.clock, sendings));
         let maintenance = in_time(self.until, self.next_maintenance, Step::Maintenance);
         earlier(over, earlier(self.next_plan(), maintenance))
     }
@@ -507,7 +507,7 @@ impl<'o> Simulation<'o> {
         }
     }
 
-    /// What was played to its end.
+    /// What ran to its end.
     fn into_played(self) -> Result<Played, AllocError>
         requires { vec_len self.sendings ≡ 0 }
         ensures board { IfOk result (λ played. played.board ≡ self.entry.board.board) }

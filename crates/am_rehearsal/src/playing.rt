@@ -49,12 +49,12 @@ pub struct PartFault {
 
 /// Runs the parts of a rehearsal to their ends, one after another.
 ///
-/// `maintain` is the time between two maintenances, in milliseconds. Each part is played as by
+/// `maintain` is the time between two maintenances, in milliseconds. Each part runs as by
 /// `play_span`. Before its own plans come loads of the log rows that it takes over of the board
 /// before it, if it keeps the log (`am_model::rekey`). `watch` is called at each step.
 ///
 /// Clause `played`: each part plays to its board and events (`PlaysTo`), and the numbers of log rows
-/// are right. Clause `refused`: the parts before the failing one are played, and for that one the
+/// are right. Clause `refused`: the parts before the failing one run, and for that one the
 /// fault is the cause (`IsCauseOfFault`).
 ///
 /// # Errors
@@ -151,7 +151,7 @@ fn play_part<W: Watch>(
     })
 }
 
-/// `play_pieces`, with what was played in a box.
+/// `play_pieces`, with what ran in a box.
 fn play_boxed<W: Watch>(
     alloc: Global,
     seed: Seed,

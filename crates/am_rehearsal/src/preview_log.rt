@@ -78,7 +78,7 @@ impl PreviewLog {
         self.count
     }
 
-    /// Makes index for one more begin. The begins are the same, also where memory is refused.
+    /// Reserves memory for one more begin. The begins are the same, also where there is no memory.
     pub(crate) fn make_ready(&mut self) -> Result<(), AllocError>
         ensures items { self.new.items ≡ self.old.items }
         ensures ready { OnOk result (IsReady self.new) }
@@ -146,7 +146,7 @@ impl Sources {
     }
 
     /// Returns the preview of the begin after these ones, as one that shares what it can with theirs. It is handed back where
-    /// memory is refused.
+    /// there is no memory.
     fn share(
         &mut self,
         begins: &[PreviewedBegin],
@@ -175,7 +175,7 @@ impl Sources {
         again(begins, source, preview)
     }
 
-    /// Notes the position of a begin of a group, and returns the one noted before, if there is one. Where memory is refused for a
+    /// Notes the position of a begin of a group, and returns the one noted before, if there is one. Where there is no memory for a
     /// group's first, none is noted.
     fn note(&mut self, group: &GroupName, position: usize) -> Option<usize> {
         match self.noted.get_mut(group) {

@@ -82,25 +82,19 @@ fn next_end_of(position: usize, index: usize, ends: &[End]) -> Option<Next>
     }
 }
 
-/// Returns the finish, now, of the first of these flushes of which no end is to come. The first has
-/// this position.
-pub(crate) fn next_finish(now: u64, position: usize, sendings: &[Sending]) -> Option<Next>
-    requires { position + length sendings.now < 2 ^ 64 }
-    ensures { result ≡ next_finish now position sendings.now }
+/// Returns the finish, now, of the first of these flushes of which no end is to come.
+pub(crate) fn next_finish(now: u64, sendings: &[Sending]) -> Option<Next>
+    ensures { result ≡ next_finish now 0 sendings.now }
 {
-    match sendings.split_first() {
-        None => None,
-        Some((sending, sendings)) => {
-            if sending.ends.is_empty() {
-                Some(Next {
-                    at: now,
-                    what: Step::Finish(position),
-                })
-            } else {
-                next_finish(now, position + 1, sendings)
-            }
+    for (position, sending) in sendings.iter().enumerate() {
+        if sending.ends.is_empty() {
+            return Some(Next {
+                at: now,
+                what: Step::Finish(position),
+            });
         }
     }
+    None
 }
 
 /// Sends the notices of a ticket from `start` (milliseconds) on, and returns their ends.

@@ -1,4 +1,4 @@
--- A rehearsal without changes of the dispatcher is played by one dispatcher.
+-- A rehearsal without changes of the dispatcher runs by one dispatcher.
 use Rattle.std.proofs.Common.{◌≡◌, ◌<◌, ◌∷◌, ◌++◌, [], ℕ, List, None, ap, arith, length, subst}
 use Rattle.std.proofs.lemmas.List.{length-append}
 use Rattle.am_rehearsal.specs.Parts.{PartData}
@@ -7,12 +7,12 @@ use Rattle.am_rehearsal.specs.declared.playing.PlayedPart.{PlayedPart}
 use Rattle.am_terms.specs.declared.rehearsal.Outage.{Outage}
 
 module _ (maintain : ℕ) (outages : List Outage) (p : PartData) where
-  -- something is played
+  -- something runs
   pub some_played : (played : List PlayedPart) → ArePlayed maintain outages None (p ∷ []) played → 0 < length played
   some_played [] decoded = absurd decoded
   some_played (q ∷ qs) decoded = omega arith
 
-  -- the last that is played is all that is played
+  -- the last that runs is all that runs
   pub last_played : (played rest : List PlayedPart) (q : PlayedPart) → played ≡ rest ++ q ∷ []
       → ArePlayed maintain outages None (p ∷ []) played → ArePlayed maintain outages None (p ∷ []) (q ∷ [])
   last_played [] rest q is decoded = absurd decoded

@@ -47,7 +47,7 @@ pub passed : {T E : Type 0} (P : E → Type 0) (result : Result T E) (fault : E)
 passed P (Ok x) fault is so = absurd is
 passed P (Err f) fault is so = subst P (sym is) so
 
--- what is so of want of memory is so where nothing else refuses
+-- what is so of lack of memory is so where nothing else refuses
 pub starved : {T : Type 0} (P : InputFault → Type 0) (result : Result T InputFault) → P input.NoMemory → IfErr result (λ f. f ≡ input.NoMemory)
     → IfErr result P
 starved P (Ok x) so is = tt

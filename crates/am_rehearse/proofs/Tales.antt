@@ -1,4 +1,4 @@
--- What is given of a rehearsal that was played, and what is written of it.
+-- What is given of a rehearsal that ran, and what is written of it.
 use Rattle.std.proofs.Common.{◌≡◌, ◌++◌, ℕ, Bool, List, Option, Result, Ok, Err, IfOk, OnOk, is_ok, subst, if◌then◌else◌}
 use Rattle.am_terms.specs.declared.dispatcher_change.DispatcherChange.{DispatcherChange}
 use Rattle.am_terms.specs.declared.rehearsal.Rehearsal.{Rehearsal}

@@ -66,7 +66,7 @@ status_of rehearse.NoMemory = 3
 status_of rehearse.Unwritable = 4
 status_of rehearse.Unmet = 5
 
--- whether lines may be left out of what is printed
+-- whether lines can be left out of what is printed
 abbrev pub leaves_out : OutputOptions → Bool
 leaves_out options = options.changes || not (names_nothing options.filter)
 
@@ -113,7 +113,7 @@ pub record RequestsTooMuch (changes : Changes) (text : List ℕ) : Type 0 where
 abbrev pub AreSound : List Config → Type 0
 AreSound configs = AllByRecursion (λ config. config_fault config ≡ None) configs
 
--- a play of sound configurations is refused only where a limit leaves no capacity, or for want of memory
+-- a play of sound configurations is refused only where a limit leaves no capacity, or for lack of memory
 abbrev pub RefusesPlay : Rehearsal → List DispatcherChange → InputFault → Type 0
 RefusesPlay rehearsal dispatcher_changes (input.Refused pointer fault_kind) =
     AreSound (configs_of rehearsal.config dispatcher_changes) → (fault_kind ≡ Full) × IsTooLarge rehearsal dispatcher_changes

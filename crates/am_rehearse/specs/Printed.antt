@@ -111,7 +111,7 @@ IsPrinted output options heads playbacks times expectations text =
     is_page output ≡ false
     → text ≡ all_lines output options times heads playbacks ++ end_text output playbacks times expectations
 
--- the logbook of a dispatcher, as it was played
+-- the logbook of a dispatcher, as it ran
 abbrev pub log_of : PlayedPart → LogbookData
 log_of p =
     record { config = p.played.value.board.config; history = p.played.value.board.history; begins = p.played.value.begins.items }
@@ -130,7 +130,7 @@ playback_of p =
 abbrev pub HasLegalHistory : PlayedPart → Type 0
 HasLegalHistory p = IsLegal p.played.value.board.config BOARD_ID p.played.value.board.history
 
--- the text is this output of dispatchers that were played and changed so, whose histories are legal; the lines are those that are wanted,
+-- the text is this output of dispatchers that ran and changed so, whose histories are legal; the lines are those that are wanted,
 -- and `met` is whether it came as each of these expectations says
 pub record IsOutputOf (changes : List Change) (played : List PlayedPart) (output : Output) (options : OutputOptions) (times : TimeFormatData)
     (expectations : List Expectation) (met : Bool) (text : List ℕ) : Type 0 where

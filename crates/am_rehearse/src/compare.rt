@@ -5,6 +5,7 @@ use crate::run::play_alone;
 use am_cli::fault::{FaultKind, InputFault};
 use am_cli::faults::Refusal;
 use am_cli::pointer::JsonPointer;
+use am_command::exit_status::ExitStatus;
 use am_command::request::CompareRequest;
 use am_commands::faults::accept;
 use am_commands::given::given_to;
@@ -12,7 +13,7 @@ use am_commands::ignored::say_ignored;
 use am_commands::once::accept_inputs;
 use am_commands::system_zones::SystemZones;
 use am_config::dropped::IgnoredSettings;
-use am_console::console::{Console, DIFFERS, Document};
+use am_console::console::{Console, Document};
 use am_console::progress::Progress;
 use am_input::faults::ReceiversOf;
 use am_input::input::{Changes, Input, Overrides, read_input};
@@ -30,7 +31,7 @@ use std::alloc::{AllocError, Global};
 use std::rt::Files;
 use std::time::Clock;
 
-/// A story that was played.
+/// A story that ran.
 #[derive(Drop)]
 struct PlayedStory {
     part: PlayedPart,
@@ -46,7 +47,7 @@ pub fn compare<R: Files + Eprint + AllocGlobal + Clock>(
     seed: Seed,
     console: &mut Console,
     request: CompareRequest<'_>,
-) -> u8 {
+) -> ExitStatus {
     match try_compare(rt, seed, console, request) {
         Ok(status) | Err(status) => status,
     }
@@ -57,7 +58,7 @@ fn try_compare<R: Files + Eprint + AllocGlobal + Clock>(
     seed: Seed,
     console: &mut Console,
     request: CompareRequest<'_>,
-) -> Result<u8, u8> {
+) -> Result<ExitStatus, ExitStatus> {
     let overrides = Overrides {
         output: None,
         until: until_of(rt, request.until)?,
@@ -76,7 +77,7 @@ fn compared<R: Files + Eprint + AllocGlobal + Clock>(
     story: &Document<'_>,
     request: CompareRequest<'_>,
     overrides: Overrides,
-) -> Result<Comparison, u8> {
+) -> Result<Comparison, ExitStatus> {
     let old = played_under(rt, seed, console, story, request.old, overrides)?;
     let new = played_under(rt, seed, console, story, request.new, overrides)?;
     say_ignored(rt, request.old, old.ignored);
@@ -93,10 +94,10 @@ fn print<R: Files + Eprint + AllocGlobal>(
     console: &mut Console,
     compared: &Comparison,
     exit_code: bool,
-) -> u8 {
+) -> ExitStatus {
     let status = console.print(rt, compared.text.as_str());
-    if status == 0 && compared.differs && exit_code {
-        DIFFERS
+    if status == ExitStatus::Done && compared.differs && exit_code {
+        ExitStatus::Differs
     } else {
         status
     }
@@ -110,7 +111,7 @@ fn played_under<R: Files + Eprint + AllocGlobal + Clock>(
     story: &Document<'_>,
     path: &str,
     overrides: Overrides,
-) -> Result<PlayedStory, u8> {
+) -> Result<PlayedStory, ExitStatus> {
     let config = console.read(rt, path)?;
     accept_under(rt, console, story, &config, overrides)?;
     let changes = Changes {
@@ -127,7 +128,7 @@ fn played_with<R: Files + Eprint + AllocGlobal + Clock>(
     console: &Console,
     story: &Document<'_>,
     changes: Changes<'_>,
-) -> Result<PlayedStory, u8> {
+) -> Result<PlayedStory, ExitStatus> {
     let mut files = SystemZones::new(rt);
     let mut watch = Progress::begin(rt, console.is_terminal);
     match played(rt.alloc(), seed, story, changes, &mut files, &mut watch) {
@@ -143,7 +144,7 @@ fn accept_under<R: Files + Eprint + AllocGlobal>(
     story: &Document<'_>,
     config: &Document<'_>,
     overrides: Overrides,
-) -> Result<(), u8> {
+) -> Result<(), ExitStatus> {
     let configured = given_to(rt, console, story, config, overrides)?;
     accept(
         rt,
@@ -221,7 +222,7 @@ fn compare_played(
     compare_with(alloc, &playback, &old.start, &new.part.played)
 }
 
-/// Compares a playback with a story that was played, with dates if its start is given.
+/// Compares a playback with a story that ran, with dates if its start is given.
 fn compare_with(
     alloc: Global,
     old: &Playback<'_>,

@@ -3,6 +3,7 @@
 use am_cli::fault::{FaultKind, InputFault};
 use am_cli::faults::{Faults, Refusal};
 use am_cli::transfer::{ReadFault, Unwritable};
+use am_command::exit_status::ExitStatus;
 use am_yaml::document::DocumentFault;
 use thiserror::Error;
 
@@ -28,7 +29,7 @@ pub enum RehearseFault {
     AllRefused {
         faults: Faults,
     },
-    /// Memory was refused.
+    /// Out of memory.
     #[error("am-rehearse: no memory")]
     NoMemory,
     /// A write failed. Some of the output may have been written.
@@ -41,20 +42,21 @@ pub enum RehearseFault {
 
 impl RehearseFault {
     ghost use Rattle.std.specs.Prelude.{◌≡◌};
+    ghost use Rattle.am_command.specs.ExitStatus.{code_of};
     ghost use Rattle.am_rehearse.specs.Faults.{status_of};
 
     /// The status with which the program ends on this fault.
-    pub fn status(&self) -> u8
-        ensures { result ≡ status_of self.now }
+    pub fn status(&self) -> ExitStatus
+        ensures { code_of result ≡ status_of self.now }
     {
         match self {
-            RehearseFault::Unreadable => 1,
+            RehearseFault::Unreadable => ExitStatus::Unreadable,
             RehearseFault::NotRead { .. }
             | RehearseFault::Refused { .. }
-            | RehearseFault::AllRefused { .. } => 2,
-            RehearseFault::NoMemory => 3,
-            RehearseFault::Unwritable => 4,
-            RehearseFault::Unmet => 5,
+            | RehearseFault::AllRefused { .. } => ExitStatus::Rejected,
+            RehearseFault::NoMemory => ExitStatus::NoMemory,
+            RehearseFault::Unwritable => ExitStatus::Unwritable,
+            RehearseFault::Unmet => ExitStatus::Unmet,
         }
     }
 }

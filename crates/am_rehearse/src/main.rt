@@ -18,6 +18,7 @@ use crate::compare::compare;
 use crate::play::play;
 use am_cli::device::{StandardInput, StandardOutput};
 use am_command::completions::completions;
+use am_command::exit_status::ExitStatus;
 use am_command::manual::manual;
 use am_command::request::{
     Color, CompareRequest, FaultFormat, PlayRequest, Request, StoryRequest, Style, read_request,
@@ -26,7 +27,7 @@ use am_commands::check::check;
 use am_commands::json::json;
 use am_commands::routes::{RoutesRequest, routes};
 use am_commands::story::story;
-use am_console::console::{Console, NO_MEMORY, REJECTED};
+use am_console::console::Console;
 use am_console::files::PaintedOutput;
 use am_seed::Seed;
 use clap::error::ErrorKind;
@@ -35,24 +36,21 @@ use std::env;
 use std::io::{self, IsTerminal};
 use std::process::ExitCode;
 
-/// The status where the system has no random numbers.
-const NO_RANDOM_NUMBERS: u8 = 1;
-
 fn main(rt: HostRuntime) -> ExitCode {
-    ExitCode::from(serve(&rt))
+    ExitCode::from(serve(&rt).code())
 }
 
 /// Does what the command line asks for, and returns the status.
-fn serve(rt: &HostRuntime) -> u8 {
+fn serve(rt: &HostRuntime) -> ExitStatus {
     let words = match words_of(rt) {
         Ok(words) => words,
         Err(fault) if fault.kind() == io::ErrorKind::OutOfMemory => {
             let _ = eprintln!(rt; "am-rehearse: no memory");
-            return NO_MEMORY;
+            return ExitStatus::NoMemory;
         }
         Err(_) => {
             let _ = eprintln!(rt; "am-rehearse: a word of the command line isn't UTF-8");
-            return REJECTED;
+            return ExitStatus::Rejected;
         }
     };
     match read_request(rt.alloc(), words.as_slice()) {
@@ -60,9 +58,9 @@ fn serve(rt: &HostRuntime) -> u8 {
         Err(refused) => {
             let _ = refused.print(rt);
             match refused.kind() {
-                ErrorKind::DisplayHelp | ErrorKind::DisplayVersion => 0,
-                ErrorKind::OutOfMemory => NO_MEMORY,
-                _ => REJECTED,
+                ErrorKind::DisplayHelp | ErrorKind::DisplayVersion => ExitStatus::Done,
+                ErrorKind::OutOfMemory => ExitStatus::NoMemory,
+                _ => ExitStatus::Rejected,
             }
         }
     }
@@ -73,9 +71,9 @@ fn words_of(rt: &HostRuntime) -> io::Result<Vec<String>> {
     Ok(env::args(rt)?.collect(rt.alloc())?)
 }
 
-/// Does what is asked for, and returns the status. Each command makes its console, so that no function lets go of several
+/// Does what is asked for, and returns the status. Each command makes its console, so no function lets go of several
 /// values at each of its ends: such a one is very dear to prove.
-fn answer(rt: &HostRuntime, request: Request<'_>) -> u8 {
+fn answer(rt: &HostRuntime, request: Request<'_>) -> ExitStatus {
     match request {
         Request::Play(request) => answer_play(rt, &request),
         Request::Compare(request) => answer_compare(rt, request),
@@ -100,7 +98,7 @@ fn answer(rt: &HostRuntime, request: Request<'_>) -> u8 {
     }
 }
 
-fn answer_play(rt: &HostRuntime, request: &PlayRequest<'_>) -> u8 {
+fn answer_play(rt: &HostRuntime, request: &PlayRequest<'_>) -> ExitStatus {
     let seed = match draw_seed(rt) {
         Ok(seed) => seed,
         Err(status) => return status,
@@ -110,7 +108,7 @@ fn answer_play(rt: &HostRuntime, request: &PlayRequest<'_>) -> u8 {
     play(rt, seed, &mut console, request)
 }
 
-fn answer_compare(rt: &HostRuntime, request: CompareRequest<'_>) -> u8 {
+fn answer_compare(rt: &HostRuntime, request: CompareRequest<'_>) -> ExitStatus {
     let seed = match draw_seed(rt) {
         Ok(seed) => seed,
         Err(status) => return status,
@@ -120,38 +118,38 @@ fn answer_compare(rt: &HostRuntime, request: CompareRequest<'_>) -> u8 {
 }
 
 /// Draws what the hashes of a rehearsal start from. The error is the status.
-fn draw_seed(rt: &HostRuntime) -> Result<Seed, u8> {
+fn draw_seed(rt: &HostRuntime) -> Result<Seed, ExitStatus> {
     match Seed::draw(rt) {
         Ok(seed) => Ok(seed),
         Err(_) => {
             let _ = eprintln!(rt; "am-rehearse: no random numbers");
-            Err(NO_RANDOM_NUMBERS)
+            Err(ExitStatus::Unreadable)
         }
     }
 }
 
-fn answer_story(rt: &HostRuntime, request: StoryRequest<'_>) -> u8 {
+fn answer_story(rt: &HostRuntime, request: StoryRequest<'_>) -> ExitStatus {
     let mut console = console_for(rt, request.style, false);
     story(rt, &mut console, request)
 }
 
-fn answer_check(rt: &HostRuntime, files: &[&str], style: Style) -> u8 {
+fn answer_check(rt: &HostRuntime, files: &[&str], style: Style) -> ExitStatus {
     let mut console = console_for(rt, style, false);
     check(rt, &mut console, files)
 }
 
-fn answer_routes(rt: &HostRuntime, request: RoutesRequest<'_, '_>, style: Style) -> u8 {
+fn answer_routes(rt: &HostRuntime, request: RoutesRequest<'_, '_>, style: Style) -> ExitStatus {
     let mut console = console_for(rt, style, false);
     routes(rt, &mut console, request)
 }
 
-fn answer_json(rt: &HostRuntime, files: &[&str], style: Style) -> u8 {
+fn answer_json(rt: &HostRuntime, files: &[&str], style: Style) -> ExitStatus {
     let mut console = console_for(rt, style, false);
     json(rt, &mut console, files)
 }
 
 /// Prints a text that was made, and returns the status.
-fn print(rt: &HostRuntime, text: Result<String, AllocError>) -> u8 {
+fn print(rt: &HostRuntime, text: Result<String, AllocError>) -> ExitStatus {
     let style = Style {
         color: Color::Never,
         format: FaultFormat::Text,

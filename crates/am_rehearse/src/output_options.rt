@@ -19,7 +19,7 @@ impl OutputOptions {
     ghost use Rattle.std.specs.Prelude.{◌≡◌};
     ghost use Rattle.am_rehearse.specs.Faults.{leaves_out};
 
-    /// Returns whether lines may be left out.
+    /// Returns whether lines can be left out.
     pub fn leaves_out(&self) -> bool
         ensures { result ≡ leaves_out self.now }
     {

@@ -8,6 +8,7 @@ use am_alerts::sequence::Sequence;
 use am_alerts::text::Text;
 use am_cli::fault::InputFault;
 use am_cli::faults::{Faults, Refusal};
+use am_command::exit_status::ExitStatus;
 use am_command::explain::FileShape;
 use am_command::request::{PlayRequest, STANDARD_INPUT, Selection};
 use am_commands::faults::faults_of;
@@ -16,7 +17,7 @@ use am_commands::ignored::say_ignored;
 use am_commands::once::accept_inputs;
 use am_commands::system_zones::SystemZones;
 use am_console::bounds::bounds;
-use am_console::console::{Console, Document, REJECTED, UNWRITABLE};
+use am_console::console::{Console, Document};
 use am_console::files::{FileFault, open};
 use am_console::matcher_words::{matcher_of, words_for};
 use am_console::progress::Progress;
@@ -37,9 +38,9 @@ pub fn play<R: Files + Eprint + AllocGlobal + Clock>(
     seed: Seed,
     console: &mut Console,
     request: &PlayRequest<'_>,
-) -> u8 {
+) -> ExitStatus {
     match try_play(rt, seed, console, request) {
-        Ok(()) => 0,
+        Ok(()) => ExitStatus::Done,
         Err(status) => status,
     }
 }
@@ -49,7 +50,7 @@ fn try_play<R: Files + Eprint + AllocGlobal + Clock>(
     seed: Seed,
     console: &mut Console,
     request: &PlayRequest<'_>,
-) -> Result<(), u8> {
+) -> Result<(), ExitStatus> {
     let overrides = Overrides {
         output: output_of(rt, request)?,
         until: until_of(rt, request.until)?,
@@ -66,7 +67,7 @@ fn play_with_options<R: Files + Eprint + AllocGlobal + Clock>(
     request: &PlayRequest<'_>,
     overrides: Overrides,
     options: &OutputOptions,
-) -> Result<(), u8> {
+) -> Result<(), ExitStatus> {
     let Some(path) = request.config else {
         return play_under(rt, console, request, None, overrides, options);
     };
@@ -82,7 +83,7 @@ fn play_under<R: Files + Eprint + AllocGlobal + Clock>(
     config: Option<&Document<'_>>,
     overrides: Overrides,
     options: &OutputOptions,
-) -> Result<(), u8> {
+) -> Result<(), ExitStatus> {
     let changes = Changes {
         config: config.map(|document| &document.value),
         overrides,
@@ -101,7 +102,7 @@ fn conclude<R: Files + Eprint + AllocGlobal>(
     overrides: Overrides,
     report: Report,
     ended: Result<(), RehearseFault>,
-) -> Result<(), u8> {
+) -> Result<(), ExitStatus> {
     say_ignored(rt, request.config.unwrap_or(request.story), report.ignored);
     match ended {
         Ok(()) => say_judgement(rt, request, &report.judgement),
@@ -115,7 +116,7 @@ fn say_judgement<R: Files + Eprint>(
     rt: &R,
     request: &PlayRequest<'_>,
     judgement: &Judgement,
-) -> Result<(), u8> {
+) -> Result<(), ExitStatus> {
     say_found(rt, judgement);
     write_junit(rt, request.junit, &judgement.junit)
 }
@@ -134,7 +135,7 @@ fn write_junit<R: Files + Eprint>(
     rt: &R,
     file: Option<&str>,
     junit: &Option<String>,
-) -> Result<(), u8> {
+) -> Result<(), ExitStatus> {
     let (Some(path), Some(text)) = (file, junit) else {
         return Ok(());
     };
@@ -142,7 +143,7 @@ fn write_junit<R: Files + Eprint>(
         return Ok(());
     }
     let _ = eprintln!(rt; "am-rehearse: {path}: not writable");
-    Err(UNWRITABLE)
+    Err(ExitStatus::Unwritable)
 }
 
 /// Runs a story from its file. The error is the status, if the file isn't there.
@@ -153,7 +154,7 @@ fn run<R: Files + Eprint + AllocGlobal + Clock>(
     changes: Changes<'_>,
     options: &OutputOptions,
     report: &mut Report,
-) -> Result<Result<(), RehearseFault>, u8> {
+) -> Result<Result<(), RehearseFault>, ExitStatus> {
     let alloc = rt.alloc();
     let mut files = SystemZones::new(rt);
     let mut watch = Progress::begin(rt, console.is_terminal);
@@ -174,7 +175,7 @@ fn run<R: Files + Eprint + AllocGlobal + Clock>(
 }
 
 /// Returns the output that the command line asks for. It has checked the name. The error is the status.
-fn output_of<R: Eprint>(rt: &R, request: &PlayRequest<'_>) -> Result<Option<Output>, u8> {
+fn output_of<R: Eprint>(rt: &R, request: &PlayRequest<'_>) -> Result<Option<Output>, ExitStatus> {
     if request.no_failures {
         delivered_of(rt, request)
     } else if request.all {
@@ -185,21 +186,24 @@ fn output_of<R: Eprint>(rt: &R, request: &PlayRequest<'_>) -> Result<Option<Outp
 }
 
 /// Returns the output of delivered notices, unless another is asked for. The error is the status.
-fn delivered_of<R: Eprint>(rt: &R, request: &PlayRequest<'_>) -> Result<Option<Output>, u8> {
+fn delivered_of<R: Eprint>(
+    rt: &R,
+    request: &PlayRequest<'_>,
+) -> Result<Option<Output>, ExitStatus> {
     if request.output.unwrap_or("notices") == "notices" && !request.all {
         return Ok(Some(Output::Delivered));
     }
     let _ = eprintln!(rt; "am-rehearse: --no-failures is for the notices alone");
-    Err(REJECTED)
+    Err(ExitStatus::Rejected)
 }
 
 /// Returns the output of each line, unless another is asked for. The error is the status.
-fn full_of<R: Eprint>(rt: &R, output: Option<&str>) -> Result<Option<Output>, u8> {
+fn full_of<R: Eprint>(rt: &R, output: Option<&str>) -> Result<Option<Output>, ExitStatus> {
     if output.unwrap_or("timeline") == "timeline" {
         return Ok(Some(Output::Full));
     }
     let _ = eprintln!(rt; "am-rehearse: --all is for the timeline alone");
-    Err(REJECTED)
+    Err(ExitStatus::Rejected)
 }
 
 /// Returns the output of a name.
@@ -218,7 +222,7 @@ fn options_of<R: Eprint + AllocGlobal>(
     seed: Seed,
     console: &Console,
     request: &PlayRequest<'_>,
-) -> Result<OutputOptions, u8> {
+) -> Result<OutputOptions, ExitStatus> {
     let options = OutputOptions {
         filter: filter_of(rt, console, &request.selection)?,
         changes: request.selection.changes,
@@ -227,7 +231,7 @@ fn options_of<R: Eprint + AllocGlobal>(
     };
     if request.output == Some("html") && options.leaves_out() {
         let _ = eprintln!(rt; "am-rehearse: {PAGE_HAS_NO_LINES}");
-        return Err(REJECTED);
+        return Err(ExitStatus::Rejected);
     }
     Ok(options)
 }
@@ -237,7 +241,7 @@ fn filter_of<R: Eprint + AllocGlobal>(
     rt: &R,
     console: &Console,
     selection: &Selection<'_>,
-) -> Result<Filter, u8> {
+) -> Result<Filter, ExitStatus> {
     let receiver = text_of(rt, console, selection.receiver)?;
     let route = text_of(rt, console, selection.group)?;
     let matchers = matchers_of(rt, console, selection.alerts.as_slice())?;
@@ -253,7 +257,7 @@ fn text_of<R: Eprint + AllocGlobal>(
     rt: &R,
     console: &Console,
     text: Option<&str>,
-) -> Result<Option<Text>, u8> {
+) -> Result<Option<Text>, ExitStatus> {
     match text {
         None => Ok(None),
         Some(text) => match Text::new(rt.alloc(), text) {
@@ -268,7 +272,7 @@ fn matchers_of<R: Eprint + AllocGlobal>(
     rt: &R,
     console: &Console,
     texts: &[&str],
-) -> Result<Vec<Matcher>, u8> {
+) -> Result<Vec<Matcher>, ExitStatus> {
     let mut matchers = Vec::new(rt.alloc());
     for text in texts {
         let matcher = alert_matcher(rt, console, text)?;
@@ -284,7 +288,7 @@ fn alert_matcher<R: Eprint + AllocGlobal>(
     rt: &R,
     console: &Console,
     text: &str,
-) -> Result<Matcher, u8> {
+) -> Result<Matcher, ExitStatus> {
     let fault = match matcher_of(rt.alloc(), text) {
         Ok(matcher) => return Ok(matcher),
         Err(fault) => fault,
@@ -293,13 +297,13 @@ fn alert_matcher<R: Eprint + AllocGlobal>(
         None => Err(console.complain_of_memory(rt)),
         Some(words) => {
             let _ = eprintln!(rt; "am-rehearse: --alert: `{text}` {words}");
-            Err(REJECTED)
+            Err(ExitStatus::Rejected)
         }
     }
 }
 
 /// Returns the end that the command line gives.
-pub(crate) fn until_of<R: Eprint>(rt: &R, until: Option<&str>) -> Result<Option<u64>, u8> {
+pub(crate) fn until_of<R: Eprint>(rt: &R, until: Option<&str>) -> Result<Option<u64>, ExitStatus> {
     let Some(text) = until else {
         return Ok(None);
     };
@@ -310,7 +314,7 @@ pub(crate) fn until_of<R: Eprint>(rt: &R, until: Option<&str>) -> Result<Option<
             let _ = eprintln!(rt;
                 "am-rehearse: --until: `{text}` is no duration up to {days}d; write 5h or 2h30m"
             );
-            Err(REJECTED)
+            Err(ExitStatus::Rejected)
         }
     }
 }
@@ -324,7 +328,7 @@ fn complain<R: Files + Eprint + AllocGlobal>(
     overrides: Overrides,
     text: Vec<u8>,
     fault: RehearseFault,
-) -> u8 {
+) -> ExitStatus {
     let path = request.story;
     let refusal = match fault {
         RehearseFault::NotRead { fault } => return console.complain_of_text(rt, path, fault),
@@ -355,7 +359,7 @@ fn complain_of_refusal<R: Files + Eprint + AllocGlobal>(
     overrides: Overrides,
     text: Vec<u8>,
     refusal: Refusal,
-) -> u8 {
+) -> ExitStatus {
     let Ok(value) = read_document(rt.alloc(), text.as_slice()) else {
         return console.complain_of_memory(rt);
     };
@@ -369,7 +373,7 @@ fn complain_of_refusal<R: Files + Eprint + AllocGlobal>(
 }
 
 /// Prints a fault that has no pointer, and returns the status.
-fn print_fault<R: Eprint>(rt: &R, fault: &RehearseFault) -> u8 {
+fn print_fault<R: Eprint>(rt: &R, fault: &RehearseFault) -> ExitStatus {
     let _ = eprintln!(rt; "{fault}");
     fault.status()
 }
@@ -381,7 +385,7 @@ fn complain_of_unmet<R: Files + Eprint + AllocGlobal>(
     console: &Console,
     request: &PlayRequest<'_>,
     report: Report,
-) -> u8 {
+) -> ExitStatus {
     let Report {
         text,
         ignored: _,
@@ -429,7 +433,7 @@ fn complain_of_story<R: Files + Eprint + AllocGlobal>(
     overrides: Overrides,
     document: &Document<'_>,
     refusal: Refusal,
-) -> u8 {
+) -> ExitStatus {
     match faults_under(rt, console, config, overrides, document) {
         Err(status) => status,
         Ok(faults) => complain_of_all(rt, console, document, &faults, refusal),
@@ -443,7 +447,7 @@ fn complain_of_all<R: Eprint + AllocGlobal>(
     document: &Document<'_>,
     faults: &Faults,
     refusal: Refusal,
-) -> u8 {
+) -> ExitStatus {
     if faults.is_empty() {
         return console.complain_of_refusal(rt, document, refusal);
     }
@@ -457,7 +461,7 @@ fn faults_under<R: Files + Eprint + AllocGlobal>(
     config: Option<&Document<'_>>,
     overrides: Overrides,
     story: &Document<'_>,
-) -> Result<Faults, u8> {
+) -> Result<Faults, ExitStatus> {
     let Some(config) = config else {
         return faults_of(rt, console, story, ReceiversOf::Own, overrides);
     };

@@ -1,4 +1,4 @@
-//! What is printed of a rehearsal that was played, one dispatcher after another. `run` calls it.
+//! What is printed of a rehearsal that ran, one dispatcher after another. `run` calls it.
 ghost use Rattle.std.specs.Prelude.{◌≡◌, ◌&&◌, ◌++◌, IfErr, IfOk, OnOk, Some, None, false, not, if◌then◌else◌};
 ghost use Rattle.std.specs.Prelude.{drop, map, option_map, string_bytes};
 ghost use Rattle.std.specs.List.{AllByRecursion, list_all};
@@ -385,7 +385,7 @@ fn add_playbacks<'s>(
     }
 }
 
-/// The logbook of a rehearsal that was played.
+/// The logbook of a rehearsal that ran.
 pub(crate) fn logbook_of(alloc: Global, played: &Played) -> Result<Logbook<'_>, AllocError>
     ensures logbook { IfOk result (λ log. log ≡ record {
       config = played.now.board.config;
@@ -474,7 +474,7 @@ fn picture_of<C: TimeFormat>(
     Ok(Lines { text, found: true })
 }
 
-/// A rehearsal that was played as a page.
+/// A rehearsal that ran as a page.
 fn picture<C: TimeFormat>(
     alloc: Global,
     playback: &Playback<'_>,

@@ -30,7 +30,7 @@ use am_terms::watch::Watch;
 use am_yaml::document::read_document;
 use std::alloc::Global;
 
-/// What a run says beside its output.
+/// What a run reports besides its output.
 #[derive(Drop)]
 pub struct Report {
     /// The input, once it was read whole.
@@ -64,7 +64,7 @@ impl Report {
 }
 
 impl Judgement {
-    /// Returns the judgement where nothing was played.
+    /// Returns the judgement where nothing ran.
     pub fn none(alloc: Global) -> Judgement {
         Judgement {
             unmet: Vec::new(alloc),
@@ -79,7 +79,7 @@ impl Judgement {
 /// after another. It is `Ok` where every expectation of it is met, and `Unmet` where one isn't. Configuration, reloads,
 /// restarts, alerts, silences, outages, output, start, end, maintenance and expectations are those of the value that
 /// the input is read as, which is that of a JSON text where it is one, or those of `changes`. Of a configuration of
-/// Alertmanager it isn't said that it is the one that its file says.
+/// Alertmanager no clause says that it is the one of its file.
 ///
 /// An input is refused as `NotRead` only where it is no JSON text. It is refused at a pointer, or as `AllRefused`, only
 /// where it asks, as a JSON text, for nothing that can be played, or as `Full` (`Refuses`). It is `Full` only where it
@@ -87,7 +87,7 @@ impl Judgement {
 /// said of YAML, of a given file, of a configuration of Alertmanager, and of patterns that need a regex. The input was read whole before.
 ///
 /// `report` has what was read, once all of it was, what of Alertmanager's configuration is ignored, and, once a rehearsal
-/// was played, which expectations aren't met, and the report on them that is `options`.
+/// ran, which expectations aren't met, and the report on them that `options` asks for.
 /// The output is made whole before its first byte is written: on every fault but `Unwritable` and `Unmet` the
 /// sink wasn't asked.
 pub fn run_rehearsal<S: Source, Z: ZoneFiles, K: Sink, W: Watch>(

@@ -54,7 +54,7 @@ reaches start done (t ∷ responses) d k e (Over o) holds =
 run_reaches : (start deadline : ℕ) (responses : List Response) → Reaches start deadline [] responses (run start deadline responses)
 run_reaches start deadline responses = reaches start [] responses deadline 0 start (due start deadline) (holds_started start deadline)
 
--- all that is known of a machine that is so
+-- all that is known of such a machine
 pinned : (start d k e : ℕ) (responses : List Response) (s s' : Step) → IsAfterResponses start d responses (progress d k e s) → s ≡ s' → progress d k e s ≡ progress d (length responses) (end_after start responses) s'
 pinned start d k e responses s s' holds same =
     ap (λ (n : ℕ). progress d n e s) holds.attempts

@@ -49,7 +49,7 @@ abbrev pub is_settled : (Answer → Bool) → ℕ → ℕ → List Response → 
 is_settled test start deadline responses = are_in_time start deadline responses (length responses) && ends_with test responses
 
 -- whether a list of answers, as a whole, has an outcome. That of Starved says that one more attempt is due; that it wasn't made for
--- want of memory is for who makes the attempts to say
+-- lack of memory is for who makes the attempts to say
 abbrev pub has_outcome : ℕ → ℕ → List Response → Outcome → Bool
 has_outcome start deadline responses Delivered = is_settled is_done start deadline responses
 has_outcome start deadline responses Refused = is_settled is_never start deadline responses

@@ -18,7 +18,7 @@ pub enum Outcome {
     Refused,
     /// No attempt fits before the deadline any more.
     Expired,
-    /// An attempt was due, and could not be made for want of memory. [`crate::Retry`] never says
+    /// An attempt was due, and could not be made for lack of memory. [`crate::Retry`] never says
     /// so: only who makes the attempts can know.
     Starved,
 }

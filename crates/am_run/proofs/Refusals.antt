@@ -23,7 +23,7 @@ pub passed_on : {T E : Type 0} (P : E → Type 0) (result : Result T E) (fault :
 passed_on P (Ok x) fault is holds = absurd is
 passed_on P (Err f) fault is holds = subst P (sym is) holds
 
--- want of memory refuses nothing
+-- lack of memory refuses nothing
 pub no_refusal : (fault : InputFault) → fault ≡ NoMemory → IsTrue (is_refusal fault) → ⊥
 no_refusal (Refused pointer kind) is refusal = cc is
 no_refusal NoMemory is refusal = cc refusal
@@ -35,7 +35,7 @@ pub unread : (input : List ℕ) (fault : InputFault) → IsJson input
 unread input (Refused pointer kind) json none = (json, λ scenario decoded without. absurd (none refl scenario decoded without))
 unread input NoMemory json none = tt
 
--- one of running, for want of memory, or because a limit stops the play
+-- one of running, for lack of memory, or because a limit stops the play
 pub unplayed : (input : List ℕ) (fault : InputFault) → IsJson input → IsRefusedBy Full fault → (IsTrue (is_refusal fault) → IsStuckInput BOARD_ID input)
     → Refuses input (fault_of_input fault)
 unplayed input (Refused pointer kind) json full stuck = (json, λ scenario decoded without. (full, stuck refl))

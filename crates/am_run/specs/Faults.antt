@@ -38,14 +38,14 @@ status_of (run.Refused pointer fault_kind) = 2
 status_of run.NoMemory = 3
 status_of run.Unwritable = 4
 
--- an input says a scenario whose play on the board of this id is stopped by a limit
+-- an input decodes to a scenario whose play on the board of this id is stopped by a limit
 pub record IsStuckInput (id : ℕ) (input : List ℕ) : Type 0 where
   pub scenario : Scenario
   pub decoded : IsScenarioIn input scenario
   pub stuck : IsStuck id scenario
 
--- an input is refused as no JSON only where it is none, and at an index only where it is the text of a JSON value. Where it says a
--- scenario whose matchers need no regex, it is refused at an index only as full, and a limit stops the play
+-- an input is rejected as no JSON only if it is none, and at a pointer only if it is the text of a JSON value. If that decodes to a
+-- scenario whose matchers need no regex, it is rejected at a pointer only as full, and a limit stops the play
 abbrev pub Refuses : List ℕ → RunFault → Type 0
 Refuses input run.NotJson = IsNoJson input
 Refuses input (run.Refused pointer fault_kind) = IsJson input

@@ -12,7 +12,7 @@ use Rattle.am_model.specs.declared.notice.Report.{Report}
 use Rattle.am_model.specs.declared.record.Call.TheVariants as call
 use Rattle.am_model.specs.declared.record.Record.{Record}
 use Rattle.am_model.specs.declared.record.Reply.TheVariants as reply
-use Rattle.am_model.specs.Config.{greatest_limits}
+use Rattle.am_model.specs.Config.{default_limits}
 use Rattle.am_model.specs.Notice.{NoticeData}
 use Rattle.am_model.specs.Records.{entry, flush_reply}
 use Rattle.am_model.specs.Replay.{IsLegal}
@@ -47,7 +47,7 @@ config =
       receivers = record { name = codes "team"; integrations = record { kind = codes "hook"; send_resolved = true } ∷ [] } ∷ [];
       rules = [];
       retention = 432_000_000;
-      limits = greatest_limits;
+      limits = default_limits;
     }
 
 abbrev pub notice : NoticeData

@@ -40,7 +40,7 @@ pub record RanBefore (p q : Seen) (ls ms : List Seen) : Type 0 where
   pub ran : RanConcurrently p joined ls ms
   pub begins : IsPrefix joined.log q.log
 
--- the main thread had its turn in a phase; its begins went on until no group was due or as many flushes were open as may be, and the
+-- the main thread had its turn in a phase; its begins went on until no group was due or the limit of open flushes was reached, and the
 -- passes of the lanes made their calls after that and before its notes
 pub record RunsPhase (Answers : Tried → Type 0) (t : Terms) (phase : Phase) (p q : Seen) (ls ms : List Seen)
     (reports reports_since : List Report) : Type 0 where

@@ -30,7 +30,7 @@ cause_of_call t lane.Maintain h = cause_of_maintain t h
 abbrev pub AreBeginsOf : Phase → List Record → Type 0
 AreBeginsOf phase begins = All (λ r. (r.pass ≡ 0) × IsBeginOf phase r) begins
 
--- a legal history is that of these phases, which were played to their end: what the lanes and the main thread called, part by part
+-- a legal history is that of these phases, which ran to their end: what the lanes and the main thread called, part by part
 pub record IsHistoryOf (Answers : Tried → Type 0) (t : Terms) (phases : List Phase) (history : List Record) : Type 0 where
   pub legal : IsLegal t.config t.id history
   pub lanes : (i : ℕ) → calls_by (i + 1) history ≡ lane_calls i phases
@@ -62,7 +62,7 @@ pub record IsCallRefused (t : Terms) (phase : Phase) (past : List Record) : Type
   pub next : IsPrefix (calls_by (lane + 1) beside ++ call_at phase.at call ∷ []) (phase_calls lane phase)
   pub refused : cause_of_call t call (past ++ begins ++ beside) ≢ None
 
--- the phases before one were played to their end on the board of this id, and then a begin of that phase or a call of its lanes was
+-- the phases before one ran to their end on the board of this id, and then a begin of that phase or a call of its lanes was
 -- refused by a limit
 pub record IsStuck (id : ℕ) (scenario : Scenario) : Type 0 where
   pub before : List Phase

@@ -36,7 +36,7 @@ HaveMade i phases (p ∷ ps) =
 abbrev pub passes_in : {N : Type 0} → List (LaneState N) → List Seen
 passes_in lane_states = map (λ s. s.pass) lane_states
 
--- a call of a lane state was refused, and not for want of memory
+-- a call of a lane state was refused, and not for lack of memory
 abbrev pub IsRefusedByLimit : {N : Type 0} → LaneState N → Type 0
 IsRefusedByLimit s = (k : ℕ) × (fault : Fault) × (s.refused ≡ Some (k, fault)) × (fault ≢ NoMemory)
 
@@ -63,7 +63,7 @@ AllRan t at ss us = AllZip (λ s u. Ran t at s.calls.items s.pass u) ss us
 abbrev pub NoneRefused : {N : Type 0} → List (LaneState N) → Type 0
 NoneRefused lane_states = All (λ s. s.refused ≡ None) lane_states
 
--- a call of one of these lane states was refused, and not for want of memory
+-- a call of one of these lane states was refused, and not for lack of memory
 abbrev pub AnyRefused : {N : Type 0} → List (LaneState N) → Type 0
 AnyRefused [] = ⊥
 AnyRefused (s ∷ ss) = IsRefusedByLimit s ⊎ AnyRefused ss

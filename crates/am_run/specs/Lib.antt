@@ -6,7 +6,7 @@ pub mod Lanes
 pub mod Turns
 -- the history of a played scenario, part by part: one for each phase
 pub mod Parts
--- what the report on a scenario that was played says
+-- the report on a scenario that ran
 pub mod Plays
 -- why a scenario isn't played to its end
 pub mod IsCauseOfFull

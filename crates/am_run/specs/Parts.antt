@@ -8,18 +8,18 @@ use Rattle.am_run.specs.Lanes.{calls_by, phase_calls}
 use Rattle.am_run.specs.Turns.{BeginsExhausted, MainSteps, records_in}
 use Rattle.am_scenario.specs.declared.scenario.Phase.{Phase}
 
--- what a history has of a phase: the main thread's turn, and the records that came beside it
+-- what a history has of a phase: the main thread's turn, and the other records
 pub record PhaseRecords : Type 0 where
   pub turn : MainSteps
   pub beside : List Record
 
--- all records of a part, in their order: what came beside the turn is between its begins and its notes
+-- all records of a part, in their order: the other records are between its begins and its notes
 abbrev pub all_in : PhaseRecords → List Record
 all_in part = part.turn.begins ++ part.beside ++ part.turn.notes ++ part.turn.finishes
 
--- the part of a phase, after these records of a history: the turn's records are the main thread's, which has none beside it, and its
--- begins went on until no group was due or as many flushes were open as may be; beside it each lane made just its calls, at the
--- phase's time and in their order, and nobody else any. How the calls of two lanes are to each other isn't said
+-- the part of a phase, after these records of a history: the turn's records are the main thread's, which has no others, and its
+-- begins went on until no group was due or the limit of open flushes was reached; of the others each lane made just its calls, at the
+-- phase's time and in their order, and nobody else made any. The order between the calls of two lanes is open
 pub record AreRecordsOfPhase (t : Terms) (before : List Record) (phase : Phase) (part : PhaseRecords) : Type 0 where
   pub main : All (λ r. r.pass ≡ 0) (records_in part.turn)
   pub ended : phase.flush ≡ true → BeginsExhausted t phase.at (before ++ part.turn.begins) part.turn.begins

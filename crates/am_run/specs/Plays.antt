@@ -1,4 +1,4 @@
--- What the report on a scenario that was played says.
+-- The report on a scenario that ran.
 use Rattle.std.specs.Prelude.{◌≡◌, ℕ, ◌+◌, List}
 use Rattle.am_model.specs.declared.record.Record.{Record}
 use Rattle.am_desk.specs.Terms.{terms}
@@ -22,7 +22,7 @@ pub record IsPlayOf (id : ℕ) (scenario : Scenario) (text : List ℕ) : Type 0 
       report.reports
   pub parts : SplitsByPhase (terms scenario.config id) scenario.phases.items main.turns history
 
--- the text is the report on the scenario that an input says, which was played on the board of this id
+-- the text is the report on the scenario that an input says, which ran on the board of this id
 pub record IsPlay (id : ℕ) (input text : List ℕ) : Type 0 where
   pub scenario : Scenario
   pub decoded : IsScenarioIn input scenario

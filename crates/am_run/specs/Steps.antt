@@ -32,7 +32,7 @@ notices_of jobs = map (λ j. j.notice.now) jobs
 abbrev pub MadeRecords : List Record → Seen → Seen → Type 0
 MadeRecords rs p q = (q.number ≡ p.number) × (own p.number q.log ≡ own p.number p.log ++ rs) × IsPrefix p.log q.log
 
--- a pass has made the records of these notes since, but of those for which there was no room, and no others
+-- a pass has made the records of these notes since, but of those for which there was no capacity, and no others
 pub record Notes (t : Terms) (calls : List Call) (p q : Seen) : Type 0 where
   pub records : List Record
   pub made : MadeRecords records p q
@@ -47,7 +47,7 @@ abbrev pub IsUnrecorded : TicketData → Type 0
 IsUnrecorded t = t.outcomes ≡ []
 
 -- the pass made begins at this time, none where flushes aren't asked for, and the tickets of their flushes came to the others;
--- if there may be more to begin, all of them found a group due, and else they ended rightly
+-- if there can be more to begin, each of them took a group; else the last one found none due or failed at the limit
 pub record Begins (t : Terms) (flush more : Bool) (at : ℕ) (p q : Seen) (ts us : List TicketData) : Type 0 where
   pub begins : List Record
   pub made : MadeRecords begins p q
@@ -57,7 +57,7 @@ pub record Begins (t : Terms) (flush more : Bool) (at : ℕ) (p q : Seen) (ts us
   pub opened : map opened_of us ≡ map opened_of ts ++ opened_by begins
   pub unrecorded : All IsUnrecorded ts → All IsUnrecorded us
 
--- a pass has seen more records, and no more than there may be
+-- a pass has seen more records, and no more than the limit allows
 abbrev pub Grows : Terms → Seen → Seen → Type 0
 Grows t p q = (length p.log < length q.log) × (length q.log ≤ t.config.limits.history)
 
@@ -81,7 +81,7 @@ notes_of at reports t ns = map (note_of at reports t) (filter (is_recorded_succe
 abbrev pub notes_of_all : ℕ → List Report → List TicketData → List Call
 notes_of_all at reports ts = flat_map (λ t. notes_of at reports t t.notices) ts
 
--- the pass noted the notice at this index of a ticket at this time, but where there was no room
+-- the pass noted the notice at this index of a ticket at this time, unless the history had no capacity
 abbrev pub NotesAt : Terms → ℕ → TicketData → ℕ → Seen → Seen → Type 0
 NotesAt t now ticket index p q =
     (n : NoticeData) → slice_get ticket.notices index ≡ Some n → Notes t (note_at now ticket n ∷ []) p q

@@ -27,7 +27,7 @@ pub record Opened : Type 0 where
   pub number : ℕ
   pub notices : List NoticeData
 
--- the flush that a reply says of, if it says of one
+-- the flush that a reply opened, if it opened one
 abbrev pub opened_in : Reply → List Opened
 opened_in (reply.Inserted inserted) = []
 opened_in (reply.Silenced silenced) = []
@@ -62,7 +62,7 @@ report_on number integration [] = None
 report_on number integration (r ∷ rs) =
     if (r.ticket == number) && (r.integration == integration) then Some r else report_on number integration rs
 
--- the outcome that a report says
+-- the outcome in a report
 abbrev pub outcome_in : Option Report → Option Outcome
 outcome_in None = None
 outcome_in (Some r) = Some r.outcome
@@ -72,11 +72,11 @@ abbrev pub note_on : ℕ → ℕ → ℕ → Option Report → Call
 note_on at number integration None = call.Note at number integration None
 note_on at number integration (Some r) = call.Note r.ended number integration (Some r.outcome)
 
--- the greatest of this time and the ends that these reports say
+-- the latest of this time and the ends in these reports
 abbrev pub last_end : ℕ → List Report → ℕ
 last_end at reports = fold max at (map (λ r. r.ended) reports)
 
--- the outcomes that these reports say, each with its integration
+-- the outcomes in these reports, each with its integration
 abbrev pub outcomes_reported : List Report → List (ℕ × Outcome)
 outcomes_reported reports = map (λ r. (r.integration, r.outcome)) reports
 
@@ -107,11 +107,11 @@ all_notes_due at reports opened = flat_map (notes_due at reports) opened
 abbrev pub AtSomePrefix : ℕ → List Record → List Record → (List Record → Type 0) → Type 0
 AtSomePrefix pass history records Holds = (front : List Record) × IsPrefix front history × (own pass front ≡ records) × Holds front
 
--- as many flushes were open as may be: a begin at this time is refused for it
+-- the limit of open flushes was reached: a begin at this time fails as `TooManyOpen`
 abbrev pub FailsTooManyOpen : Terms → ℕ → List Record → Type 0
 FailsTooManyOpen t at front = cause_of_begin t at front ≡ Some TooManyOpen
 
--- a history had no room for one record more, beside those that finish the open flushes
+-- a history had no capacity for one record more, besides those that finish the open flushes
 abbrev pub FailsHistoryFull : Terms → List Record → Type 0
 FailsHistoryFull t front = is_full t.config (length front) (replay t.config front) 1 ≡ true
 
@@ -124,12 +124,12 @@ abbrev pub EndsWithNothingDue : List Record → Type 0
 EndsWithNothingDue begins =
     (found : List Record) × (last : Record) × (begins ≡ found ++ last ∷ []) × All FoundDue found × (last.reply ≡ reply.NothingDue)
 
--- these begins ended when no group was due, or when as many flushes were open as may be: the history was just this then
+-- these begins ended when no group was due, or at the limit of open flushes: this was the history then
 abbrev pub BeginsExhausted : Terms → ℕ → List Record → List Record → Type 0
 BeginsExhausted t at front begins = EndsWithNothingDue begins ⊎ (All FoundDue begins × FailsTooManyOpen t at front)
 
 -- a pass that had made the records before made these then: a record of each of the calls, in their order, but of those for which
--- there was no room when their turn came
+-- there was no capacity when their turn came
 abbrev pub AreNotesWithRoom : Terms → ℕ → List Record → List Record → List Call → List Record → Type 0
 AreNotesWithRoom t pass history before [] notes = notes ≡ []
 AreNotesWithRoom t pass history before (c ∷ cs) notes =
@@ -149,7 +149,7 @@ records_in turn = turn.begins ++ turn.notes ++ turn.finishes
 
 -- the turn of a phase, of a pass that had made the records before: the begins are at the phase's time; each notice that has
 -- something to send has one report, of a sending from that time on whose tries are answered so; each success is noted, at the end of
--- its sending, but where there was no room; and each flush is finished once, in their order, at the end of the last. When the begins
+-- its sending, but where there was no capacity; and each flush is finished once, in their order, at the end of the last. When the begins
 -- end is said of the part of the phase
 pub record AreMainStepsOf (Answers : Tried → Type 0) (t : Terms) (pass : ℕ) (history before : List Record) (phase : Phase)
     (turn : MainSteps) : Type 0 where

@@ -12,13 +12,13 @@ pub enum RunFault {
     /// The input is no JSON text in UTF-8.
     #[error("am-run: scenario refused: not JSON")]
     NotJson,
-    /// The scenario is refused; the index is a JSON pointer.
+    /// The scenario is rejected, at a JSON pointer.
     #[error("am-run: scenario refused at {pointer}: {fault_kind}")]
     Refused {
         pointer: String,
         fault_kind: FaultKind,
     },
-    /// Memory was refused.
+    /// Out of memory.
     #[error("am-run: no memory")]
     NoMemory,
     /// A write failed. Some of the report may have been written.

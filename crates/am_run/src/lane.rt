@@ -98,7 +98,7 @@ impl<N: Name> LaneState<N> {
     }
 }
 
-/// The states of the lanes, one for each pass, in their order. The vector keeps its room.
+/// The states of the lanes, one for each pass, in their order. The vector keeps its capacity.
 pub fn lane_states_for<N: Name>(
     alloc: Global,
     passes: &mut Vec<Pass<N>>,
@@ -136,7 +136,7 @@ pub fn meet_lanes<N: Name>(desk: &Desk<N>, main: &mut Pass<N>, lane_states: &mut
     }
 }
 
-/// Runs the lanes, each in a thread of its own, beside the couriers, who share the jobs.
+/// Runs the lanes, each in a thread of its own, next to the couriers, who share the jobs.
 pub fn run_beside<N: Name + Send + Sync, R: Threads + Wait + Sync, C: Answering + Send>(
     rt: &R,
     alloc: Global,
@@ -160,7 +160,7 @@ pub fn run_beside<N: Name + Send + Sync, R: Threads + Wait + Sync, C: Answering 
     share(rt, alloc, desk, at, taken, couriers, jobs)
 }
 
-/// Runs the lanes in these lane states, of which there is one at least, beside the couriers.
+/// Runs the lanes in these lane states, of which there is one at least, next to the couriers.
 fn share<N: Name + Send + Sync, R: Threads + Wait + Sync, C: Answering + Send>(
     rt: &R,
     alloc: Global,

@@ -6,7 +6,7 @@
 //!
 //! - `run` goes from the input's bytes to the report's. `phase` runs a phase: its begins, `sending` and the calls of
 //!   each `lane`. `courier` answers attempts by the scripts.
-//! - `report` has the text of the report on a history, as docs/format.md has it. Each line is added by a function that adds
+//! - `report` has the text of the report on a history, as docs/scenarios.md has it. Each line is added by a function that adds
 //!   exactly the text of its definition. Where a definition is total, as at a route's position that doesn't exist, the code is
 //!   total in the same way. Then printing needs no invariant of the history.
 //! - `fault` has the statuses with which the program ends. `law` has laws.

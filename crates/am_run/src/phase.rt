@@ -51,7 +51,7 @@ pub struct Run<N: Name> {
     main: Pass<N>,
     /// Lane i has state i, with the pass i + 1.
     lane_states: Vec<LaneState<N>>,
-    /// Has room for all passes.
+    /// Has capacity for all passes.
     passes: Vec<Pass<N>>,
     faults: PhaseFaults,
     /// The reports on the notices so far.
@@ -62,7 +62,7 @@ pub struct Run<N: Name> {
 impl<N: Name + Send + Sync> Run<N> {
     ghost use Rattle.am_run.specs.Runs.{Gathers, Continues, IsWell, Preserves, Rests, RunsLanes, StopsLanes, lanes_of};
 
-    /// A run on a desk with all its passes. Refused for want of memory.
+    /// A run on a desk with all its passes. Refused for lack of memory.
     pub fn new(alloc: Global, desk: Desk<N>, passes: Vec<Pass<N>>) -> Result<Run<N>, InputFault>
         requires { AreFresh 0 passes.items × (vec_len passes ≡ N.plan.passes) × (0 < N.plan.passes) }
         ensures lanes { IfOk result (λ run. HaveMade 0 [] (lanes_of run)) }
@@ -150,7 +150,7 @@ impl<N: Name + Send + Sync> Run<N> {
         self.faults.verdict(self.alloc, index)
     }
 
-    /// Begins flushes until no group is due, or as many are open as may be.
+    /// Begins flushes until no group is due, or the limit of open flushes is reached.
     fn begin_all<R: Wait>(&mut self, rt: &R, at: u64, tickets: &mut Vec<OwnTicket<N>>)
         ensures preserves { Preserves self.old self.new }
         ensures begins { HasNoFault self.new.faults
@@ -162,7 +162,7 @@ impl<N: Name + Send + Sync> Run<N> {
         while self.begin(rt, at, tickets) {}
     }
 
-    /// Begins a flush. Answers whether there may be more to begin.
+    /// Begins a flush. Answers whether there can be more to begin.
     fn begin<R: Wait>(&mut self, rt: &R, at: u64, tickets: &mut Vec<OwnTicket<N>>) -> bool
         ensures preserves { Preserves self.old self.new }
         ensures begins { HasNoFault self.new.faults
@@ -227,7 +227,7 @@ impl<N: Name + Send + Sync> Run<N> {
         reports
     }
 
-    /// Runs the lanes, and sends beside them the notices that have something to send. Answers the
+    /// Runs the lanes, and sends at the same time the notices that have something to send. Answers the
     /// reports, by ticket and integration.
     ///
     /// The main thread's pass meets those of the lanes before they start and when they are joined: so it
@@ -355,7 +355,7 @@ impl<N: Name + Send + Sync> Run<N> {
         }
     }
 
-    /// Logs the success of a notice. Where the history has no room the finish logs it.
+    /// Logs the success of a notice. Where the history has no capacity the finish logs it.
     fn note<R: Wait>(&mut self, rt: &R, now: u64, own: &OwnTicket<N>, index: usize)
         ensures preserves { Preserves self.old self.new }
         ensures noted { HasNoFault self.new.faults → NotesAt N.terms now own.now index self.old.main self.new.main }

@@ -63,7 +63,7 @@ impl PhaseFaults {
         !self.no_memory && self.first_refused.is_none()
     }
 
-    /// Adds a want of memory, or an ending that failed.
+    /// Adds a lack of memory, or an ending that failed.
     pub fn add_no_memory(&mut self)
         ensures { self.new.no_memory ≡ true }
     {
@@ -90,7 +90,7 @@ impl PhaseFaults {
         }
     }
 
-    /// The fault of the phase of this index, if there was trouble: want of memory comes first.
+    /// The fault of the phase of this index, if there was trouble: lack of memory comes first.
     pub fn verdict(&self, alloc: Global, phase: usize) -> Result<(), InputFault>
         ensures none { IsOk result ↔ HasNoFault self.now }
         ensures refused { IfErr result (IsRefusedBy FaultKind.Full) }

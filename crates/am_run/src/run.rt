@@ -64,11 +64,11 @@ pub const BOARD_ID: u64 = 1;
 
 /// Reads a scenario from the source, runs it and writes its report to the sink.
 ///
-/// The report is that of the scenario which the whole input says, member by member, played as
+/// The report is that of the scenario which the whole input decodes to, field by field, played as
 /// `play_scenario` says it. It is made whole before its first byte is written: on every fault but
 /// `Unwritable` the sink wasn't asked. An input is refused as `NotJson` only where it is none, and as
 /// `Refused` only where it is the text of a JSON value; it was read whole before. Where that says a
-/// scenario, and no matcher needs a regex, it is refused at an index only as `Full`, and a limit stops
+/// scenario, and no matcher needs a regex, a fault at a pointer is `Full`, and a limit stops
 /// the play. Hashes start from `seed`, on which nothing depends.
 pub fn run_scenario<R: AllocGlobal + Threads + Wait + Sync, S: Source, K: Sink>(
     rt: &R,
@@ -126,8 +126,8 @@ fn read(alloc: Global, input: &[u8]) -> Result<Scenario, RunFault>
 /// The report is the text of a legal history of the scenario's own configuration. The calls of the
 /// pass i + 1 in the history are just those of lane i, phase after phase, in their order, each at
 /// the time of its phase. The pass 0 is the main thread's. In each phase that asks for it it begins
-/// flushes at the phase's time, until no group is due or as many are open as may be. It notes each
-/// success at the end of its sending, but where the history has no room when the note's turn comes,
+/// flushes at the phase's time, until no group is due or `limits.flushes` are open. It notes each
+/// success at the end of its sending, except where there is no capacity at the note's turn,
 /// and finishes each flush when the sending of all its notices was over; it makes no other calls.
 /// Attempt k of a notice is answered by the k-th item of the first script for it, or by the last; so
 /// the scripts determine the reports. The history is made of a part for each phase, one after the
@@ -137,10 +137,10 @@ fn read(alloc: Global, input: &[u8]) -> Result<Scenario, RunFault>
 /// # Errors
 ///
 /// - `Refused` as `BadValue`: the configuration has a fault.
-/// - `Refused` as `Full`: a limit stopped the play. Clause `full`: the phases before one were played
+/// - `Refused` as `Full`: a limit stopped the play. Clause `full`: the phases before one ran
 ///   to their end. Then the history has no capacity for the next begin of that phase. Or all its
 ///   begins were made, and then the first calls of its lanes, and a limit refuses the next call of a
-///   lane. No clause says that the index is that of the refused call.
+///   lane. No clause says that the pointer is that of the refused call.
 /// - `NoMemory`. It comes before `Full`. No clause says that a report, a note, a finish or the close
 ///   of the desk never fails: one that did would give `NoMemory`.
 pub fn play_scenario<R: Threads + Wait + Sync>(

@@ -1,4 +1,4 @@
--- Lists that are taken out of the values that hold them, and what was read of a value that stood in another.
+-- Lists that are taken out of the values that hold them, and what was read of a value that was in another.
 use Rattle.std.proofs.Common.{◌≡◌, ℕ, List, Option, Some, Result, Ok, Err, MatchOption, subst, sym}
 use Rattle.std.specs.Prelude.{IfErr, IfOk, IsErrAnd, IsTrue}
 use Rattle.std.specs.Result.{result_ok}

@@ -1,4 +1,4 @@
--- What the JSON value of a scenario says, a line for each member.
+-- What the JSON value of a scenario decodes to, a line for each field.
 use Rattle.std.specs.Prelude.{◌≡◌, ◌≤◌, ◌&&◌, ℕ, Bool, true, false, List, [], Option, Some, None, codes}
 use Rattle.std.specs.List.{list_all}
 use Rattle.serde_json.specs.Data.{Data, no_items, item, string, Members}
@@ -27,7 +27,7 @@ pub record DecodesToPlanned (value : Data) (planned : ScriptedAnswer) : Type 0 w
   pub is_lasting : IsNumber takes planned.takes
   pub within : planned.takes ≤ MAX_DURATION
 
--- what the members of a script say
+-- the fields of an object decode to a script
 pub record HasScript (members : Members) (script : Script) : Type 0 where
   pub ticket : Has IsNumber (codes "ticket") members script.ticket
   pub integration : Has IsNumber (codes "integration") members script.integration
@@ -41,7 +41,7 @@ abbrev pub IsEnd : Data → Option ℕ → Type 0
 IsEnd value None = as_null value ≡ Some tt
 IsEnd value (Some end) = IsNumber value end
 
--- what the members of an alert say
+-- the fields of an object decode to an alert
 pub record HasAlert (mode : Mode) (members : Members) (alert : AlertData) : Type 0 where
   pub labels : Has (DecodesToLabels mode) (codes "labels") members alert.labels
   pub starts : Has IsNumber (codes "starts") members alert.starts
@@ -51,7 +51,7 @@ pub record HasAlert (mode : Mode) (members : Members) (alert : AlertData) : Type
 abbrev pub DecodesToAlert : Mode → Data → AlertData → Type 0
 DecodesToAlert mode value alert = IsObject (HasAlert mode) value alert
 
--- what the members of a silence say
+-- the fields of an object decode to a silence
 pub record HasSilence (mode : Mode) (members : Members) (silence : SilenceData) : Type 0 where
   pub id : Has IsNumber (codes "id") members silence.id
   pub matchers : Has (IsList (DecodesToMatcher mode)) (codes "matchers") members silence.matchers
@@ -62,7 +62,7 @@ pub record HasSilence (mode : Mode) (members : Members) (silence : SilenceData) 
 abbrev pub DecodesToSilence : Mode → Data → SilenceData → Type 0
 DecodesToSilence mode value silence = IsObject (HasSilence mode) value silence
 
--- members that say one call
+-- the fields of an object decode to one call
 abbrev pub HasCall : Mode → Members → LaneCall → Type 0
 HasCall mode members (Insert alert) = Has (DecodesToAlert mode) (codes "insert") members alert
     × HasNone (codes "silence") members × HasNone (codes "maintain") members
@@ -77,7 +77,7 @@ DecodesToCall mode value call = IsObject (HasCall mode) value call
 abbrev pub DecodesToLane : Mode → Data → Lane → Type 0
 DecodesToLane mode value lane = IsList (DecodesToCall mode) value lane.calls.items
 
--- what the members of a phase say
+-- the fields of an object decode to a phase
 pub record HasPhase (mode : Mode) (members : Members) (phase : Phase) : Type 0 where
   pub at : Has IsNumber (codes "at") members phase.at
   pub flush : HasOr IsFlag false (codes "flush") members phase.flush
@@ -86,7 +86,7 @@ pub record HasPhase (mode : Mode) (members : Members) (phase : Phase) : Type 0 w
 abbrev pub DecodesToPhase : Mode → Data → Phase → Type 0
 DecodesToPhase mode value phase = IsObject (HasPhase mode) value phase
 
--- what the members of a scenario say
+-- the fields of an object decode to a scenario
 pub record HasScenario (members : Members) (scenario : Scenario) : Type 0 where
   pub config : Has (DecodesToConfig Lenient) (codes "config") members scenario.config
   pub workers : HasOr IsNumber 2 (codes "workers") members scenario.workers
@@ -96,7 +96,7 @@ pub record HasScenario (members : Members) (scenario : Scenario) : Type 0 where
 abbrev pub DecodesToScenario : Data → Scenario → Type 0
 DecodesToScenario value scenario = IsObject HasScenario value scenario
 
--- these bytes are the text of a JSON value that says this scenario
+-- these bytes are the text of a JSON value that decodes to this scenario
 pub record IsScenarioIn (input : List ℕ) (scenario : Scenario) : Type 0 where
   pub value : Data
   pub text : read input ≡ Some value

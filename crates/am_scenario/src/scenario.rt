@@ -33,7 +33,7 @@ pub struct Scenario {
     ghost few_workers: { workers ≤ MAX_WORKERS },
 }
 
-/// What happens at one time: the groups that are due are flushed, if the phase says so, and the
+/// What happens at one time: the groups that are due are flushed, if `flush` is set, and the
 /// lanes make their calls.
 #[derive(Drop)]
 pub struct Phase {

@@ -16,7 +16,7 @@ pub record StartData : Type 0 where
   pub day : DayData
   pub milliseconds : ℕ
 
--- a start is at this date and time of day, but for what is less than a millisecond
+-- a start is at this date and time of day, except for what is less than a millisecond
 pub record IsStartAt (dt : DateTime) (start : StartData) : Type 0 where
   pub year : pos start.day.year ≡ dt.date.year
   pub month : start.day.month ≡ dt.date.month
@@ -50,7 +50,7 @@ abbrev pub day_after : ℕ → DayData → DayData
 day_after zero d = d
 day_after (suc n) d = day_after n (next_day d)
 
--- how many milliseconds a time is behind the beginning of the start's day, but for the whole days of the time
+-- how many milliseconds a time is behind the beginning of the start's day, except for the whole days of the time
 abbrev pub behind_midnight : StartData → ℕ → ℕ
 behind_midnight start at = start.milliseconds + at % 86400000
 

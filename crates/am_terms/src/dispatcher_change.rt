@@ -3,7 +3,7 @@
 
 use am_model::config::Config;
 
-/// A dispatcher stops, and another takes its index at once.
+/// A dispatcher stops, and another takes its place at once.
 #[derive(Drop)]
 pub struct DispatcherChange {
     /// When, in milliseconds from the start of the rehearsal; not zero.

@@ -37,7 +37,7 @@ impl Model for SharedPreview {
 }
 
 impl SharedPreview {
-    /// Makes a preview one that others can share. It is handed back where memory is refused.
+    /// Makes a preview one that others can share. It is handed back where there is no memory.
     pub fn new(alloc: Global, preview: Preview) -> Result<SharedPreview, Preview>
         ensures { MatchResult result (λ shared. shared ≡ preview) (λ back. back ≡ preview) }
     {

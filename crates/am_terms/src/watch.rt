@@ -1,6 +1,6 @@
-//! `Watch`: who follows a rehearsal while it is played. `play` of `am_rehearsal` notes the simulated time by it.
+//! `Watch`: who follows a rehearsal while it runs. `play` of `am_rehearsal` notes the simulated time by it.
 
-/// Who follows a rehearsal while it is played.
+/// Who follows a rehearsal while it runs.
 pub trait Watch {
     /// Notes that the simulated clock is at a time, in milliseconds from the start. It is called at each step.
     fn note(&mut self, clock: u64);

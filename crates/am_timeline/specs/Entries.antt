@@ -2,6 +2,6 @@
 use Rattle.std.specs.Prelude.{Bool, ◌&&◌, ◌==◌}
 use Rattle.am_timeline.specs.declared.logbook.entries.FlushKey.{FlushKey}
 
--- whether two keys are of one index and integration
+-- whether two keys have the same index and integration
 abbrev pub same_flush_key : FlushKey → FlushKey → Bool
 same_flush_key a b = (a.index == b.index) && (a.integration == b.integration)

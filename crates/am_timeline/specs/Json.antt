@@ -69,7 +69,7 @@ sets_data alerts = array (items_of (map (λ a. set_data (labels_of a)) alerts))
 abbrev pub silenced_members : ℕ → List Member
 silenced_members until = text_at (codes "cause") (codes "silenced") ∷ number_at (codes "until") until ∷ []
 
--- that an alert is inhibited, on account of which alert, and by which rule
+-- that an alert is inhibited, because of which alert, and by which rule
 abbrev pub inhibited_members : ℕ → List Label → List Member
 inhibited_members rule by =
     text_at (codes "cause") (codes "inhibited") ∷ (codes "by", set_data by) ∷ number_at (codes "rule") rule ∷ []
@@ -162,7 +162,7 @@ unfoldable pub sent_members : PlaybackData → TimeFormatData → SentData → R
 sent_members playback times s reason =
     sending_members playback.config times s ++ sent_reason_members (expiry_before playback s) reason ++ content_members s.notice
 
--- a begin, of which this is reported
+-- the fields of a begin that has this preview
 abbrev pub begun_members : Config → TimeFormatData → List ℕ → Preview → List Member
 begun_members config times event o = event_members config times event o.time o.group
 
@@ -210,7 +210,7 @@ members_line members = uncontrolled (compact_text (object members)) ++ codes "\n
 abbrev pub object_line : List Member → List ℕ
 object_line members = members_line (put_all no_members members)
 
--- the line on a notice whose sending came to its end, with the reason that was reported of its integration; nothing where none was
+-- the line of a notice whose sending ended, with the reason that the preview has for its integration; nothing where it has none
 abbrev pub json_of_sent : PlaybackData → TimeFormatData → SentData → List ℕ
 json_of_sent playback times s =
     option_map_or (λ reason. object_line (sent_members playback times s reason))

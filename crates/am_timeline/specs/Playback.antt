@@ -28,7 +28,7 @@ pub record LogbookData : Type 0 where
   pub history : List Record
   pub begins : List PreviewedBegin
 
--- a rehearsal that was played: its configuration and its history, what its begins were to do, and what happened
+-- a rehearsal that ran: its configuration and its history, what its begins were to do, and what happened
 pub record PlaybackData : Type 0 where
   pub config : Config
   pub history : List Record

@@ -160,7 +160,7 @@ abbrev pub line_for : PlaybackData → TimeFormatData → SentData → Reason �
 line_for playback times s reason =
     outcome_text s.outcome playback.config times s ++ content_text times (expiry_before playback s) reason s.notice
 
--- a notice whose sending came to its end, with the reason that was reported of its integration; nothing where none was
+-- a notice whose sending ended, with the reason that the preview has for its integration; nothing where it has none
 abbrev pub sent_line : PlaybackData → TimeFormatData → SentData → List ℕ
 sent_line playback times s =
     option_map_or (line_for playback times s) (slice_get s.begin.preview.reasons s.notice.integration) []
@@ -170,7 +170,7 @@ abbrev pub cause_words : MuteCause → List ℕ
 cause_words (Silenced id until) = codes " silenced until "
 cause_words (Inhibited rule by) = codes " inhibited by "
 
--- until when an alert is silenced, or on account of which alert it is inhibited, and by which rule
+-- until when an alert is silenced, or because of which alert it is inhibited, and by which rule
 abbrev pub cause_shown : TimeFormatData → MuteCause → List ℕ
 cause_shown times (Silenced id until) = times.text until
 cause_shown times (Inhibited rule by) = set_shown by ++ codes " (rule " ++ decimal rule ++ codes ")"

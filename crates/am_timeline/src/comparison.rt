@@ -1,7 +1,7 @@
 //! What the delivered notices of two rehearsals of one story differ in, as text. `am_rehearse` prints it.
 //!
 //! Two notices are the same if they are for one integration of one receiver and say the same alerts. One integration is
-//! the one of the same kind that has as many of its kind before it in its receiver: one of another kind beside it changes
+//! the one of the same kind that has as many of its kind before it in its receiver: another kind next to it changes
 //! its position, and nothing here. Of the same notices those of one time are paired first. Of what is left the first of
 //! one rehearsal is paired with the first of the other, and so on: these have moved. An alert is reported if a delivered
 //! notice has it, as firing or as resolved, as for `am_undelivered`. Cost: the notices of both, sorted.
@@ -319,7 +319,7 @@ fn differences_of<C: TimeFormat>(
 }
 
 /// Returns of each notice whether it is paired with the same notice of the other rehearsal at the same time, which is
-/// beside it.
+/// next to it.
 fn paired_at_once(alloc: Global, sent_notices: &[SentNotice]) -> Result<Vec<bool>, AllocError> {
     let mut paired: Vec<bool> = Vec::new(alloc);
     let mut last: Option<&SentNotice> = None;

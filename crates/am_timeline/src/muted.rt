@@ -67,7 +67,7 @@ pub fn push_cause<C: TimeFormat>(
     push_muting(clock, cause, out)
 }
 
-/// Adds until when an alert is silenced, or on account of which alert it is inhibited.
+/// Adds until when an alert is silenced, or because of which alert it is inhibited.
 fn push_muting<C: TimeFormat>(
     clock: &C,
     cause: &MuteCause,
@@ -90,7 +90,7 @@ fn cause_words(cause: &MuteCause) -> &'static str
     }
 }
 
-/// Adds on account of which alert one is inhibited, and by which rule.
+/// Adds because of which alert one is inhibited, and by which rule.
 fn push_rule(rule: usize, by: &Labels, out: &mut String) -> Result<(), AllocError>
     ensures { OnOk result (string_bytes out.new
         ≡ string_bytes out.old ++ (set_shown by.now ++ codes " (rule " ++ decimal rule ++ codes ")")) }

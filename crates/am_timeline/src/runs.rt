@@ -1,7 +1,10 @@
 //! Runs: flushes of one group that follow each other, send nothing and have the same lines. `short_timeline` prints one
 //! line for all of them.
 //!
-//! Begins are looked at once, from the first one on. A table has the last flush of each group so far, so that the lines of no more
+//! Flushes are alike where a reader sees the same lines, so the texts of these are compared. A value in their place would have
+//! to say again what each line shows. Where the previews alone say that two are alike (`alike`), no text is made.
+//!
+//! Begins are looked at once, from the first one on. A table has the last flush of each group so far, so the lines of no more
 //! than one flush of each group are in memory. Cost: the lines of each begin whose preview isn't like the last one of its group.
 ghost use Rattle.std.specs.Prelude.{◌≡◌, ◌+◌, ◌<◌, ◌&&◌, ◌++◌, ◌∷◌, [], IfOk, IfSome, IsTrue, OnOk, Some, if◌then◌else◌};
 ghost use Rattle.std.specs.Prelude.{length, string_bytes};

@@ -66,7 +66,7 @@ sent_in (r ∷ later) = flat_map sets_in (notices_in r.reply) ++ sent_in later
 abbrev pub sets_notified : List Record → Record → List (List Label)
 sets_notified later r = flat_map (sets_delivered later) (notices_in r.reply) ++ sets_loaded r
 
--- reported: the label sets that a receiver was notified of, by a delivered notice of the history or by the dispatcher before
+-- the label sets that a receiver was notified of, by a delivered notice of the history or by the dispatcher before
 abbrev pub notified_in : List Record → List (List Label)
 notified_in [] = []
 notified_in (r ∷ later) = sets_notified later r ++ notified_in later
@@ -174,7 +174,7 @@ pub record FindingsData : Type 0 where
   pub begins : List PreviewedBegin
   pub inserted : List AlertData
 
--- findings: what looking back finds of a rehearsal that was played
+-- findings: what looking back finds of a rehearsal that ran
 abbrev pub findings_of : PlaybackData → FindingsData
 findings_of playback =
     record {

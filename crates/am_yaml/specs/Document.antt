@@ -13,7 +13,7 @@ IsReadAs text value = MatchOption (read text) (Unit {0}) (λ d. d ≡ value)
 abbrev pub IsNoJson : List ℕ → Type 0
 IsNoJson text = IsUtf8 text → read text ≡ None
 
--- bytes are refused only where they are no JSON text, or for want of memory
+-- bytes are refused only where they are no JSON text, or for lack of memory
 abbrev pub Refuses : List ℕ → DocumentFault → Type 0
 Refuses text (NotText line column) = IsNoJson text
 Refuses text (NotJson line column) = IsNoJson text

@@ -49,7 +49,7 @@ impl Parser<'_> {
         Ok(())
     }
 
-    /// Reads the node on the lines below its lead. The sequence below a key may be indented as the key is.
+    /// Reads the node on the lines below its lead. The sequence below a key can be indented as the key is.
     #[cycle(block)]
     fn node_below(&mut self, lead: Lead, floor: usize, levels: usize) -> Result<Value, Stop> {
         let Some(column) = self.cursor.content_column() else {

@@ -22,7 +22,7 @@ pub enum DocumentFault {
     /// They are neither JSON nor YAML as it is read here.
     #[error("{fault}")]
     NotYaml { fault: YamlFault },
-    /// Memory was refused.
+    /// Out of memory.
     #[error("no memory")]
     NoMemory,
 }

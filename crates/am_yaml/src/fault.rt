@@ -40,7 +40,7 @@ pub enum Reason {
     Unterminated,
     /// An escape that YAML doesn't have.
     Escape,
-    /// The first line of a block scalar says more than how it is laid out.
+    /// The first line of a block scalar says more than how it is written.
     Header,
     /// A number that JSON can't hold.
     Number,
@@ -63,7 +63,7 @@ pub enum YamlFault {
     /// The text has more than 16,777,216 bytes.
     #[error("more than 16 MiB")]
     TooLong,
-    /// Memory was refused.
+    /// Out of memory.
     #[error("no memory")]
     NoMemory,
 }

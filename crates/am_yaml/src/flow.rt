@@ -110,7 +110,7 @@ impl Parser<'_> {
         Err(start.stop(Reason::Unterminated))
     }
 
-    /// Reads what is behind a key between braces, which may be nothing.
+    /// Reads what is behind a key between braces, which can be nothing.
     #[cycle(flow)]
     fn flow_value(&mut self, floor: usize, levels: usize) -> Result<Value, Stop> {
         self.cursor.skip_flow_gap()?;

@@ -15,7 +15,7 @@ pub const MAX_DEPTH: usize = 100;
 /// The fields whose values Alertmanager reads as texts, whatever they look like.
 const TEXTS: [&str; 2] = ["match", "match_re"];
 
-/// Returns how many collections lie round one below which so many levels may be, itself the first.
+/// Returns how many collections lie round one below which so many levels can be, itself the first.
 pub(crate) fn depth_at(levels: usize) -> usize {
     MAX_DEPTH.saturating_sub(levels)
 }
@@ -29,7 +29,7 @@ pub(crate) struct Parser<'t> {
     pub(crate) path: Path<'t>,
     /// Whether a flag or a number is the text that is written.
     wants_texts: bool,
-    /// Whether a key may be twice between braces, as in JSON.
+    /// Whether a key can be twice between braces, as in JSON.
     may_repeat: bool,
 }
 
@@ -58,7 +58,7 @@ impl<'t> Parser<'t> {
         }
     }
 
-    /// Lets a key are twice between braces, as in JSON. The last one counts.
+    /// Allows a key twice between braces, as in JSON. The last one counts.
     pub(crate) fn let_repeat(&mut self) {
         self.may_repeat = true;
     }

@@ -130,7 +130,7 @@ fn read_document(alloc: Global, text: &str) -> Result<Value, Stop>
 }
 
 impl Parser<'_> {
-    /// Reads the document, behind which nothing may be.
+    /// Reads the document, behind which nothing can be.
     pub(crate) fn whole_document(&mut self) -> Result<Value, Stop> {
         self.cursor.to_content()?;
         let value = self.document()?;

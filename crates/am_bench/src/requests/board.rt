@@ -42,7 +42,7 @@ pub fn make_calls(probe: &Probe, alloc: Global) -> Result<(), AllocError> {
     load_rows(probe, alloc)
 }
 
-/// Loads rows into a board whose history has room for one record.
+/// Loads rows into a board whose history has capacity for one record.
 fn load_rows(probe: &Probe, alloc: Global) -> Result<(), AllocError> {
     let mut config = config(alloc)?;
     config.limits.history = 1;

@@ -36,7 +36,7 @@ fn blank(alloc: Global) -> Result<Blank, AllocError> {
     }
 }
 
-/// A configuration by which two alerts and a silence may be known, and eight records kept.
+/// A configuration by which two alerts and a silence can be known, and eight records kept.
 fn limited(alloc: Global) -> Result<Config, AllocError> {
     let mut config = config(alloc)?;
     config.limits.alerts = 2;
@@ -106,7 +106,7 @@ fn refuse_more<N: Name, R: Wait>(
     Ok(())
 }
 
-/// Makes calls for which the history has no room.
+/// Makes calls for which the history has no capacity.
 fn refuse_all<N: Name, R: Wait>(
     probe: &Probe,
     rt: &R,

@@ -13,7 +13,7 @@ use std::sync::Wait;
 use std::test::Fail;
 use std::thread::Threads;
 
-/// A courier that asks to come again for one flush, until it refuses an attempt for want of memory. For
+/// A courier that asks to come again for one flush, until it refuses an attempt for lack of memory. For
 /// other flushes each attempt is done at once.
 #[derive(Drop)]
 struct Starving {

@@ -253,7 +253,7 @@ fn push_getter(config: &Config, notice: &Notice, out: &mut String) -> Result<(),
     push_integration(config, &notice.group, notice.integration as usize, out)
 }
 
-/// Adds what a notice reported.
+/// Adds the firing and resolved alerts of a notice.
 #[tactic(auto, unfolding(crate::specs::ExpectationReport::got_alerts_text))]
 fn push_got_alerts(notice: &Notice, out: &mut String) -> Result<(), AllocError>
     ensures { OnOk result (string_bytes out.new ≡ string_bytes out.old ++ got_alerts_text notice.now) }

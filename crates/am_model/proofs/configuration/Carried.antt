@@ -1,4 +1,4 @@
--- The rows that are carried over: each has an integration of the new configuration and an alert that goes to its group, each may be loaded
+-- The rows that are carried over: each has an integration of the new configuration and an alert that goes to its group, each can be loaded
 -- where the row might, and under the same configuration a row is its own.
 use Rattle.std.proofs.Common.{◌≡◌, ℕ, zero, suc, ◌+◌, ◌-◌, ◌<◌, ◌≤◌, Bool, true, false, cond, ◌&&◌, ◌||◌, nat_le, nat_lt, Option, Some, None, List, [], ◌∷◌, ◌++◌, length, map, fold, take, refl, sym, ap, ◌∙◌, subst, arith, if◌then◌else◌}
 use Rattle.std.specs.Prelude.{◌==◌, count_by}
@@ -329,7 +329,7 @@ carried_rows_fit old new row =
     let olds = integrations_named receiver old.receivers in
     all_from (IsTakenOver new row) (carried old new row) (fit-at new receiver row olds (moved_to olds row.integration (integrations_named receiver new.receivers)) refl)
 
--- ---- where the row may be loaded
+-- ---- where the row can be loaded
 
 taken-loads : (old new : Config) (t : ℕ) (row taken : RowView) → may_load old t row ≡ true → IsTakenOver new row taken → may_load new t taken ≡ true
 taken-loads old new t row taken may is =

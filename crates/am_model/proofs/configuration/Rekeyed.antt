@@ -1,4 +1,4 @@
--- The rows that are found again: each has an integration of the new configuration under a route of the same receiver and key, each may be
+-- The rows that are found again: each has an integration of the new configuration under a route of the same receiver and key, each can be
 -- loaded where the row might, and under the same configuration a row is found as it is.
 use Rattle.std.proofs.Common.{◌≡◌, ℕ, ◌+◌, ◌<◌, ◌≤◌, true, ◌&&◌, nat_le, nat_lt, Option, Some, None, List, [], length, map, refl, sym, ap, ◌∙◌, subst, arith}
 use Rattle.std.specs.List.{AllByRecursion, Contains}

@@ -298,7 +298,7 @@ no_silences = refl
 last_silence : silences_in (past_of silence_replaced) ≡ silence_of 1 (is (codes "alertname") (codes "A") ∷ []) 0 300_000 ∷ []
 last_silence = refl
 
--- ---- what each reason says, where it is so and where it isn't
+-- ---- what each reason says, where it applies and where it doesn't
 
 abbrev first_row : RowView
 first_row = row group_a 0 30_000 28_830_000 (named (codes "A") ∷ []) []

@@ -84,7 +84,7 @@ same_name_again = refl
 other_name : cause_of_insert one_of_each one_insert (alert (codes "B") 0) ≡ Some TooManyAlerts
 other_name = refl
 
--- two routes with room for one group
+-- two routes with capacity for one group
 two_groups : cause_of_insert (limited with_children 65_536 1 1_024 64 1_048_576) [] critical ≡ Some TooManyGroups
 two_groups = refl
 

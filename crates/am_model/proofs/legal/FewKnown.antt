@@ -18,7 +18,7 @@ use Rattle.am_model.specs.State.{GroupState, FlushState, State, at_time, time, f
 use Rattle.am_model.proofs.legal.BoundedAlerts.{length-filter, length-upsert, length-put_known}
 use Rattle.am_model.proofs.legal.FewGroups.{IsInsert}
 
--- what is put in passes no limit, where there may be one more or one is like it
+-- what is put in passes no limit, where there can be one more or one is like it
 pub fits-upsert : {X : Type 0} (like : X → X → Bool) (x : X) (xs : List X) (most : ℕ) → length xs ≤ most
     → (nat_le most (length xs) && not (list_any (like x) xs)) ≡ false → length (upsert like x xs) ≤ most
 fits-upsert like x xs most few fits =

@@ -1,4 +1,4 @@
--- Each row that a board shows is found again as it is under the same configuration, and what is found again of it may be loaded.
+-- Each row that a board shows is found again as it is under the same configuration, and what is found again of it can be loaded.
 use Rattle.std.proofs.Common.{◌≡◌, true, ◌&&◌, nat_le, arith}
 use Rattle.std.specs.Prelude.{All}
 use Rattle.std.specs.List.{Contains}

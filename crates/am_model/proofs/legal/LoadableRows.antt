@@ -1,4 +1,4 @@
--- Each row of the log may be loaded under its own configuration, and so may those that another configuration takes over for it.
+-- Each row of the log can be loaded under its own configuration, and so can those that another configuration takes over for it.
 use Rattle.std.proofs.Common.{◌≡◌, ℕ, ◌+◌, ◌<◌, ◌≤◌, Bool, true, false, cond, ◌&&◌, nat_le, nat_lt, Option, Some, None, List, [], ◌∷◌, length, filter, find, fold, not, unwrap_or, refl, subst, arith}
 use Rattle.std.specs.Prelude.{All, ◌==◌}
 use Rattle.std.specs.List.{enumerate_from, AllByRecursion, IsDistinct}
@@ -42,7 +42,7 @@ module _ (config : Config) where
   abbrev MayLoad : ℕ → RowView → Type 0
   MayLoad t row = may_load config t row ≡ true
 
-  -- what may be loaded may be loaded later too
+  -- what can be loaded can be loaded later too
   loads-later : (t u : ℕ) (row : RowView) → t ≤ u → MayLoad t row → MayLoad u row
   loads-later t u row more may =
       let fit = has_integration config row && is_ordered row in
@@ -56,7 +56,7 @@ module _ (config : Config) where
   abbrev IsRouted : GroupState → Type 0
   IsRouted g = g.name.route ≤ last_of config.routes
 
-  -- the row that a flush logs for one that it notified may be loaded at its time
+  -- the row that a flush logs for one that it notified can be loaded at its time
   abbrev IsLoggable : FlushState → NotifiedState → Type 0
   IsLoggable f a = (t : ℕ) → MayLoad t (row_at config t f a.integration)
 
@@ -197,7 +197,7 @@ module _ (config : Config) where
       by a h true = h
       by a h false = h
 
-  -- who may be noted was notified
+  -- who can be noted was notified
   note-loads : (t integration : ℕ) (outcome : Option Outcome) (f : FlushState) → may_note integration outcome f ≡ true → AreLoggable f → MayLoad t (row_at config t f integration)
   note-loads t integration outcome f may all =
       elim (find (λ (a : NotifiedState). a.integration == integration) f.notified) as (λ o. find (λ (a : NotifiedState). a.integration == integration) f.notified ≡ o → may_be_noted outcome o ≡ true → MayLoad t (row_at config t f integration)) [

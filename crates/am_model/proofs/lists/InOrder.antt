@@ -53,7 +53,7 @@ module _ {X : Type 0} (cmp : X → X → Ordering) (order : IsTotalOrder cmp) wh
 
   -- ---- one list in order
 
-  -- two that don't tie may be put in either way round
+  -- two that don't tie can be put in either way round
   two_placed : (x y : X) → is_eq (cmp x y) ≡ false → (zs : List X) → put_in_order cmp x (put_in_order cmp y zs) ≡ put_in_order cmp y (put_in_order cmp x zs)
   two_placed x y apart [] = by (is_gt (cmp x y)) (is_gt (cmp y x)) (other_way x y apart)
     where

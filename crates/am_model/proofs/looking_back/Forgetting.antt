@@ -183,7 +183,7 @@ module _ (config : Config) (s : State) (ks : List AlertData) (xs : List SilenceD
   later : (now : ℕ) → s.clock ≤ time s now
   later now = omega arith
 
-  -- a call returns the same, but for what bare replies leave out, and leads to such states again
+  -- a call returns the same, except for what bare replies leave out, and leads to such states again
   record IsSame (c : Call) : Type 0 where
     returned : (id : ℕ) → option_map bare_reply (reply config id other c) ≡ option_map bare_reply (reply config id s c)
     known : List AlertData

@@ -97,7 +97,7 @@ firing_in config name t past = label_sets (firing_alerts_in config name t past)
 abbrev pub resolved_in : Config → GroupName → ℕ → Past → List (List Label)
 resolved_in config name t past = label_sets (resolved_alerts_in config name t past)
 
--- the row that a success logs at t for an integration that a flush with this reply and this past asked at its time
+-- the row that a success logs at t for an integration that the flush with this reply and this past notified
 abbrev pub row_of_flush : Config → ℕ → ℕ → ℕ → Past → Reply → Option RowView
 row_of_flush config t integration begun past (Inserted inserted) = None
 row_of_flush config t integration begun past (Silenced silenced) = None

@@ -132,8 +132,8 @@ UnlessHandedIn (Some handed) row Claim = row ≡ handed
 abbrev pub OnlyDeliveredIsLogged : Config → List Record → Type 0
 OnlyDeliveredIsLogged config history = AtEach LogsDelivered (past_of history)
 
--- a row that comes into the log by a record was delivered, unless the record loaded it: any that is there after it stood there
--- before, or is of its time, and it reports so of that flush's notice
+-- a row that comes into the log by a record was delivered, unless the record loaded it: any row that is there after it was there
+-- before, or is of the record's time, and the record says that the notice of that flush was delivered
 abbrev pub NewRowsAreDelivered : Config → Record → Past → Type 0
 NewRowsAreDelivered config r past =
     (name : GroupName) (integration : ℕ) (row : RowView)
@@ -154,12 +154,12 @@ RowsWereDelivered config history =
 
 -- ---- loaded only over what is earlier
 
--- a load is allowed, and returns what becomes of its row by the entry that looking back finds
+-- a load is allowed, and returns what becomes of its row by the entry that follows from the past
 pub record IsLoadedRightly (config : Config) (r : Record) (past : Past) (row : RowView) : Type 0 where
   pub allowed : may_load config (time_at (r ∷ past)) row ≡ true
   pub returned : r.reply ≡ Loaded (loaded_over (time_at (r ∷ past)) row (entry_in config row.group row.integration past))
 
--- each load returns so: its row is put into the log unless its expiry is before the record's time, or the log has an entry there that
+-- each load puts its row into the log, unless the row's expiry is before the record's time, or the log has an entry for its key that
 -- is of the same time or a later one
 abbrev pub LoadsPutLaterRows : Config → List Record → Type 0
 LoadsPutLaterRows config history =
@@ -246,22 +246,22 @@ notified_about_after config name t past firing resolved =
     if is_empty firing && is_empty resolved then []
     else map (λ i. i.0) (filter (needs_after config name t past firing resolved) (integrations_of config name))
 
--- the integrations that a begin of a group at t is to ask
+-- the integrations that a begin of a group at t has to notify
 abbrev pub notified_after : Config → GroupName → ℕ → Past → List ℕ
 notified_after config name t past =
     notified_about_after config name t past (firing_in config name t past) (resolved_in config name t past)
 
--- a begin that takes a group notifies those that it is to notify, and no other
+-- a begin that takes a group notifies those that it has to notify, and no other
 abbrev pub IsNotifiedRightly : Config → Record → Past → Type 0
 IsNotifiedRightly config r past =
     (name : GroupName) → takes name r.reply ≡ true
     → map (λ n. n.integration) (notices_in r.reply) ≡ notified_after config name (time_at (r ∷ past)) past
 
--- each begin that takes a group notifies those that it is to ask
+-- each begin that takes a group notifies exactly those that it has to notify
 abbrev pub BeginsNotifyExactlyWhomNeeded : Config → List Record → Type 0
 BeginsNotifyExactlyWhomNeeded config history = AtEach (IsNotifiedRightly config) (past_of history)
 
--- ---- what a begin says
+-- ---- the reply to a begin
 
 -- whether the integration at a position of a group's receiver is sent resolved alerts
 abbrev pub wants_resolved : Config → GroupName → ℕ → Bool
@@ -284,7 +284,7 @@ pub record IsFlushFound (config : Config) (number : ℕ) (name : GroupName) (unt
   pub deadline : until ≡ t + max (route_of config name).group_interval MIN_FLUSH_TIMEOUT
   pub listed : All (IsNoticeFound config number name until t past) notices
 
--- the reply to a begin at t says what looking back finds: a quiet one, how many alerts of the group are resolved, muted ones too
+-- the reply to a begin at t has what follows from the past: a quiet one the number of the group's resolved alerts, muted ones too
 abbrev pub IsReplyFound : Config → ℕ → Past → Reply → Type 0
 IsReplyFound config t past (Inserted inserted) = Unit {0}
 IsReplyFound config t past (Silenced silenced) = Unit {0}
@@ -297,16 +297,16 @@ IsReplyFound config t past (Forgotten forgotten) = Unit {0}
 IsReplyFound config t past (Loaded loaded) = Unit {0}
 IsReplyFound config t past Noted = Unit {0}
 
--- each begin says what is there
+-- the reply to each begin has the group's alerts
 abbrev pub NoticesListPresentAlerts : Config → List Record → Type 0
 NoticesListPresentAlerts config history = AtEach (λ r past. IsReplyFound config (time_at (r ∷ past)) past r.reply) (past_of history)
 
 -- ---- all of it, of one history
 
--- what looking back says of a history: its alerts and its rows are found, and no two are alike; only what was delivered is logged, but for
+-- what follows from a history alone: its alerts and its rows, no two of which are alike; only what was delivered is logged, except for
 -- what was handed in, which is put in only where it is later; and at each record a refiring alert stays, flushes end once, and a begin is
 -- at least an interval after any other of its group, unless a maintenance between them found it without alerts, notifies those that it has a
--- reason to notify, and says what is there
+-- reason to notify, and its reply has the group's alerts
 pub record LooksBack (config : Config) (history : List Record) : Type 0 where
   pub consistent : IsConsistent (replay config history)
   pub alerts : AlertsAreFound config history

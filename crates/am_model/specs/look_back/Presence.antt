@@ -92,7 +92,7 @@ finish_removes name a past (Forget now) = false
 finish_removes name a past (Load now row) = false
 finish_removes name a past (Note now number integration outcome) = false
 
--- whether the latest record takes an alert out of a group: a quiet begin of the group at whose time it is resolved, or a finish
+-- whether the latest record removes an alert from a group: a quiet begin of the group at whose time it is resolved, or a finish
 abbrev pub removes : GroupName → AlertData → Record → Past → Bool
 removes name a r past =
     (is_quiet name r.reply && is_resolved a (time_at (r ∷ past))) || finish_removes name a past r.call

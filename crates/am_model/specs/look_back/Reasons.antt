@@ -50,7 +50,7 @@ abbrev pub reason_by : Option RowView → List (List Label) → List (List Label
 reason_by entry firing resolved send_resolved repeat t =
     reason_of_update repeat (update_reason same_label_set (option_map log_row entry) firing resolved send_resolved repeat t)
 
--- the same, but where nothing fires and nothing is resolved nothing is left to say
+-- the same, except that the reason is `NothingLeft` where nothing fires and nothing is resolved
 abbrev pub reason_by_entry : Option RowView → List (List Label) → List (List Label) → Bool → ℕ → ℕ → Reason
 reason_by_entry entry firing resolved send_resolved repeat t =
     if is_empty firing && is_empty resolved then NothingLeft else reason_by entry firing resolved send_resolved repeat t
@@ -85,7 +85,7 @@ abbrev pub HasAllResolved : RowView → List (List Label) → Bool → Type 0
 HasAllResolved row resolved send_resolved = send_resolved ≡ true → is_subset same_label_set resolved row.resolved ≡ true
 
 -- what a reason says of the entry, of the label sets that fire and those that are resolved, and of the time, where no route is muted:
--- one alone is so
+-- exactly one reason applies
 abbrev pub Says : Reason → Option RowView → List (List Label) → List (List Label) → Bool → ℕ → ℕ → Type 0
 Says FirstNotice entry firing resolved send_resolved repeat t = (entry ≡ None) × (firing ≢ [])
 Says NewAlert entry firing resolved send_resolved repeat t = (row : RowView) × (entry ≡ Some row) × HasMore firing row.firing
@@ -105,13 +105,13 @@ Says (NotYet from) entry firing resolved send_resolved repeat t =
     × (from ≡ row.time + repeat + 1) × (t < from)
 Says (RouteMuted until) entry firing resolved send_resolved repeat t = ⊥
 
--- the same where the group's route may be muted until a time: then that alone is so
+-- the same where the group's route can be muted until a time: then that reason alone applies
 abbrev pub SaysWhere : Option ℕ → Reason → Option RowView → List (List Label) → List (List Label) → Bool → ℕ → ℕ
     → Type 0
 SaysWhere None reason entry firing resolved send_resolved repeat t = Says reason entry firing resolved send_resolved repeat t
 SaysWhere (Some until) reason entry firing resolved send_resolved repeat t = reason ≡ RouteMuted until
 
--- what a reason says is so of an integration of a group at t, by what looking back finds
+-- a reason applies to an integration of a group at t, by what follows from the past
 abbrev pub ReasonApplies : Reason → Config → GroupName → ℕ → Past → ℕ × Integration → Type 0
 ReasonApplies reason config name t past i =
     SaysWhere (route_muted config name t) reason (entry_in config name i.0 past) (firing_in config name t past)
@@ -129,7 +129,7 @@ pub record NotifiesForReasons (config : Config) (r : Record) (past : Past) : Typ
       → map (λ n. n.integration) (notices_in r.reply)
       ≡ map (λ i. i.0) (filter (λ i. notifies (reason_in config name (time_at (r ∷ past)) past i)) (integrations_of config name))
 
--- each begin of a history asks those that it has a reason to notify, and no other
+-- each begin of a history notifies those that it has a reason to notify, and no other
 abbrev pub BeginsHaveReasons : Config → List Record → Type 0
 BeginsHaveReasons config history = AtEach (NotifiesForReasons config) (past_of history)
 

@@ -32,7 +32,7 @@ fn says_never(is_none: bool, is_never: bool) -> bool
     is_none || is_never
 }
 
-/// Refuses `none` beside what a notice has to say.
+/// Rejects `none` with fields that say what a notice has.
 fn check_alone(item: &Object<'_, '_>, is_none: bool) -> Result<(), InputFault>
     ensures alone { OnOk result ((is_none && says_content (members_view item.now.members)) ≡ false) }
     ensures refused { IfErr result (λ _. (is_none && says_content (members_view item.now.members)) ≡ true) }
@@ -43,7 +43,7 @@ fn check_alone(item: &Object<'_, '_>, is_none: bool) -> Result<(), InputFault>
     Ok(())
 }
 
-/// Refuses `never` beside `none`.
+/// Rejects `never` with `none`.
 fn check_once(item: &Object<'_, '_>, is_none: bool, is_never: bool) -> Result<(), InputFault>
     ensures once { OnOk result ((is_none && is_never) ≡ false) }
     ensures refused { IfErr result (λ _. (is_none && is_never) ≡ true) }

@@ -43,7 +43,7 @@ pub(crate) fn read_content(item: &Object<'_, '_>) -> Result<Content, InputFault>
     })
 }
 
-/// Refuses `exactly` beside `firing` or `resolved`.
+/// Rejects `exactly` with `firing` or `resolved`.
 fn check_exactly(item: &Object<'_, '_>) -> Result<(), InputFault>
     ensures alone { OnOk result (SaysExactly (members_view item.now.members)) }
     ensures refused { IfErr result (λ _. SaysExactly (members_view item.now.members) → ⊥) }

@@ -89,7 +89,7 @@ pub fn into_member(value: Value, name: &str) -> Option<Value>
     }
 }
 
-/// What was read of a value that stood at this pointer, with its fault given there.
+/// Returns what was read from a value at this pointer; a fault gets the pointer.
 pub fn under<X: Drop>(
     alloc: Global,
     above: &JsonPointer<'_>,

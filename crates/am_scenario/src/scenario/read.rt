@@ -31,7 +31,7 @@ use std::alloc::Global;
 const USUAL_WORKERS: usize = 2;
 
 /// Reads a whole scenario. The first fault in the order of reading is answered. A pattern
-/// that needs a regex may be too large; else what the value says is refused only for want of memory.
+/// that needs a regex can be too large; else what the value says is refused only for lack of memory.
 ///
 /// Each call of a lane is let go as soon as it was read: of a large scenario the value and what is made
 /// of it are never there whole at once.

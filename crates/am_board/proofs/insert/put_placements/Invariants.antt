@@ -12,7 +12,7 @@ use Rattle.am_board.proofs.insert.put_placements.Given as goal
 use Rattle.am_board.specs.Marks.{is_marked, marks_of}
 use Rattle.am_model.specs.declared.group.GroupName.{GroupName}
 
--- what is left to be put has its room, the marks stay, all that was put is of a route that is there, and with what is left the groups are those that are asked for
+-- what is left to put has its capacity, the marks stay, and with what is left the groups are those asked for
 abbrev pub invariant-loop-placement : goal.invariant-loop-placement
 invariant-loop-placement l = record {
   spare : vec_len l.placements ≤ l.groups.room;

@@ -5,7 +5,7 @@ use Rattle.am_board.specs.declared.insert.Placement.{Placement}
 use Rattle.am_board.proofs.insert.reserve_all.Given as goal
 use Rattle.am_board.specs.Marks.{marks_of}
 
--- no name changes, and the groups of the placements so far have the room
+-- no name changes, and the groups of the placements so far have the capacity
 abbrev pub invariant-loop-placement : goal.invariant-loop-placement
 invariant-loop-placement l = record {
   names : names_of l.groups.items ≡ names_of l.fn.groups.items;

@@ -42,7 +42,7 @@ pub returned : (config : Config) (id pass now : ℕ) (old new : kept.State) (cau
 returned config id pass now old new cause (Ok begun) none end = (none, end.0, end.1)
 returned config id pass now old new cause (Err fault) none end = (subst (λ o. IsAnswer o fault) (sym none) end.0, end.1)
 
--- ---- the causes, where the history has room
+-- ---- the causes, where the history has capacity
 
 module _ (config : Config) (s : kept.State) (now : ℕ) (t : ℕ) (at : t ≡ time (state_of s) now) (room : vec_len s.history + vec_len s.flushes + 2 ≤ config.limits.history) where
   opened : length (map flush_state s.flushes.items) ≡ vec_len s.flushes
@@ -66,14 +66,14 @@ module _ (config : Config) (s : kept.State) (now : ℕ) (t : ℕ) (at : t ≡ ti
       ∙ ap (λ b. cond (nat_le config.limits.flushes (length (map flush_state s.flushes.items)) && b) (Some TooManyOpen) None) closed
       ∙ ap (λ b. cond b (Some TooManyOpen) None) (and-false (nat_le config.limits.flushes (length (map flush_state s.flushes.items))))
 
-  -- one more may be open
+  -- one more can be open
   cause-few : vec_len s.flushes < config.limits.flushes → begin_cause config (vec_len s.history) (state_of s) (time (state_of s) now) ≡ None
   cause-few few =
       let length_is = opened in
       let below : nat_le config.limits.flushes (length (map flush_state s.flushes.items)) ≡ false = grind (arith, nat_tests, length_is) in
       by_open ∙ ap (λ b. cond (b && opens_by config (state_of s) t (taken (state_of s) t)) (Some TooManyOpen) None) below
 
-  -- as many are open as may be, and one more is to be opened
+  -- the limit of open flushes is reached, and one more is to be opened
   pub cause-many : config.limits.flushes ≤ vec_len s.flushes → opens_by config (state_of s) t (taken (state_of s) t) ≡ true → begin_cause config (vec_len s.history) (state_of s) (time (state_of s) now) ≡ Some TooManyOpen
   cause-many many opens =
       let length_is = opened in
@@ -82,7 +82,7 @@ module _ (config : Config) (s : kept.State) (now : ℕ) (t : ℕ) (at : t ≡ ti
       ∙ ap (λ b. cond (b && opens_by config (state_of s) t (taken (state_of s) t)) (Some TooManyOpen) None) reached
       ∙ ap (λ b. cond b (Some TooManyOpen) None) opens
 
-  -- memory may be refused in any case
+  -- memory can be refused in any case
   pub answer-memory : IsAnswer (begin_cause config (vec_len s.history) (state_of s) (time (state_of s) now)) NoMemory
   answer-memory =
       subst (λ o. IsAnswer o NoMemory) (sym by_open)
@@ -157,7 +157,7 @@ module _ (config : Config) (id : ℕ) (s : kept.State) (chosen : ChosenGroup) (w
           let count = ap (λ (ns : List NoticeData). length ns) is.notices ∙ length-map notified (notice_for config id (state_of s) chosen.t at_index) in
           omega (arith, p.notices.ok.0, count, few_notified config (state_of s) chosen.t at_index few)
 
--- ---- what is worked out for the group that a begin takes
+-- ---- what is computed for the group that a begin takes
 
 module _ (config : Config) (id : ℕ) (s : kept.State) (chosen : ChosenGroup) (g : Group) (takes : IsChosen config s chosen g) where
   -- the plan is for this group

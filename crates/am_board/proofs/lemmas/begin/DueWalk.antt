@@ -188,7 +188,7 @@ not_true : (b : Bool) → (b ≡ true → ⊥) → b ≡ false
 not_true true h = absurd (h refl)
 not_true false h = refl
 
--- each group that may be taken and has its key in the list has it among those that are left
+-- each group that can be taken and has its key in the list has it among those that are left
 abbrev pub AreAhead : List FlushState → ℕ → List Group → List DueKey → List DueKey → Type 0
 AreAhead fs t gs keys left = All (λ g. may_take fs t (group_state g) ≡ true → IsTrue (has_key keys (key_of g)) → IsTrue (has_key left (key_of g))) gs
 
@@ -211,7 +211,7 @@ module _ (fs : List FlushState) (t : ℕ) (gs : List Group) (keys : List DueKey)
         let later : k.due ≤ g.due = later_key k (key_of g) (behind (key_of g) (ahead j d within may has)) in
         absurd (omega (arith, later, due, late)))
 
-    -- the next key is passed, since no group that has it may be taken
+    -- the next key is passed, since no group that has it can be taken
     pub walk_passes : (rest : List DueKey) → ((q : DueKey) → is_eq (key_cmp q k) ≡ false → has_key left q ≡ true → has_key rest q ≡ true)
         → IsFree fs gs k None → AreAhead fs t gs keys left → AreAhead fs t gs keys rest
     walk_passes rest others passed ahead j d within may has =
@@ -239,16 +239,16 @@ module _ (fs : List FlushState) (t : ℕ) (gs : List Group) (keys : List DueKey)
 -- ---- the first of all groups
 
 module _ (fs : List FlushState) (t : ℕ) (gs : List Group) where
-  -- all groups that may be taken are behind a key
+  -- all groups that can be taken are behind a key
   abbrev AreBehind : DueKey → Type 0
   AreBehind k = (j : ℕ) (e : Group) → j < length gs → may_take fs t (group_state (get_or gs j e)) ≡ true → IsKeyBehind k (key_of (get_or gs j e))
 
-  -- no group may be taken
+  -- no group can be taken
   nobody : ((j : ℕ) (d : Group) → j < length gs → may_take fs t (group_state (get_or gs j d)) ≡ false) → first_of fs t (map group_state gs) ≡ None
   nobody h =
       ap (least due_cmp) (none_passes (may_take fs t) (map group_state gs) (all_states (λ g. may_take fs t g ≡ false) gs (all_to (λ g. may_take fs t (group_state g) ≡ false) gs (λ j d within. h j d within))))
 
-  -- the group that no other may be taken before
+  -- the group that no other can be taken before
   first_at : (i : ℕ) (d : Group) → IsDistinct same_name (names_of gs) → i < length gs → may_take fs t (group_state (get_or gs i d)) ≡ true
       → AreBehind (key_of (get_or gs i d)) → first_of fs t (map group_state gs) ≡ Some (group_state (get_or gs i d))
   first_at i d distinct here may ahead =

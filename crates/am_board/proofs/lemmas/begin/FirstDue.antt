@@ -19,7 +19,7 @@ later flushes t groups i j d r within next is =
     ap (λ gs. first_of flushes t (map group_state gs)) parts
     ∙ ap (λ x. least due_cmp (cond (may_take flushes t (group_state x)) (group_state (get_or groups j d) ∷ filter (may_take flushes t) (map group_state (drop i groups))) (filter (may_take flushes t) (map group_state (drop i groups))))) (sym here)
 
--- of a group that may be taken, and later ones, the lesser of it and the one of those is taken
+-- of a group that can be taken, and later ones, the lesser of it and the one of those is taken
 pub first_of-taken : (flushes : List FlushState) (t : ℕ) (groups : List Group) (i j : ℕ) (d r : Group) → j < length groups → i ≡ j + 1 → r ≡ get_or groups j r
     → may_take flushes t (group_state r) ≡ true
     → first_of flushes t (map group_state (drop j groups)) ≡ Some (lesser due_cmp (group_state (get_or groups j d)) (first_of flushes t (map group_state (drop i groups))))

@@ -61,7 +61,7 @@ made_none gs names there =
 pub is_put : (config : Config) (t : ℕ) (m : MemberState) (names : List GroupName) (old new : GroupList) (b : Bool) → b ≡ true → PutsInEach config t m names (Ok b) old new → IsPutInEach config t m names old new
 is_put config t m names old new b e h = subst (λ x. PutsInEach config t m names (Ok x) old new) e h
 
--- ---- an alert is where it stood, as the label sets say
+-- ---- an alert is where it was, as the label sets say
 
 index_mapped : (labels : List Label) (ms : List Member) → index_of labels ms ≡ position (same_label_set labels) (map labels_of ms)
 index_mapped labels ms = sym (position-map labels_of (same_label_set labels) ms)

@@ -1,4 +1,4 @@
--- The indexes that were found for placements stay theirs, whatever room is made and whatever group is added.
+-- The indexes that were found for placements stay theirs, whatever capacity is made and whatever group is added.
 use Rattle.std.proofs.Common.{◌≡◌, ◌∙◌, ℕ, ◌<◌, ◌&&◌, false, Option, Some, None, List, [], ◌∷◌, map, length, refl, sym, ap, subst, inl, inr, arith}
 use Rattle.std.specs.Prelude.{IfSome, ◌==◌}
 use Rattle.std.specs.List.{AllByRecursion, IsDistinct, position}
@@ -56,7 +56,7 @@ found_rest x old new added rest others found =
     all_from Is rest
     (all-both (λ p. (p.name.route == x.route) ≡ false) Was Is (λ p other at. at ∙ sym (found_more x old new added p.name other)) rest others (all_to Was rest found))
 
--- the room in groups of other routes stays
+-- the capacity in groups of other routes stays
 pub room_rest : (x : GroupName) (old new : List Group) → ((name : GroupName) → (name.route == x.route) ≡ false → HasRoom 1 name old → HasRoom 1 name new) → (rest : List Placement) → AllByRecursion (λ p. (p.name.route == x.route) ≡ false) rest → HaveRoom old rest → HaveRoom new rest
 room_rest x old new kept rest others had =
     let Was : Placement → Type 0 = λ p. HasRoom 1 p.name old in

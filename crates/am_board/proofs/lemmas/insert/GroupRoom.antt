@@ -1,4 +1,4 @@
--- The groups as they are kept: a change of one, and room in the one of a name.
+-- The groups as they are kept: a change of one, and capacity in the one of a name.
 use Rattle.std.proofs.Common.{◌≡◌, ℕ, zero, suc, ◌<◌, false, true≢false, Some, None, List, [], ◌∷◌, length, get_or, get_or-set_same, slice_get, set, sym, ap, ◌∙◌, subst}
 use Rattle.std.specs.List.{position, AllByRecursion, IsDistinct}
 use Rattle.std.specs.Map.{values_of}
@@ -80,7 +80,7 @@ module _ (name : GroupName) (more : ℕ) where
       let none = position-map (λ (g : Group). g.name) (same_name name) gs ∙ at in
       room_none gs (none-find (same_name name) (names_of gs) (find-no_position (same_name name) (names_of gs) none))
 
-  -- the only group of the name has the room
+  -- the only group of the name has the capacity
   pub room_reserved : (old new : List Group) (i : ℕ) → names_of new ≡ names_of old → IsDistinct same_name (names_of old) → position (λ g. same_name name g.name) old ≡ Some i → ((d : Group) → Fits more (get_or new i d)) → HasRoom more name new
   room_reserved old new i named distinct at fits =
       let index = position-map (λ (g : Group). g.name) (same_name name) old ∙ at in

@@ -1,4 +1,4 @@
--- States that are one but for the order of the rows of the log: each call is answered alike, and leads to such states again.
+-- States that are one except for the order of the rows of the log: each call is answered alike, and leads to such states again.
 use Rattle.std.proofs.Common.{◌≡◌, ℕ, Bool, true, false, ◌&&◌, nat_le, Option, Some, None, List, [], ◌∷◌, length, fold, map, filter, count_by, refl, sym, ap, ◌∙◌, subst, if◌then◌else◌}
 use Rattle.std.specs.Prelude.{IsPermutation}
 use Rattle.std.specs.List.{IsDistinct}

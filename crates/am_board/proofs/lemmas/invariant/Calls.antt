@@ -57,7 +57,7 @@ seen b s = seen_with b (whole_with b s)
 abbrev pub IsWithin : Config → State → kept.State → Type 0
 IsWithin config after s = IsFew config after × (vec_len s.flushes ≤ config.limits.flushes) × (vec_len s.history + vec_len s.flushes ≤ config.limits.history)
 
--- a history that isn't full has room for so many records
+-- a history that isn't full has capacity for so many records
 pub room_of : (config : Config) (records : ℕ) (s : State) (more : ℕ) {X : Type 0} (full other : Option X) → (if is_full config records s more then full else other) ≡ None → (full ≡ None → ⊥)
     → (records + length s.flushes + more ≤ config.limits.history) × (other ≡ None)
 room_of config records s more full other none apart =
@@ -123,7 +123,7 @@ fresh_too A P F Q (Err fault) h = tt
 
 -- ---- notes
 
--- a note of an asked integration is accepted only where the history has room
+-- a note of an asked integration is accepted only where the history has capacity
 notified_room : (config : Config) (records : ℕ) (s : State) (outcome : Option Outcome) (o : Option NotifiedState) → notified_cause config records s outcome o ≡ None → records + length s.flushes + 1 ≤ config.limits.history
 notified_room config records s outcome None e = absurd (cc)
 notified_room config records s outcome (Some a) none =
@@ -244,7 +244,7 @@ module _ (b : Inside) (sound : IsSound b) (now : BoardData) (view_is : seen b b.
   pub handed_counted : b.handed ≡ length now.handed
   handed_counted = sound.counted ∙ ap (λ (d : BoardData). length d.handed) view_is
 
-  -- no more groups are shown than there may be
+  -- no more groups are shown than the limit allows
   pub few_views : {E : Type 0} (result : Result (Vec GroupView Global) E) → IfOk result (λ groups. groups.items ≡ group_views (state_of b.state)) → IfOk result (λ groups. length groups.items ≤ now.config.limits.groups)
   few_views (Ok groups) shown =
       let s : State = state_of b.state in

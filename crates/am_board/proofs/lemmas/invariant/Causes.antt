@@ -6,11 +6,11 @@ use Rattle.am_model.specs.declared.fault.Fault.TheVariants.{NoMemory, TooManyAle
 use Rattle.am_model.specs.declared.fault.NoteFault.{NoteFault}
 use Rattle.am_model.specs.declared.fault.NoteFault.TheVariants as note
 
--- an answer that is one of two, of which the second is want of memory
+-- an answer that is one of two, of which the second is lack of memory
 one_of_two : (cause f : Fault) → (f ≡ cause) ⊎ (f ≡ NoMemory) → f ≢ NoMemory → Some cause ≡ Some f
 one_of_two cause f answer ne = ⊎_elim (λ (e : f ≡ cause). ap (λ (x : Fault). Some x) (sym e)) (λ (e : f ≡ NoMemory). absurd (ne e)) answer
 
--- a fault other than want of memory is the first cause
+-- a fault other than lack of memory is the first cause
 pub answer_is_cause : (cause : Option Fault) (f : Fault) → IsAnswer cause f → f ≢ NoMemory → cause ≡ Some f
 answer_is_cause None f answer ne = absurd (ne answer)
 answer_is_cause (Some NoMemory) f answer ne = absurd (ne answer)

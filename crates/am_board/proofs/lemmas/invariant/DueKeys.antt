@@ -66,7 +66,7 @@ or_nothing : (b : Bool) → (b || false) ≡ b
 or_nothing true = refl
 or_nothing false = refl
 
--- what was there is there, beside one more
+-- what was there is there, with one more
 pub had_or : (b had : Bool) → had ≡ true → cond b true had ≡ true
 had_or true had h = refl
 had_or false had h = h

@@ -117,7 +117,7 @@ removed_keeps keys i key other at apart =
     let there = value_at keys i key at in
     others_stay keys i key other there.1 (ap (λ (k : DueKey). is_eq (key_cmp other k)) (sym there.0) ∙ apart)
 
--- a key was there, so that it went
+-- a key was there, so it went
 pub removed_all : (o : Option DueKey) (old new : List DueKey) (i : ℕ) (d : DueKey) → o ≡ Some (get_or old i d) → OnSome o (new ≡ remove old i) → new ≡ remove old i
 removed_all None old new i d is went = absurd (true≢false (sym (ap is_some is)))
 removed_all (Some k) old new i d is went = went

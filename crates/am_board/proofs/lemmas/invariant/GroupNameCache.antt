@@ -57,7 +57,7 @@ module _ (config : Config) (s : State) where
   kept_after (Note now number integration outcome) kept e were = subst (λ known. AreKept config known kept) (sym (known_others config s (Note now number integration outcome) refl refl refl).0) were
 
 module _ (alert : AlertData) (known : List AlertData) where
-  -- the alert is where the one with its labels stood, or last
+  -- the alert is where the one with its labels was, or last
   pub put_at : (index : Option ℕ) (n : ℕ) (a : AlertData) → index ≡ position (same_alert alert) known → n ≡ unwrap_or index (length known) → IsAt (upsert same_alert alert known) n a → a ≡ alert
   put_at None n a e at is =
       is.1 ∙ (ap (λ xs. get_or xs n a) (put_new same_alert alert known (sym e)) ∙ get_or_push known alert a n (sym at))

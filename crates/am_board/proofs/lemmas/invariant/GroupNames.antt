@@ -1,4 +1,4 @@
--- The names of groups, and the room in them, stay through what is done to one of them.
+-- The names of groups, and the capacity in them, stay through what is done to one of them.
 use Rattle.std.proofs.Common.{◌≡◌, ◌≢◌, ℕ, ◌<◌, ◌≤◌, true, false, eqb, List, [], ◌∷◌, ◌++◌, length, map, get_or, take, refl, sym, inl, inr, ap, ◌∙◌, subst, arith, eqb-true, get_or-set_same, get_or-set_other}
 use Rattle.std.proofs.lemmas.Bool.{eqb-false}
 use Rattle.std.proofs.Math.ListN.{set, length-set}

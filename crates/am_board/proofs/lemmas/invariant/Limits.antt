@@ -1,12 +1,14 @@
 -- No accepted call passes a limit, and each cause of a refusal is one at the state after the history.
-use Rattle.std.proofs.Common.{◌≡◌, ℕ, ◌+◌, ◌≤◌, true, false, ◌&&◌, nat_le, Option, Some, None, List, [], ◌∷◌, ◌++◌, length, vec_len, refl, ap, ◌∙◌, subst, arith, if◌then◌else◌}
+use Rattle.std.proofs.Common.{◌≡◌, ◌≢◌, ◌⊎◌, ℕ, ◌+◌, ◌≤◌, true, false, ◌&&◌, nat_le, Option, Some, None, Result, Ok, Err, List, [], ◌∷◌, ◌++◌, length, vec_len, refl, sym, ap, ◌∙◌, subst, ⊎_elim, arith, if◌then◌else◌}
+use Rattle.std.specs.Prelude.{IfErr}
 use Rattle.std.specs.Option.{option_or}
 use Rattle.std.proofs.lemmas.Bool.Decides.{nat_tests}
 use Rattle.std.proofs.lemmas.List.{length-append}
 use Rattle.am_alerts.specs.AlertData.{AlertData}
 use Rattle.am_mute.specs.Silence.{SilenceData}
 use Rattle.am_board.specs.declared.board.Board.TheInside.{Inside}
-use Rattle.am_model.specs.declared.fault.Fault.TheVariants.{HistoryFull, TooManyAlerts, TooManySilences, TooManyOpen}
+use Rattle.am_model.specs.declared.fault.Fault.{Fault}
+use Rattle.am_model.specs.declared.fault.Fault.TheVariants.{NoMemory, HistoryFull, TooManyAlerts, TooManyGroups, TooManySilences, TooManyOpen}
 use Rattle.am_model.specs.declared.record.Call.{Call}
 use Rattle.am_model.specs.declared.record.Call.TheVariants.{Insert, Begin, Maintain, Forget, Load}
 use Rattle.am_model.specs.declared.fault.LoadFault.{LoadFault}
@@ -23,6 +25,7 @@ use Rattle.am_board.specs.declared.state.State as kept
 use Rattle.am_board.specs.declared.begin.Begun.{Begun}
 use Rattle.am_model.specs.declared.config.Config.{Config}
 use Rattle.am_model.specs.declared.config.Integration.{Integration}
+use Rattle.am_model.specs.declared.config.Limits.{Limits}
 use Rattle.am_board.specs.Board.{IsSound, whole}
 use Rattle.am_model.specs.Begin.{taken, notified_of, flush_notifying, after_notifying, after_taking}
 use Rattle.am_model.specs.Causes.{is_alert_too_many, is_silence_too_many, insert_cause, silence_cause, begin_cause, maintain_cause, forget_cause, load_cause, row_cause, is_full, notifies_some, opens_by}
@@ -33,14 +36,15 @@ use Rattle.am_model.specs.Insert.{same_alert}
 use Rattle.am_model.specs.Replay.{replay, after_call}
 use Rattle.am_model.specs.Maintenance.{same_silence}
 use Rattle.am_model.specs.State.{GroupState, State, time}
-use Rattle.am_board.specs.Step.{AppliesCall}
+use Rattle.am_board.specs.Step.{AppliesCall, IsAnswer, IsCaused}
 use Rattle.am_board.proofs.lemmas.invariant.Agreeing.{insert_cause-agrees, silence_cause-agrees, maintain_cause-agrees, forget_cause-agrees, load_cause-agrees, begin_cause-agrees}
 use Rattle.am_model.proofs.legal.FewGroups.{few_inserted}
 use Rattle.am_model.proofs.legal.FewKnown.{fits-upsert, neither_cause}
+use Rattle.am_model.proofs.legal.NeverWait.{flushes_never_wait}
 use Rattle.am_board.proofs.lemmas.invariant.Calls.{IsWithin, opened_then, room_of, seen}
 use Rattle.am_board.proofs.lemmas.invariant.Sound.{IsFew, few_after, opened_now, kept_counted, consistent_now}
 
--- a call that opens no flush passes no limit, where the history has room for one record more
+-- a call that opens no flush passes no limit, where the history has capacity for one record more
 keeps_within : (b : Inside) (sound : IsSound b) (pass : ℕ) (call : Call) (reply : Reply) (new : kept.State) → AppliesCall b.config b.id (entry pass call reply) b.state new
     → length (after_call b.config (state_of b.state) call).flushes ≤ length (state_of b.state).flushes
     → vec_len b.state.history + length (state_of b.state).flushes + 1 ≤ b.config.limits.history
@@ -98,7 +102,7 @@ module _ (b : Inside) (sound : IsSound b) (pass now : ℕ) (new : kept.State) wh
       (room_of b.config (vec_len b.state.history) s 1 (Some load.HistoryFull) None (second_cause (row_cause b.config (time s now) row) full none) (λ h. absurd (cc))).0
       (few_after b sound (Load now row) refl refl)
 
--- ---- a begin opens a flush only where one more may be open
+-- ---- a begin opens a flush only where one more can be open
 
 fits_notifying : (config : Config) (s : State) (t : ℕ) (g : GroupState) (notified : List (ℕ × Integration)) → length s.flushes ≤ config.limits.flushes
     → (if nat_le config.limits.flushes (length s.flushes) && notifies_some notified then Some TooManyOpen else None) ≡ None
@@ -129,6 +133,16 @@ begin_within b sound pass now new x none accepts =
     let fits = fits_taking b.config s t (taken s t) few parts.1 in
     let opened = opened_then b.config b.id (entry pass (Begin now) (reply_of x)) b.state new accepts in
     (few_after b sound (Begin now) refl refl, omega (arith, opened, fits.0), omega (arith, opened, fits.1, parts.0, accepts.records))
+
+-- a fault is `TooManyOpen` only where that is the first cause
+not_open : (cause : Option Fault) (fault : Fault) → cause ≢ Some TooManyOpen → IsAnswer cause fault → fault ≢ TooManyOpen
+not_open None fault never is waits = absurd (cc)
+not_open (Some NoMemory) fault never is waits = absurd (cc)
+not_open (Some TooManyAlerts) fault never is waits = absurd (cc)
+not_open (Some TooManyGroups) fault never is waits = ⊎_elim (λ (e : fault ≡ TooManyGroups). absurd (cc)) (λ (e : fault ≡ NoMemory). absurd (cc)) is
+not_open (Some TooManySilences) fault never is waits = absurd (cc)
+not_open (Some TooManyOpen) fault never is waits = never refl
+not_open (Some HistoryFull) fault never is waits = absurd (cc)
 
 -- a cause at the state that is kept is one at the state after the history
 module _ (b : Inside) (sound : IsSound b) (now : BoardData) (view_is : seen b b.state ≡ now) where
@@ -168,3 +182,15 @@ module _ (b : Inside) (sound : IsSound b) (now : BoardData) (view_is : seen b b.
   silence_caused silence =
       subst (λ (d : BoardData). silence_cause b.config (vec_len b.state.history) (state_of b.state) silence ≡ silence_cause d.config (records_at d) (state_at d) silence) view_is
       (silence_cause-agrees (state_of b.state) replayed sound.agrees b.config (vec_len b.state.history) silence ∙ ap (λ n. silence_cause b.config n replayed silence) (kept_counted b sound))
+
+  -- where as many flushes may be open as there may be groups, no begin waits for a finish
+  pub begin_unhindered : {T : Type 0} (at : ℕ) (result : Result T Fault) → IsCaused (begin_cause now.config (records_at now) (state_at now) (time (state_at now) at)) result
+      → now.config.limits.groups ≤ now.config.limits.flushes → IfErr result (λ fault. fault ≢ TooManyOpen)
+  begin_unhindered at (Ok x) caused most = tt
+  begin_unhindered at (Err fault) caused most =
+      let s : State = state_of b.state in
+      let limits : b.config.limits ≡ now.config.limits = ap (λ (d : BoardData). d.config.limits) view_is in
+      let own : b.config.limits.groups ≤ b.config.limits.flushes = subst (λ (l : Limits). l.groups ≤ l.flushes) (sym limits) most in
+      not_open (begin_cause now.config (records_at now) (state_at now) (time (state_at now) at)) fault
+      (λ waits. flushes_never_wait b.config (vec_len b.state.history) s (time s at) (consistent_now b sound) sound.groups own (begin_caused at ∙ waits))
+      caused

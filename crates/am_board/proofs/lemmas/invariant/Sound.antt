@@ -82,7 +82,7 @@ module _ (b : Inside) (sound : IsSound b) where
   pub all_counted : b.handed + vec_len b.state.history ≡ length (whole b)
   all_counted = omega (arith, sound.counted, counted, length-append b.past.items b.state.history.items)
 
-  -- no more calls were accepted than may be
+  -- no more calls were accepted than can be
   pub few_calls : length (whole b) ≤ MAX_CALLS
   few_calls = omega (arith, all_counted, sound.few, sound.kept, sound.limits.history.1)
 

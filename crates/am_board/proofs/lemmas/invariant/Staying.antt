@@ -1,4 +1,4 @@
--- Calls that are refused, and what each accepted call does to a state's room and history.
+-- Calls that are refused, and what each accepted call does to a state's capacity and history.
 use Rattle.std.proofs.Common.{◌≡◌, ℕ, ◌+◌, ◌≤◌, false, length, map, Option, Some, None, Ok, Err, refl, inl, vec_len, arith, nat_lt, sym, ap, ◌∙◌, subst}
 use Rattle.std.proofs.lemmas.Bool.Decides.{nat_tests}
 use Rattle.std.proofs.lemmas.List.{length-map}
@@ -13,7 +13,7 @@ use Rattle.am_board.specs.Step.{IsAnswer, StateInvariant, LeavesUnchanged}
 use Rattle.std.proofs.lemmas.List.Sorted.{IsPermutation-refl}
 use Rattle.am_model.specs.State.{State}
 
--- the first cause may be answered
+-- the first cause can be answered
 pub cause_answered : (fault : Fault) → IsAnswer (Some fault) fault
 cause_answered NoMemory = refl
 cause_answered TooManyAlerts = refl
@@ -23,13 +23,13 @@ cause_answered TooManyOpen = inl refl
 cause_answered HistoryFull = refl
 
 module _ (config : Config) (s : kept.State) (more : ℕ) (counted : vec_len s.flushes ≡ length s.flushes.items) where
-  -- there is room
+  -- there is capacity
   pub not_full : vec_len s.history + vec_len s.flushes + more ≤ config.limits.history → is_full config (vec_len s.history) (state_of s) more ≡ false
   not_full h =
       let m : length (map flush_state s.flushes.items) ≡ length s.flushes.items = length-map s.flushes.items flush_state in
       grind (arith, nat_tests)
 
--- a history has room
+-- a history has capacity
 pub has_room : (config : Config) (s : kept.State) → vec_len s.history + vec_len s.flushes + 1 ≤ config.limits.history → is_full config (vec_len s.history) (state_of s) 1 ≡ false
 has_room config s room =
     let count : length (map flush_state s.flushes.items) ≡ vec_len s.flushes = length-map s.flushes.items flush_state ∙ sym s.flushes.ok.0 in

@@ -19,7 +19,7 @@ module _ (b : Inside) (sound : IsSound b) (now : BoardData) (view_is : seen b b.
   calls_counted : b.handed + vec_len b.state.history ≡ length now.history
   calls_counted = all_counted b sound ∙ ap (λ (d : BoardData). length d.history) view_is
 
-  -- more records would be handed out than may be
+  -- more records would be handed out than can be
   pub too_many : MAX_HANDED < b.handed + vec_len b.state.history → take_cause now ≡ Some TooManyCalls
   too_many more =
       let is : nat_lt MAX_HANDED (length now.history) ≡ true = let calls = calls_counted in grind (arith, nat_tests, calls, more) in
@@ -38,7 +38,7 @@ module _ (b : Inside) (sound : IsSound b) (now : BoardData) (view_is : seen b b.
       let same : (state_of b.state).flushes ≡ (replay b.config (whole b)).flushes = ap (λ (s : State). s.flushes) sound.agrees.rest in
       opened_now b.state ∙ ap (λ (fs : List FlushState). length fs) (same ∙ before)
 
-  -- the kept records are gone, there is room for the finish of each open flush, and what was handed out has them at its end
+  -- the kept records are gone, there is capacity for the finish of each open flush, and what was handed out has them at its end
   module _ (kept : Vec Record Global) (past : GhostList Record) (none : kept.items ≡ []) (past_is : past.items ≡ whole b) where
     same_whole : past.items ++ kept.items ≡ whole b
     same_whole = (λ i. past_is i ++ none i) ∙ append-nil (whole b)

@@ -1,4 +1,4 @@
--- A row without a cause against it may be loaded.
+-- A row without a cause against it can be loaded.
 use Rattle.std.proofs.Common.{◌≡◌, ℕ, true, false, not, ◌&&◌, nat_lt, nat_le, None, Some, refl, arith, if◌then◌else◌}
 use Rattle.std.proofs.lemmas.Bool.Decides.{nat_tests}
 use Rattle.am_model.specs.Causes.{row_cause}

@@ -1,6 +1,6 @@
-use Rattle.std.proofs.Common.{◌∙◌, ◌<◌, Some, length, map, sym, ap}
+use Rattle.std.proofs.Common.{◌≡◌, ◌∙◌, ◌<◌, Some, is_some, length, map, sym, ap, true≢false}
 use Rattle.std.specs.Option.{option_map}
-use Rattle.am_model.specs.State.{GroupState}
+use Rattle.am_model.specs.State.{GroupState, time}
 use Rattle.am_model.specs.declared.preview.Preview.{Preview}
 use Rattle.am_model.specs.look_back.Preview.{preview_at, preview_on, reason_of}
 use Rattle.am_board.specs.Refinement.{flush_state, group_state, state_of}
@@ -21,19 +21,30 @@ pub of-requires-clause-apart : goal.of-requires-clause-apart
 of-requires-clause-apart c =
     members-apart c.args.state.now.groups.items c.in-Some.index c.at-group.result.now c.requires.good.consistent.members (within c) c.at-group.ensures
 
-pub returns-in_default : goal.returns-in_default
-returns-in_default c =
+pub returns-in_default-clause-preview : goal.returns-in_default-clause-preview
+returns-in_default-clause-preview c =
     let s = state_of c.args.state.now in
     let config = c.args.config.now in
     sym (ap (λ t. preview_at config s t) (sym c.time-t.ensures)
     ∙ ap (option_map (preview_on config s c.time-t.result (reason_of config s c.time-t.result))) (c.in_default.ensures.first (map flush_state c.args.state.now.flushes.items) c.requires.good.marked))
 
-pub returns : goal.returns
-returns c =
+-- the preview of the group that is due
+due : (c : After-at-group) → preview_at c.args.config.now (state_of c.args.state.now) (time (state_of c.args.state.now) c.args.now)
+    ≡ Some (preview_on c.args.config.now (state_of c.args.state.now) c.time-t.result (reason_of c.args.config.now (state_of c.args.state.now) c.time-t.result) (group_state c.at-group.result.now))
+due c =
     let s = state_of c.args.state.now in
     let config = c.args.config.now in
     let g : Group = c.at-group.result.now in
     let on : GroupState → Preview = preview_on config s c.time-t.result (reason_of config s c.time-t.result) in
-    ap (λ (p : Preview). Some p) (c.in_ok-found.ensures.preview ∙ ap (λ (x : Group). on (group_state x)) c.at-group.ensures)
-    ∙ sym (ap (λ t. preview_at config s t) (sym c.time-t.ensures)
-    ∙ ap (option_map on) (c.in-Some.ensures.first (map flush_state c.args.state.now.flushes.items) c.requires.good.marked g))
+    ap (λ t. preview_at config s t) (sym c.time-t.ensures)
+    ∙ (ap (option_map on) (c.in-Some.ensures.first (map flush_state c.args.state.now.flushes.items) c.requires.good.marked g)
+    ∙ ap (λ (x : Group). Some (on (group_state x))) (sym c.at-group.ensures))
+
+pub returns-in_err-found-clause-answers : goal.returns-in_err-found-clause-answers
+returns-in_err-found-clause-answers c none =
+    absurd (true≢false (sym (ap is_some (due (goal.at.returns-in_err-found-clause-answers c).After-at-group)) ∙ ap is_some none))
+
+pub returns-clause-preview : goal.returns-clause-preview
+returns-clause-preview c =
+    ap (λ (p : Preview). Some p) c.in_ok-found.ensures.preview
+    ∙ sym (due (goal.at.returns-clause-preview c).After-at-group)

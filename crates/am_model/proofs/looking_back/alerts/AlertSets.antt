@@ -239,7 +239,7 @@ module _ (t : ℕ) where
         (λ j. resolved (cond (not (muted (labels-copied t m.alert j))) (copied t m.alert ∷ xs) xs))
         ∙ one-resolved m.alert xs (heard (map (λ n. n.alert) ms)) (copied-resolved ms) (is_resolved m.alert t) refl (muted m.alert.labels)
 
--- what is copied is the same but for its order, also where the route is muted
+-- what is copied is the same except for its order, also where the route is muted
 unless-permutation : (o : Option ℕ) (xs ys : List AlertData) → IsPermutation xs ys → IsPermutation (unless o xs) (unless o ys)
 unless-permutation None xs ys h = h
 unless-permutation (Some until) xs ys h = IsPermutation-refl []

@@ -54,7 +54,7 @@ module _ (config : Config) (name : GroupName) (number : ℕ) where
       later true h = refl
       later false h = h
 
-  -- so that no record takes the group
+  -- then no record takes the group
   not-taken : (r : Record) (past : List Record) → IsOneFlushAtATime r past → begins_group name (begin_of number past) ≡ true → has_finished number past ≡ false → takes name r.reply ≡ false
   not-taken r past one begun unfinished = by (takes name r.reply) refl
     where
@@ -85,7 +85,7 @@ module _ (config : Config) (name : GroupName) (number : ℕ) where
         either true free rest = ap (λ b. b && is_resolved m.alert (time_at (r ∷ past))) free
         either false free rest = rest
 
-    -- so that no finish takes the alert out
+    -- then no finish takes the alert out
     none-removed : (past : List Record) (c : Call) → ((n : ℕ) → resolved_at_begin name m.alert (begin_since m.alert.labels n past) ≡ false) → finish_removes name m.alert past c ≡ false
     none-removed past (Insert now alert) h = refl
     none-removed past (Silence now id matchers start end) h = refl

@@ -109,7 +109,7 @@ noted_past number i past a (n ∷ ns) found =
       | false ↦ λ other e. noted_past number i past a ns e
     ] refl found
 
--- one that may be noted wasn't noted
+-- one that can be noted wasn't noted
 unnoted_past : (config : Config) (inserts i : ℕ) (outcome : Option Outcome) (past : List Record) (f : FlushState) → IsOpened config inserts past f → may_note i outcome f ≡ true → was_noted f.number i past ≡ false
 unnoted_past config inserts i outcome past f o may = by (notified_by f i) refl may
   where

@@ -74,7 +74,7 @@ module _ (config : Config) (name : GroupName) (t : ℕ) (past : List Record) (fi
   with-reasons false is =
       λ j. map (λ i. i.0) (filter (λ (i : ℕ × Integration). needed-notifies (its_entry i) firing resolved i.1.send_resolved repeat t j) is)
 
--- the same where the route may be muted
+-- the same where the route can be muted
 module _ (config : Config) (name : GroupName) (t : ℕ) (past : List Record) where
   abbrev firing_then : List (List Label)
   firing_then = firing_in config name t past

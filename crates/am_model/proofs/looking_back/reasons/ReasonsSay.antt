@@ -250,7 +250,7 @@ decides NothingFiring = λ o firing resolved send_resolved repeat t (nil, left, 
 decides (NotYet from) = λ o firing resolved send_resolved repeat t. decides-not_yet o firing resolved send_resolved repeat t from
 decides (RouteMuted until) = λ o firing resolved send_resolved repeat t never. absurd never
 
--- where the route may be muted
+-- where the route can be muted
 says-where : (muted : Option ℕ) (reason : Reason) (o : Option RowView) (firing resolved : List (List Label)) (send_resolved : Bool) (repeat t : ℕ)
     → (SaysWhere muted reason o firing resolved send_resolved repeat t → reason_where muted (decided o firing resolved send_resolved repeat t) ≡ reason)
     × (reason_where muted (decided o firing resolved send_resolved repeat t) ≡ reason → SaysWhere muted reason o firing resolved send_resolved repeat t)

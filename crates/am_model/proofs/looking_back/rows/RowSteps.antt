@@ -49,7 +49,7 @@ pub record IsFoundBy (config : Config) (past : List Record) (f : FlushState) : T
   pub row : (t integration : ℕ) → row_of_begin config t integration (begin_of f.number past) ≡ Some (row_at config t f integration)
   pub group : (name : GroupName) → begins_group name (begin_of f.number past) ≡ same_name name f.group
 
--- what looking back finds in the log is what a state has, and so is what it finds of the known alerts and of the silences, but for those
+-- what looking back finds in the log is what a state has, and so is what it finds of the known alerts and of the silences, except for those
 -- that are resolved or over, which a state may have forgotten
 pub record FindsRows (config : Config) (s : State) (past : List Record) : Type 0 where
   pub rows : (name : GroupName) (integration : ℕ) → find (is_entry_of name integration) s.rows ≡ entry_in config name integration past

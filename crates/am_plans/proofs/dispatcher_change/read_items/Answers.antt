@@ -32,7 +32,7 @@ returns-clause-decoded c =
       is = sorted_items until items sorted c.sort_unstable_by.ensures.permutation c.sort_unstable_by.ensures.sorted (λ a r f' k. search rules) may ∙ ap (in_order at_cmp) all.is;
     }
 
--- what is given may be added to what was there first, which is nothing
+-- what is given can be added to what was there first, which is nothing
 from_none : (until : ℕ) (first : List DispatcherChangeItem) (items : List ItemData) → first ≡ [] → may_all_follow until [] items ≡ true
     → may_all_follow until (map item_of first) items ≡ true
 from_none until first items none may = subst (λ (bs : List DispatcherChangeItem). may_all_follow until (map item_of bs) items ≡ true) (sym none) may

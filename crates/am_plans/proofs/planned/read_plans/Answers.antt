@@ -33,7 +33,7 @@ returns-in_err-silences-clause-refused c =
     handed_on (ArePlannedWithoutRegexes c.args.top.now.mode (members_view c.args.top.now.members)) c.from_residual-in_err-silences.result c.in_err-silences.field-0.0 c.from_residual-in_err-silences.ensures.1
     (λ refusal plans decoded. c.in_err-silences.ensures.refused refusal decoded.0.silences (decoded.0.silences_are, decoded.1))
 
--- what is given may be planned
+-- what is given can be planned
 pub returns-in_err-in_order-clause-refused : goal.returns-in_err-in_order-clause-refused
 returns-in_err-in_order-clause-refused c =
     let d = c.args.top.now.mode in

@@ -5,7 +5,7 @@ use Rattle.am_rehearsal.specs.Faults.{fault_of_call}
 use Rattle.am_rehearsal.specs.declared.play.PlayFault.TheVariants as play
 use Rattle.am_rehearsal.proofs.play.full_or_memory.Goals as goal
 
--- all but want of memory is a limit
+-- all but lack of memory is a limit
 limit_reached : (fault : Fault) → (fault ≡ NoMemory → ⊥) → play.Full ≡ fault_of_call fault
 limit_reached NoMemory other = absurd (other refl)
 limit_reached TooManyAlerts other = refl

@@ -2,6 +2,6 @@ use Rattle.std.proofs.Common.{None}
 use Rattle.am_rehearsal.specs.Playing.{ArePlayed}
 use Rattle.am_rehearsal.proofs.playing.play_parts.Given as goal
 
--- the parts so far are played
+-- the parts so far run
 abbrev pub invariant-loop-part : goal.invariant-loop-part
 invariant-loop-part g l = ArePlayed l.maintain l.outages None l.yielded l.played.items

@@ -1,4 +1,4 @@
--- The state of a lane may be handed to a thread, and the scripts may be shared by the couriers.
+-- The state of a lane can be handed to a thread, and the scripts can be shared by the couriers.
 use denote.Param.Send.{IsSend, IsSync}
 use Rattle.am_desk.proofs.Crossing.{every, silence_send}
 use Rattle.am_alerts.proofs.alert.Alert.TheSendSync as alert

@@ -40,7 +40,7 @@ abbrev IsNoted : Terms → ℕ → List Record → List Record → Call → List
 IsNoted t pass history before c cs notes =
     (r : Record) × (rs : List Record) × (notes ≡ r ∷ rs) × (r.call ≡ c) × AreNotesWithRoom t pass history (before ++ r ∷ []) cs rs
 
--- there was no room for the first of these notes, and the others are noted
+-- there was no capacity for the first of these notes, and the others are noted
 abbrev IsLeft : Terms → ℕ → List Record → List Record → List Call → List Record → Type 0
 IsLeft t pass history before cs notes = AtSomePrefix pass history before (FailsHistoryFull t) × AreNotesWithRoom t pass history before cs notes
 
@@ -129,13 +129,13 @@ full_ours : (ours : Bool) (cause : Option NoteFault) → (if ours then cause els
 full_ours true cause e = e
 full_ours false cause e = absurd (cc)
 
--- a note that was refused for it had no room
+-- a note that was refused for it had no capacity
 pub had_no_room : (t : Terms) (ticket : TicketData) (index : ℕ) (h : List Record) → cause_of_note t ticket index h ≡ Some note.HistoryFull → FailsHistoryFull t h
 had_no_room t ticket index h why =
     let f = flush_numbered (replay t.config h).flushes ticket.number in
     full_flush t.config (length h) (replay t.config h) ticket index f (full_ours _ (flush_cause t.config (length h) (replay t.config h) ticket index f) why)
 
--- a note for which there was no room
+-- a note for which there was no capacity
 pub note_left : (t : Terms) (p q : Seen) (ticket : TicketData) (index : ℕ) (c : Call) → Observes t p q → cause_of_note t ticket index q.log ≡ Some note.HistoryFull → Notes t (c ∷ []) p q
 note_left t p q ticket index c looks why =
     record {

@@ -74,7 +74,7 @@ rightly_more t at front xs ys found then =
 not_requested : (flush : Bool) → flush ≡ false → flush ≡ true → ⊥
 not_requested flush unset set = true≢false (sym set ∙ unset)
 
--- an accepted begin leaves a record, for which there was room
+-- an accepted begin leaves a record, for which there was capacity
 pub begin_grows : (t : Terms) (at : ℕ) (p q : Seen) (r : Record) → Called t p (λ h. cause_of_begin t at h ≡ None) r q → Grows t p q
 begin_grows t at p q r c =
     let room = (room_of t.config (length c.found) (replay t.config c.found) 2 (Some fault.HistoryFull) _ c.allowed (λ h. absurd (cc))).0 in
@@ -94,7 +94,7 @@ begins_none t flush at p q ts us none same made =
       unrecorded = subst (λ (xs : List TicketData). All IsUnrecorded ts → All IsUnrecorded xs) (sym same) (λ all. all);
     }
 
--- as many flushes are open as may be
+-- the limit of open flushes is reached
 pub begins_full : (t : Terms) (at : ℕ) (p q : Seen) (ts us : List TicketData) → us ≡ ts → Observes t p q → cause_of_begin t at q.log ≡ Some fault.TooManyOpen → Begins t true false at p q ts us
 begins_full t at p q ts us same looks why =
     record {

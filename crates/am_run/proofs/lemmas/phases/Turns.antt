@@ -113,7 +113,7 @@ finish_each at reports (t ∷ ts) fresh =
     ∙ ap (λ (cs : List Call). call.Finish (last_end at reported) t.number (outcomes_reported reported) ∷ cs)
     (finish_each at reports ts (All-rest IsUnrecorded t ts (t ∷ ts) refl fresh))
 
--- the pass finished these tickets but for those that are left
+-- the pass finished these tickets except for those that are left
 pub record FinishesSoFar (at : ℕ) (reports : List Report) (ts left : List TicketData) (p q : Seen) : Type 0 where
   pub finishes : List Record
   pub made : MadeRecords finishes p q

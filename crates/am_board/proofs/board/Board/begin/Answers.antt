@@ -3,7 +3,7 @@ use Rattle.std.specs.Prelude.{IfOk}
 use Rattle.am_model.specs.declared.record.Call.TheVariants.{Begin}
 use Rattle.am_board.specs.History.{BoardData, reply_of, IsFresh}
 use Rattle.am_board.proofs.lemmas.invariant.Calls.{recorded, returned_now, refused, sound_again, caused_too, fresh_too, rows_timely}
-use Rattle.am_board.proofs.lemmas.invariant.Limits.{begin_within, begin_caused}
+use Rattle.am_board.proofs.lemmas.invariant.Limits.{begin_within, begin_caused, begin_unhindered}
 use Rattle.am_board.proofs.lemmas.invariant.Sound.{good}
 use Rattle.am_board.proofs.board.Board.begin.Goals as goal
 
@@ -39,3 +39,8 @@ returns-clause-refused c =
 
 pub returns-clause-fresh : goal.returns-clause-fresh
 returns-clause-fresh c = subst (λ (d : BoardData). IfOk c.take_group.result (IsFresh d.id)) c.self.view_is (fresh_too _ _ _ _ c.take_group.result c.take_group.ensures)
+
+pub returns-clause-unhindered : goal.returns-clause-unhindered
+returns-clause-unhindered c most =
+    begin_unhindered c.self.inside c.self.invariant c.args.self.now c.self.view_is c.args.now c.take_group.result
+    (caused_too _ _ (begin_caused c.self.inside c.self.invariant c.args.self.now c.self.view_is c.args.now) _ _ _ c.take_group.result c.take_group.ensures) most

@@ -7,7 +7,7 @@ use Rattle.am_model.specs.declared.record.Reply.{Reply}
 use Rattle.am_board.specs.declared.begin.Begun.{Begun}
 use Rattle.am_board.specs.History.{BoardData, reply_of, IsFresh}
 use Rattle.am_board.proofs.lemmas.invariant.Calls.{recorded, returned_now, refused, sound_again, caused_too, fresh_too, preview_now, rows_timely}
-use Rattle.am_board.proofs.lemmas.invariant.Limits.{begin_within, begin_caused}
+use Rattle.am_board.proofs.lemmas.invariant.Limits.{begin_within, begin_caused, begin_unhindered}
 use Rattle.am_board.proofs.lemmas.invariant.Sound.{good}
 use Rattle.am_board.proofs.board.Board.begin_previewed.Goals as goal
 
@@ -55,3 +55,8 @@ returns-clause-previewed c =
     IfOk-weaker c.take_previewed.result _ _
     (λ both more. more.1 ∙ preview_now c.self.inside c.self.invariant c.args.self.now c.self.view_is c.args.now)
     (fresh_too _ _ _ _ c.take_previewed.result c.take_previewed.ensures)
+
+pub returns-clause-unhindered : goal.returns-clause-unhindered
+returns-clause-unhindered c most =
+    begin_unhindered c.self.inside c.self.invariant c.args.self.now c.self.view_is c.args.now c.take_previewed.result
+    (caused_too _ _ (begin_caused c.self.inside c.self.invariant c.args.self.now c.self.view_is c.args.now) _ _ _ c.take_previewed.result c.take_previewed.ensures) most

@@ -4,7 +4,7 @@ use Rattle.am_model.specs.declared.config.Config.{Config}
 use Rattle.am_board.specs.GroupNameCache.{AreKept}
 use Rattle.am_board.proofs.destinations.GroupNameCache.put.Given as goal
 
--- the names stay, and there is room for those of the index
+-- the names stay, and there is capacity for those of the index
 abbrev pub invariant-loop-self : goal.invariant-loop-self
 invariant-loop-self l = (config : Config) (known : List AlertData) → AreKept config known l.fn.self → l.index < length known → AreKept config known l.self-inside.names.items
 

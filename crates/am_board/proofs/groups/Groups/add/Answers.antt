@@ -17,7 +17,7 @@ use Rattle.am_board.proofs.groups.Groups.add.Goals as goal
 use Rattle.am_board.proofs.groups.Groups.add.Goals.{After-unwrap}
 use Rattle.am_model.proofs.states.Alike.{same_name-is}
 
--- there is room, so that the entry was made
+-- there is capacity, so the entry was made
 entered : (c : After-unwrap) → c.insert.new.self.entries ≡ insert_entry same_name c.self.inside.groups.entries c.args.group.name c.args.group
 entered c =
     subst (λ r. OnOk r (c.insert.new.self.entries ≡ insert_entry same_name c.self.inside.groups.entries c.args.name c.args.group)) c.unwrap.ensures c.insert.ensures.entries

@@ -8,7 +8,7 @@ use Rattle.am_model.specs.State.{FlushState}
 use Rattle.am_board.proofs.lemmas.begin.DueWalk.{AreAhead}
 use Rattle.am_board.proofs.groups.first.first_in_tree.Given as goal
 
--- the keys that are left are in order, and each group that may be taken and has its key in the tree has it among them
+-- the keys that are left are in order, and each group that can be taken and has its key in the tree has it among them
 abbrev pub invariant-loop-key : goal.invariant-loop-key
 invariant-loop-key l =
     (goal.iterator-loop-key).can_next l.key-iterator

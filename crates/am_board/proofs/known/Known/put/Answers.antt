@@ -40,7 +40,7 @@ returns-in-Some c =
     let at = at_key c.args.alert es c.self.invariant c.args.self.now.items c.args.index c.in-Some.i seen c.requires.index c.in-Some.is in
     ap values_of (set-insert same_label_set labels_of c.args.alert es c.in-Some.i c.self.invariant at) ∙ put_after c.args.alert es c.self.invariant c.args.self.now.items seen
 
--- there is room, so that the entry was made
+-- there is capacity, so the entry was made
 entered : (c : After-unwrap) → c.insert.new.self.entries ≡ insert_entry same_label_set c.self.inside.alerts.entries c.args.alert.labels c.args.alert
 entered c =
     subst (λ r. OnOk r (c.insert.new.self.entries ≡ insert_entry same_label_set c.self.inside.alerts.entries c.args.labels c.args.alert)) c.unwrap.ensures c.insert.ensures.entries

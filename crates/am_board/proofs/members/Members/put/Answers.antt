@@ -18,7 +18,7 @@ use Rattle.am_board.proofs.members.Members.put.Goals.{After-unwrap}
 abbrev unmarked : Member → Member
 unmarked m = record { alert = m.alert; stamp = m.stamp; leaves = false }
 
--- there is room, so that the entry was made
+-- there is capacity, so the entry was made
 entered : (c : After-unwrap) → c.insert.new.self.entries ≡ insert_entry same_label_set c.self.inside.members.entries c.args.member.alert.labels (unmarked c.args.member)
 entered c =
     subst (λ r. OnOk r (c.insert.new.self.entries ≡ insert_entry same_label_set c.self.inside.members.entries c.args.labels (unmarked c.args.member))) c.unwrap.ensures c.insert.ensures.entries

@@ -5,8 +5,8 @@ use Rattle.am_mute.proofs.RequiredLabels.{IsUnder}
 use Rattle.am_mute.proofs.FirstSilences.{first_of_all}
 use Rattle.am_mute.proofs.silence_index.SilenceIndex.first.Goals as goal
 
-pub returns : goal.returns
-returns c =
+pub returns-clause-first : goal.returns-clause-first
+returns-clause-first c =
     let silences = c.args.silences.now in
     let labels = c.args.labels.now in
     let index = c.args.self.now in
@@ -15,4 +15,7 @@ returns c =
     c.loop-i.invariant in
     IfOk-weaker c.first_from.result _ _
     (λ first rest. first_of_all silences index c.requires labels c.args.t c.loop-i.first c.in_ok-first-2.first first labelled
-    c.in_ok-first-2.ensures rest) c.first_from.ensures
+    c.in_ok-first-2.ensures.first rest) c.first_from.ensures.first
+
+pub returns-clause-answers : goal.returns-clause-answers
+returns-clause-answers c all = c.first_from.ensures.answers all

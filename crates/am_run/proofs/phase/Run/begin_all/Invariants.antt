@@ -12,6 +12,6 @@ invariant-loop g l = record {
   well : HasNoFault l.initial.self.faults → HasNoFault l.self.faults;
 }
 
--- how many records there may be more
+-- how many records there can be more
 abbrev pub decreases-loop : goal.decreases-loop
 decreases-loop g l = g.N.Name.terms.config.limits.history - length l.self.main.log

@@ -11,7 +11,7 @@ use Rattle.am_board.proofs.due.ring.DueRing.remove.Goals.{After-remove, in-Some-
 holds : (c : After-remove) → slice_get c.self.inside.keys.items c.in-Some.i ≡ Some (key_at c.args.name.now c.args.due)
 holds c = ap (λ (ks : List DueKey). slice_get ks c.in-Some.i) c.self.view_is ∙ c.in-Some.ensures
 
--- the index was found, so that a key went
+-- the index was found, so a key went
 went : (c : After-remove) → c.remove.new.self.items ≡ remove c.self.inside.keys.items c.in-Some.i
 went c =
     let d = key_at c.args.name.now c.args.due in

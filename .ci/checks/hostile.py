@@ -6,8 +6,8 @@
 - `lists`: lists that are longer than any limit are rejected within ten seconds, and lists of matchers unread: patterns that want
   much memory cost no more than texts.
 - `growth`: inputs that would make a flush, a preview or a judgement grow with the square of their size: one of twice the size takes
-  at most three times the time and the memory. So do inputs whose labels would collide if hashes started from a seed that everybody
-  knows (lib/collisions.py).
+  at most three times the time and the memory. So do calls while many flushes are open. So do inputs whose labels would collide if
+  hashes started from a seed that everybody knows (lib/collisions.py).
 """
 import json
 import re
@@ -173,13 +173,28 @@ def restarted(count: int) -> Json:
     }
 
 
+def opened(count: int) -> Json:
+    """Lines: so many groups, whose flushes stay open until all are due again, and as many calls of each kind meanwhile. Then the
+    flushes are finished, the newest first, and all groups are flushed once more."""
+    late, numbers = {"now": 10_000_000}, range(1, count + 1)
+    inserts = [{"insert": {"now": 0, "labels": {"alertname": f"A{number}"}}} for number in numbers]
+    begins = [{"begin": {"now": 30_000}} for _ in numbers]
+    meanwhile = [call for _ in numbers for call in ({"next_due": {}}, {"begin": late}, {"outlook": late})]
+    finishes = [call for number in reversed(numbers) for call in ({"finish": {**late, "ticket": number}}, {"next_due": {}})]
+    again = [call for number in numbers for call in ({"begin": late}, {"finish": {**late, "ticket": count + number}})]
+    return [{"config": config()}, *inserts, *begins, *meanwhile, *finishes, *again]
+
+
 MADE = {"two-sided": two_sided, "silenced": silenced, "expected": expected, "restarted": restarted}
+# What makes the lines of an input.
+LINES = {"opened": opened}
 # A name, what makes the input, its size, and the program.
 GROWTH = [
     ("sources that both sides of a rule match", "two-sided", 8000, "am_run"),
     ("as many silences as fit, of many alerts", "silenced", 8000, "am_rehearse"),
     ("as many expectations as may be, of many alerts", "expected", 8000, "am_rehearse"),
     ("a restart after which each log row goes to 64 equal routes", "restarted", 32, "am_rehearse"),
+    ("groups whose flushes stay open", "opened", 8000, "am_dispatch"),
     ("label sets that would collide", "label sets", 16000, "am_dispatch"),
     ("values of sources that would collide", "sources", 8000, "am_dispatch"),
     ("label sets that would collide for the fixed seed", "label sets, fixed", 16000, "am_dispatch"),
@@ -193,10 +208,17 @@ GROWTH = [
 ]
 
 
+def text_of(made: str, count: int) -> str:
+    """The input of a size."""
+    if made in LINES:
+        return "".join(json.dumps(line) + "\n" for line in LINES[made](count))
+    return json.dumps(MADE[made](count)) if made in MADE else collisions.text(made, count)
+
+
 def cost_of(program: Program, made: str, count: int) -> tuple[str, float, int]:
     """How a program ends with an input of a size, seconds of a processor, and KiB."""
     with tempfile.NamedTemporaryFile("w", suffix=".json") as file, tempfile.TemporaryFile() as answers:
-        file.write(json.dumps(MADE[made](count)) if made in MADE else collisions.text(made, count))
+        file.write(text_of(made, count))
         file.flush()
         words = ["play", file.name] if program.crate == "am_rehearse" else []
         found = program.cost(*words, stdin=Path(file.name), stdout=answers.fileno(), stderr=subprocess.DEVNULL)

@@ -12,9 +12,9 @@ use Rattle.am_board.specs.declared.group.Group.{Group}
 use Rattle.am_board.specs.GroupList.{name_of}
 use Rattle.am_board.specs.Keyed.{AreKeyed}
 
--- whether a key is in the ring or in the tree
+-- whether a key is in the ring, in the tree or in the heap
 abbrev pub holds_key : DueSet → DueKey → Bool
-holds_key set key = has_key set.ring key || has_key set.tree.keys key
+holds_key set key = has_key set.ring key || (has_key set.tree.keys key || has_key set.heap key)
 
 -- the set has a key, if it is whole
 abbrev pub HasKey : DueSet → DueKey → Type 0
@@ -24,11 +24,11 @@ HasKey set key = IsTrue set.whole → IsTrue (holds_key set key)
 abbrev pub key_of : Group → DueKey
 key_of g = key_at g.name g.due
 
--- the set has the key of each group, if it is whole
+-- the set has the key of each group without an open flush, if it is whole
 abbrev pub AreDue : DueSet → List Group → Type 0
-AreDue set groups = All (λ g. HasKey set (key_of g)) groups
+AreDue set groups = All (λ g. g.is_open ≡ false → HasKey set (key_of g)) groups
 
--- each group is under its name, which no other has, and its key is in the set, if that is whole
+-- each group is under its name, which no other has, and its key is in the set, unless a flush of it is open or the set isn't whole
 pub record IsTied (set : DueSet) (entries : List (GroupName × Group)) : Type 0 where
   pub keyed : AreKeyed name_of entries
   pub distinct : IsDistinct same_name (keys_of entries)

@@ -1,5 +1,6 @@
 -- The keys of the set of due times: their order, and its laws.
-use Rattle.std.specs.Prelude.{◌≡◌, ◌⊎◌, ℕ, Bool, List, ◌&&◌, ◌==◌, Some}
+use Rattle.std.specs.Borrow.{Bor}
+use Rattle.std.specs.Prelude.{◌≡◌, ◌⊎◌, ℕ, Bool, true, List, [], ◌&&◌, ◌==◌, Option, None, Some}
 use Rattle.std.specs.Cmp.{IsPartialOrder, IsTotalOrder, back_total, both_tied, nat_eq_equiv, po, unsigned_ties}
 use Rattle.std.specs.List.{list_any}
 use Rattle.std.specs.List.Sorted.{IsStrictlySortedBy}
@@ -33,6 +34,11 @@ AreRising = IsStrictlySortedBy (flip_args key_cmp)
 -- the key q is k, or due after it
 abbrev pub IsKeyBehind : DueKey → DueKey → Type 0
 IsKeyBehind k q = (q ≡ k) ⊎ (key_cmp q k ≡ Less)
+
+-- this key of a list is due first, or there is none
+abbrev pub IsFront : List DueKey → Option (Bor DueKey) → Type 0
+IsFront keys None = keys ≡ []
+IsFront keys (Some k) = (q : DueKey) → has_key keys q ≡ true → IsKeyBehind k.now q
 
 name_cmp_total : IsTotalOrder name_cmp
 name_cmp_total =

@@ -1,26 +1,33 @@
 //! The set of due times: keys of groups by due time and name. `groups` keeps it.
 //!
-//! Why two lists: a begin takes the key that is due first, and mostly puts the group's key back
-//! behind those that came back before it. So a key that comes behind the last one of a ring goes
-//! to that ring, which takes keys out at its front without a search. Other keys go to a tree.
-//! While a group with a long interval is last in the ring, keys due before it go to the tree.
+//! A group with an open flush has no key here: a begin that opens one takes the key out, and the
+//! finish puts it back. So a begin never passes over a group that it can't take.
 //!
-//! Why keys can be stale: the invariant (specs/Due.antt) says only that each group has its key
-//! while the set is complete. A begin that meets a key checks that the group is there and due at
-//! the key's time. A call that changes a due time removes the old key, and a maintenance by which
-//! groups go rebuilds the set, so stale keys don't pile up. A finish never allocates, so it doesn't
-//! touch the set: a group with an open flush keeps its key, and a begin passes over it.
+//! Why three lists: a begin takes the key that is due first, and mostly puts the group's key back
+//! behind those that came back before it. So a key that comes behind the last one of a ring goes
+//! to that ring, which takes keys out at its front without a search. A finish takes no memory. So
+//! where a key doesn't come behind the ring's last one, a finish puts it into a heap, in which the
+//! begin kept a place. Other keys go to a tree, out of which an insert can take one that isn't due
+//! first.
+//!
+//! Why keys can be stale: the invariant (specs/Due.antt) says only that each group without an open
+//! flush has its key while the set is complete. So the key in front of a list counts only if its
+//! group is there, is due at the key's time and has no open flush. Each call that changes a due
+//! time removes the old key, and a maintenance by which groups go rebuilds the set. So no key is
+//! stale, and no proof relies on that: where one in front is, all groups are walked over.
 //!
 //! Why the tree's order is reversed: a tree's node is searched from its first key on, and a begin
 //! takes the tree's last key without a search.
-ghost use Rattle.std.specs.Prelude.{◌≡◌, ◌-◌, IfSome, Some, false, length, refl, slice_get, true};
+ghost use Rattle.std.specs.Prelude.{◌≡◌, ◌-◌, ◌++◌, ◌∷◌, [], IfSome, Some, false, length, refl, slice_get, true};
 ghost use Rattle.am_model.specs.State.{same_name};
 ghost use Rattle.am_board.specs.Due.{AreDue, HasKey};
-ghost use Rattle.am_board.specs.DueOrder.{key_at, key_cmp, key_cmp_total, key_po, same_key-ties};
+ghost use Rattle.am_board.specs.DueOrder.{AreRising, IsFront, key_at, key_cmp, key_cmp_total, key_po, same_key-ties};
 ghost use Rattle.am_board.specs.declared.due.DueKey.{DueKey};
 
+pub(crate) mod heap;
 pub(crate) mod ring;
 
+use crate::due::heap::DueHeap;
 use crate::due::ring::DueRing;
 use crate::group::{Group, GroupName};
 use std::alloc::Global;
@@ -62,7 +69,7 @@ impl Ord for DueKey {
     }
 }
 
-/// The due times of groups. A key can be stale: its group is gone, or due at another time.
+/// The due times of groups without an open flush.
 ///
 /// The set only saves time: no call fails because a key lacks memory. The set is incomplete then,
 /// and isn't used until it is rebuilt.
@@ -73,7 +80,11 @@ pub(crate) struct DueSet {
     pub(crate) ring: DueRing,
     /// The other keys, the one that is due first last.
     pub(crate) tree: BTreeSet<DueKey>,
-    /// Whether each group has its key here.
+    /// Keys that finishes put back, and that didn't come behind the ring's last one.
+    pub(crate) heap: DueHeap,
+    /// How many groups have an open flush, if the set is complete. The heap has a place for each.
+    away: usize,
+    /// Whether each group without an open flush has its key here.
     pub(crate) whole: bool,
 }
 
@@ -84,6 +95,8 @@ impl DueSet {
             alloc,
             ring: DueRing::new(alloc),
             tree: BTreeSet::new(alloc),
+            heap: DueHeap::new(alloc),
+            away: 0,
             whole: true,
         }
     }
@@ -104,8 +117,7 @@ impl DueSet {
 
     /// Replaces the key of a group that was due at one time and is due at another.
     pub(crate) fn change(&mut self, name: &GroupName, from: u64, to: u64)
-        requires { HasKey self.old (key_at name.now from) }
-        ensures has { HasKey self.new (key_at name.now to) }
+        ensures has { HasKey self.old (key_at name.now from) → HasKey self.new (key_at name.now to) }
         ensures keeps { (key : DueKey) → same_name key.name name.now ≡ false → HasKey self.old key → HasKey self.new key }
     {
         if from == to || !self.whole {
@@ -120,10 +132,64 @@ impl DueSet {
         }
     }
 
+    /// Takes out the key of a group of which a flush opens, and keeps a place for it in the heap.
+    pub(crate) fn lend(&mut self, name: &GroupName, due: u64)
+        ensures { (key : DueKey) → same_name key.name name.now ≡ false → HasKey self.old key → HasKey self.new key }
+    {
+        if !self.whole {
+            return;
+        }
+        self.take_front(name, due);
+        self.away = self.away.saturating_add(1);
+        self.keep_places();
+    }
+
+    /// Puts back the key of a group whose flush is finished. Takes no memory: the ring has a free
+    /// place, or the heap has the one that was kept.
+    pub(crate) fn give_back(&mut self, key: DueKey)
+        ensures has { HasKey self.new key }
+        ensures keeps { (other : DueKey) → HasKey self.old other → HasKey self.new other }
+    {
+        if !self.whole {
+            return;
+        }
+        self.away = self.away.saturating_sub(1);
+        if self.ring.has_place() && self.ring.is_behind(&key) {
+            self.push_back(key);
+        } else if self.heap.has_place() {
+            self.pile(key);
+        } else {
+            self.lose();
+        }
+    }
+
+    /// The key of the tree that is due first.
+    pub(crate) fn tree_front(&self) -> Option<&DueKey>
+        ensures { IsFront self.now.tree.keys result }
+    {
+        self.tree.last()
+    }
+
     /// Takes a key out, unless memory lacks.
-    ///
-    /// A begin changes the key that is due first, mostly: it goes without a search.
     fn take(&mut self, name: &GroupName, due: u64) -> Option<DueKey>
+        ensures key { IfSome result (λ key. key ≡ key_at name.now due) }
+        ensures keeps { (key : DueKey) → same_name key.name name.now ≡ false → HasKey self.old key → HasKey self.new key }
+    {
+        if let Some(key) = self.take_front(name, due) {
+            return Some(key);
+        }
+        let Ok(copy) = name.copy(self.alloc) else {
+            return None;
+        };
+        let key = DueKey { due, name: copy };
+        self.tree.remove(&key);
+        Some(key)
+    }
+
+    /// Takes a key out that is due first in its list.
+    ///
+    /// A begin takes such a key: it goes without a search.
+    fn take_front(&mut self, name: &GroupName, due: u64) -> Option<DueKey>
         ensures key { IfSome result (λ key. key ≡ key_at name.now due) }
         ensures keeps { (key : DueKey) → same_name key.name name.now ≡ false → HasKey self.old key → HasKey self.new key }
     {
@@ -133,14 +199,10 @@ impl DueSet {
         if self.is_last(name, due) {
             return self.tree.pop_last();
         }
-        let Ok(copy) = name.copy(self.alloc) else {
-            return None;
-        };
-        let key = DueKey { due, name: copy };
-        if !self.tree.remove(&key) {
-            self.ring.remove(name, due);
+        if self.heap.is_front(name, due) {
+            return self.heap.pop();
         }
-        Some(key)
+        None
     }
 
     /// Whether the tree's last key, which is due first, is that of the group of this name.
@@ -169,9 +231,23 @@ impl DueSet {
     {
         self.ring.clear();
         self.tree.clear();
+        self.heap.clear();
         self.whole = true;
+        self.away = count_open(groups);
+        self.keep_places();
         for group in groups {
-            self.put(&group.name, group.due);
+            if !group.is_open {
+                self.put(&group.name, group.due);
+            }
+        }
+    }
+
+    /// Keeps a place in the heap for the key of each group with an open flush.
+    fn keep_places(&mut self)
+        ensures { (key : DueKey) → HasKey self.old key → HasKey self.new key }
+    {
+        if self.heap.reserve(self.away).is_err() {
+            self.lose();
         }
     }
 
@@ -180,11 +256,31 @@ impl DueSet {
         ensures has { HasKey self.new key }
         ensures keeps { (other : DueKey) → HasKey self.old other → HasKey self.new other }
     {
-        if !self.ring.is_behind(&key) {
+        if self.ring.is_behind(&key) {
+            self.push_back(key);
+        } else {
             self.insert(key);
-            return;
         }
+    }
+
+    /// Puts a key into the ring that comes behind the last one there, if there is memory for it.
+    fn push_back(&mut self, key: DueKey)
+        requires { AreRising (self.old.ring ++ key ∷ []) }
+        ensures has { HasKey self.new key }
+        ensures keeps { (other : DueKey) → HasKey self.old other → HasKey self.new other }
+    {
         match self.ring.push(key) {
+            Ok(_) => {}
+            Err(_) => self.lose(),
+        }
+    }
+
+    /// Puts a key into the heap, if there is memory for it.
+    fn pile(&mut self, key: DueKey)
+        ensures has { HasKey self.new key }
+        ensures keeps { (other : DueKey) → HasKey self.old other → HasKey self.new other }
+    {
+        match self.heap.push(key) {
             Ok(_) => {}
             Err(_) => self.lose(),
         }
@@ -208,5 +304,17 @@ impl DueSet {
         self.whole = false;
         self.ring.clear();
         self.tree.clear();
+        self.heap.clear();
     }
+}
+
+/// How many of these groups have an open flush.
+fn count_open(groups: &[Group]) -> usize {
+    let mut count: usize = 0;
+    for group in groups {
+        if group.is_open {
+            count = count.saturating_add(1);
+        }
+    }
+    count
 }

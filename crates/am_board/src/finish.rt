@@ -61,7 +61,7 @@ pub(crate) fn finish_flush(
         leaving,
     } = state.flushes.remove(f);
     let successes = log_rest(&mut state.log, notified, outcomes.as_slice(), kept_for, t);
-    let removed = take_out(&mut state.groups, &group, leaving.as_slice(), successes.all);
+    let removed = take_out(&mut state.groups, group, leaving.as_slice(), successes.all);
     let finished = Finished {
         logged: successes.logged,
         removed,
@@ -163,22 +163,22 @@ pub(crate) fn log_sets(
 /// Returns how many.
 fn take_out(
     groups: &mut Groups,
-    name: &GroupName,
+    name: GroupName,
     leaving: &[LeavingAlert],
     all_succeeded: bool,
 ) -> usize
     ensures names { names_of groups.new.items ≡ names_of groups.old.items }
     ensures marks { IsDistinct same_group (map group_state groups.old.items) → (n : GroupName)
-        → is_marked (marks_of groups.new.items) n ≡ (is_marked (marks_of groups.old.items) n && not (same_name n name.now)) }
+        → is_marked (marks_of groups.new.items) n ≡ (is_marked (marks_of groups.old.items) n && not (same_name n name)) }
     ensures groups { IsDistinct same_group (map group_state groups.old.items)
         → map group_state groups.new.items
-        ≡ changed_where (is_named name.now) (without_leaving all_succeeded leaving.now) (map group_state groups.old.items) }
-    ensures count { result ≡ count_by (leaves_where all_succeeded leaving.now) (members_in (map group_state groups.old.items) name.now) }
+        ≡ changed_where (is_named name) (without_leaving all_succeeded leaving.now) (map group_state groups.old.items) }
+    ensures count { result ≡ count_by (leaves_where all_succeeded leaving.now) (members_in (map group_state groups.old.items) name) }
 {
-    let Some(i) = groups.find(name) else {
+    let Some(i) = groups.find(&name) else {
         return 0;
     };
-    groups.close(i);
+    groups.close(i, name);
     if !all_succeeded {
         return 0;
     }

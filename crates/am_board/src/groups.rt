@@ -4,7 +4,7 @@
 //! Contracts see the list of groups in the order in which they were made. A call changes one group
 //! at an index (`Changes` in specs/Group.antt), never its name. Invariant: each group is under its
 //! name, which no other group has. While the set of due times is complete, it has the key of each
-//! group.
+//! group without an open flush.
 //!
 //! A group says itself whether a flush of it is open, so a begin needs no look at the flushes.
 //! `marks_of` (specs/Marks.antt) lists what groups say. A begin that opens a flush sets a group's

@@ -3,6 +3,7 @@ pub mod Calls
 pub mod Causes
 pub mod Closing
 pub mod GroupNameCache
+pub mod DueHeaps
 pub mod DueKeys
 pub mod DueRings
 pub mod GroupNames

@@ -1,17 +1,13 @@
 //! Keys of due times in order, the one that is due first at the front. `due` puts keys here that
 //! come behind the last one: that takes one comparison and no search.
-ghost use Rattle.std.specs.Prelude.{◌≡◌, ◌∷◌, [], ◌++◌, IfSome, Some, false, if◌then◌else◌, is_ok, slice_get, true};
+ghost use Rattle.std.specs.Prelude.{◌≡◌, ◌∷◌, [], ◌++◌, Some, if◌then◌else◌, is_ok, slice_get, true};
 ghost use Rattle.std.specs.Option.{option_to_list};
-ghost use Rattle.std.specs.VecDeque.Iter.{deque_iter_rest};
-ghost use Rattle.am_model.specs.State.{same_name};
-ghost use Rattle.am_board.specs.DueOrder.{has_key, key_at, AreRising};
-ghost use Rattle.am_board.specs.declared.due.DueKey.{DueKey};
+ghost use Rattle.am_board.specs.DueOrder.{key_at, AreRising, IsFront};
 
 use super::DueKey;
 use crate::group::GroupName;
 use std::alloc::{AllocFailed, Global};
 use std::collections::VecDeque;
-use std::collections::vec_deque::Iter;
 use std::marker::Model;
 
 /// Keys in the order in which they are due. Contracts see their list.
@@ -42,12 +38,16 @@ impl DueRing {
         }
     }
 
-    /// The keys, the one that is due first at the front.
-    pub(crate) fn iter(&self) -> Iter<'_, DueKey>
-        ensures rest { deque_iter_rest result ≡ self.now }
-        ensures rising { AreRising self.now }
+    /// The key that is due first.
+    pub(crate) fn front(&self) -> Option<&DueKey>
+        ensures { IsFront self.now result }
     {
-        self.keys.iter()
+        self.keys.front()
+    }
+
+    /// Whether one more key takes no memory.
+    pub(crate) fn has_place(&self) -> bool {
+        self.keys.len() < self.keys.capacity()
     }
 
     /// Whether a key comes behind the last one, and so behind all that are here.
@@ -83,33 +83,6 @@ impl DueRing {
         ensures { self.old ≡ option_to_list result ++ self.new }
     {
         self.keys.pop_front()
-    }
-
-    /// Takes out a key, if it is here.
-    pub(crate) fn remove(&mut self, name: &GroupName, due: u64)
-        ensures { (key : DueKey) → same_name key.name name.now ≡ false → has_key self.new key ≡ has_key self.old key }
-    {
-        if let Some(i) = self.index(name, due) {
-            self.keys.remove(i);
-        }
-    }
-
-    /// The index of the key of the group of this name.
-    ///
-    /// Only keys are before it whose groups have open flushes, mostly.
-    fn index(&self, name: &GroupName, due: u64) -> Option<usize>
-        ensures { IfSome result (λ i. slice_get self.now i ≡ Some (key_at name.now due)) }
-    {
-        for i in 0..self.keys.len() {
-            let key = &self.keys[i];
-            if key.due > due {
-                return None;
-            }
-            if key.due == due && key.name == *name {
-                return Some(i);
-            }
-        }
-        None
     }
 
     /// Drops all keys.

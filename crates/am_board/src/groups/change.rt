@@ -18,6 +18,7 @@ ghost use Rattle.am_model.specs.Maintenance.{has_no_alerts};
 
 use super::Groups;
 use crate::again::Spot;
+use crate::due::DueKey;
 use crate::finish::take_leaving;
 use crate::flush::LeavingAlert;
 use crate::group::{
@@ -141,7 +142,7 @@ impl Groups {
         let before = group.due;
         mark_begun(group, due);
         group.is_open = true;
-        self.due.change(&group.name, before, due);
+        self.due.lend(&group.name, before);
     }
 
     /// Marks the group at an index as taken by a begin that notifies no integration.
@@ -162,12 +163,17 @@ impl Groups {
         take_resolved(group, t)
     }
 
-    /// Marks the group at an index as one without an open flush.
-    pub(crate) fn close(&mut self, i: usize)
-        requires { i < length self.old.items }
+    /// Marks the group at an index, which has this name, as one without an open flush. Takes no
+    /// memory: the name becomes part of the group's key.
+    pub(crate) fn close(&mut self, i: usize, name: GroupName)
+        requires index { i < length self.old.items }
+        requires name { (d : Group) → (slice_index_or self.old.items i d).name ≡ name }
         ensures { Changes (λ from to. to ≡ record from { is_open = false }) i self.old self.new }
     {
-        mark_closed(&mut self.groups[i]);
+        let group = &mut self.groups[i];
+        mark_closed(group);
+        let due = group.due;
+        self.due.give_back(DueKey { due, name });
     }
 
     /// Takes out of the group at an index the alerts that are as they were when they were found

@@ -1,9 +1,9 @@
 //! The group that a begin takes. `begin`, `preview` and `next_due` call `Groups::first_due`.
 //!
-//! It looks through both lists of the set of due times, skips stale keys and groups that are marked
-//! as open, and takes the earlier of the two that it finds. While the set is incomplete it walks over
-//! all groups. Both give the definitions' `least` of the groups that a begin may take.
-ghost use Rattle.std.specs.Prelude.{◌≡◌, ◌<◌, All, IfSome, IsTrue, List, length, map, slice_index_or};
+//! Of each list of the set of due times it looks at the key in front, and takes the earliest of the
+//! groups that it finds. While the set is incomplete, or where a key in front is stale, it walks
+//! over all groups. Both give the definitions' `least` of the groups that a begin may take.
+ghost use Rattle.std.specs.Prelude.{◌≡◌, ℕ, ◌<◌, ◌++◌, IfSome, List, length, map, slice_index_or};
 ghost use Rattle.std.specs.List.{IsDistinct};
 ghost use Rattle.std.specs.Map.{keys_of, values_of};
 ghost use Rattle.std.specs.Option.{option_map};
@@ -12,7 +12,9 @@ ghost use Rattle.am_model.specs.Begin.{due_cmp};
 ghost use Rattle.am_model.specs.Lists.{lesser};
 ghost use Rattle.am_model.specs.State.{FlushState, is_flushing, same_name};
 ghost use Rattle.am_board.specs.Beginning.{may_take, first_of, IsFirst, IsFirstOfKeys};
-ghost use Rattle.am_board.specs.Due.{holds_key, key_of, IsCurrent, IsFree};
+ghost use Rattle.am_board.specs.Due.{AreDue, IsCurrent, IsFree};
+ghost use Rattle.am_board.specs.DueOrder.{IsFront};
+ghost use Rattle.am_board.specs.declared.due.DueKey.{DueKey};
 ghost use Rattle.am_board.specs.GroupList.{name_of};
 ghost use Rattle.am_board.specs.Refinement.{group_state};
 ghost use Rattle.am_board.specs.Marks.{AreMarked, TellOpen};
@@ -20,12 +22,10 @@ ghost use Rattle.am_board.specs.Keyed.{AreKeyed};
 ghost use Rattle.am_board.specs.declared.group.Group.{Group};
 
 use super::Groups;
-use crate::due::ring::DueRing;
 use crate::due::{DueKey, DueSet};
 use crate::group::{Group, GroupName};
 use am_seed::Seed;
 use indexmap::IndexMap;
-use std::collections::BTreeSet;
 
 impl Groups {
     /// Returns the index of the group to take at `t`: the first due one without an open flush.
@@ -36,77 +36,78 @@ impl Groups {
         ensures first { (flushes : List FlushState) → AreMarked flushes self.now.items
             → IsFirst self.now.items result (first_of flushes t (map group_state self.now.items)) }
     {
-        if self.due.whole {
-            first_by_keys(&self.groups, &self.due, t)
-        } else {
-            first_by_walk(self.groups.values().as_slice(), t)
+        match first_by_keys(&self.groups, &self.due, t) {
+            Some(first) => first,
+            None => first_by_walk(self.groups.values().as_slice(), t),
         }
     }
 }
 
-/// Returns the index of the group to take at `t`, by the complete set of keys.
-fn first_by_keys(groups: &IndexMap<GroupName, Group, Seed>, due: &DueSet, t: u64) -> Option<usize>
-    requires keyed { AreKeyed name_of groups.now.entries }
-    requires distinct { IsDistinct same_name (keys_of groups.now.entries) }
-    requires keys { All (λ g. IsTrue (holds_key due.now (key_of g))) (values_of groups.now.entries) }
-    ensures within { IfSome result (λ i. i < length (values_of groups.now.entries)) }
-    ensures first { (flushes : List FlushState) → TellOpen flushes (values_of groups.now.entries)
-        → IsFirst (values_of groups.now.entries) result (first_of flushes t (map group_state (values_of groups.now.entries))) }
-{
-    let in_ring = first_in_ring(groups, &due.ring, t);
-    let in_tree = first_in_tree(groups, &due.tree, t);
-    match in_ring {
-        Some(i) => Some(earlier(groups.values().as_slice(), i, in_tree)),
-        None => in_tree,
-    }
-}
-
-/// The index of the group to take at `t` of those that have their keys in the ring.
-///
-/// It is the group of the first key that isn't stale and whose group has no open flush, if it is
-/// due.
-fn first_in_ring(groups: &IndexMap<GroupName, Group, Seed>, ring: &DueRing, t: u64) -> Option<usize>
-    requires keyed { AreKeyed name_of groups.now.entries }
-    requires distinct { IsDistinct same_name (keys_of groups.now.entries) }
-    ensures within { IfSome result (λ i. i < length (values_of groups.now.entries)) }
-    ensures first { (flushes : List FlushState) → TellOpen flushes (values_of groups.now.entries)
-        → IsFirstOfKeys flushes t (values_of groups.now.entries) ring.now result }
-{
-    for key in ring.iter() {
-        if key.due > t {
-            return None;
-        }
-        if let Some(index) = free_index(groups, key) {
-            return Some(index);
-        }
-    }
-    None
-}
-
-/// The same of those that have their keys in the tree. The key that is due first is last.
-fn first_in_tree(
+/// Returns the index of the group to take at `t` by the set of keys, if the set tells it.
+fn first_by_keys(
     groups: &IndexMap<GroupName, Group, Seed>,
-    tree: &BTreeSet<DueKey>,
+    due: &DueSet,
     t: u64,
-) -> Option<usize>
+) -> Option<Option<usize>>
     requires keyed { AreKeyed name_of groups.now.entries }
     requires distinct { IsDistinct same_name (keys_of groups.now.entries) }
-    ensures within { IfSome result (λ i. i < length (values_of groups.now.entries)) }
-    ensures first { (flushes : List FlushState) → TellOpen flushes (values_of groups.now.entries)
-        → IsFirstOfKeys flushes t (values_of groups.now.entries) tree.now.keys result }
+    requires keys { AreDue due.now (values_of groups.now.entries) }
+    ensures within { IfSome result (λ found. IfSome found (λ i. i < length (values_of groups.now.entries))) }
+    ensures first { (flushes : List FlushState) → TellOpen flushes (values_of groups.now.entries) → IfSome result (λ found.
+        IsFirst (values_of groups.now.entries) found (first_of flushes t (map group_state (values_of groups.now.entries)))) }
 {
-    for key in tree.iter().rev() {
-        if key.due > t {
-            return None;
-        }
-        if let Some(index) = free_index(groups, key) {
-            return Some(index);
-        }
+    if !due.whole {
+        return None;
     }
-    None
+    let in_ring = first_in(groups, due.ring.front(), t)?;
+    let in_tree = first_in(groups, due.tree_front(), t)?;
+    let in_heap = first_in(groups, due.heap.front(), t)?;
+    let groups = groups.values().as_slice();
+    let in_both = first_of_two(groups, in_ring, in_tree);
+    Some(first_of_two(groups, in_both, in_heap))
 }
 
-/// The index of the group that has a key, unless the key is stale or the group is marked as open.
+/// The index of the group to take at `t` of those that have their keys in a list with this key in
+/// front. None where that key is stale, so that the list doesn't tell it.
+fn first_in(
+    groups: &IndexMap<GroupName, Group, Seed>,
+    front: Option<&DueKey>,
+    t: u64,
+) -> Option<Option<usize>>
+    requires keyed { AreKeyed name_of groups.now.entries }
+    requires distinct { IsDistinct same_name (keys_of groups.now.entries) }
+    ensures within { IfSome result (λ found. IfSome found (λ i. i < length (values_of groups.now.entries))) }
+    ensures first { (flushes : List FlushState) (keys : List DueKey) → TellOpen flushes (values_of groups.now.entries) → IsFront keys front.entry
+        → IfSome result (IsFirstOfKeys flushes t (values_of groups.now.entries) keys) }
+{
+    let Some(key) = front else {
+        return Some(None);
+    };
+    if key.due > t {
+        return Some(None);
+    }
+    match free_index(groups, key) {
+        Some(index) => Some(Some(index)),
+        None => None,
+    }
+}
+
+/// The group that is taken first of those that two lists of keys tell.
+fn first_of_two(groups: &[Group], one: Option<usize>, other: Option<usize>) -> Option<usize>
+    requires here { IfSome one (λ i. i < length groups.now) }
+    requires there { IfSome other (λ i. i < length groups.now) }
+    ensures within { IfSome result (λ i. i < length groups.now) }
+    ensures first { (flushes : List FlushState) (t : ℕ) (keys more : List DueKey) → IsFirstOfKeys flushes t groups.now keys one
+        → IsFirstOfKeys flushes t groups.now more other → IsFirstOfKeys flushes t groups.now (keys ++ more) result }
+{
+    match one {
+        None => other,
+        Some(i) => Some(earlier(groups, i, other)),
+    }
+}
+
+/// The index of the group that has a key, unless the key is stale: the group is gone, is due at
+/// another time or is marked as open.
 fn free_index(groups: &IndexMap<GroupName, Group, Seed>, key: &DueKey) -> Option<usize>
     requires keyed { AreKeyed name_of groups.now.entries }
     requires distinct { IsDistinct same_name (keys_of groups.now.entries) }
@@ -122,7 +123,7 @@ fn free_index(groups: &IndexMap<GroupName, Group, Seed>, key: &DueKey) -> Option
     }
 }
 
-/// The index of the group that has a key, unless the key is stale.
+/// The index of the group that has a key, if it is there and due at the key's time.
 fn index_of(groups: &IndexMap<GroupName, Group, Seed>, key: &DueKey) -> Option<usize>
     requires keyed { AreKeyed name_of groups.now.entries }
     requires distinct { IsDistinct same_name (keys_of groups.now.entries) }
@@ -136,7 +137,7 @@ fn index_of(groups: &IndexMap<GroupName, Group, Seed>, key: &DueKey) -> Option<u
     }
 }
 
-/// The same, by a walk over all groups.
+/// Returns the index of the group to take at `t`, by a walk over all groups.
 fn first_by_walk(groups: &[Group], t: u64) -> Option<usize>
     ensures within { IfSome result (λ i. i < length groups.now) }
     ensures first { (flushes : List FlushState) → TellOpen flushes groups.now

@@ -21,7 +21,7 @@ use Rattle.am_board.proofs.finish.take_out.Goals.{After-close}
 
 -- ---- the group was found, and marked as closed
 
-at : (c : After-close) → position (λ g. same_name c.args.name.now g.name) c.args.groups.now.items ≡ Some c.in-Some.i
+at : (c : After-close) → position (λ g. same_name c.args.name g.name) c.args.groups.now.items ≡ Some c.in-Some.i
 at c = sym c.in-Some.ensures.index
 
 names : (c : After-close) → names_of c.close.new.self.items ≡ names_of c.args.groups.now.items
@@ -35,29 +35,32 @@ states c =
     ap (map group_state) group.items ∙ states_set c.args.groups.now.items c.in-Some.i group.to group.from (ap group_state group.changed ∙ ap group_state group.was)
 
 marks : (c : After-close) → IsDistinct same_group (map group_state c.args.groups.now.items) → (n : GroupName)
-    → is_marked (marks_of c.close.new.self.items) n ≡ (is_marked (marks_of c.args.groups.now.items) n && not (same_name n c.args.name.now))
+    → is_marked (marks_of c.close.new.self.items) n ≡ (is_marked (marks_of c.args.groups.now.items) n && not (same_name n c.args.name))
 marks c distinct n =
     let group = c.close.ensures in
     let gs : List Group = c.args.groups.now.items in
-    let of_name : group.to.name ≡ c.args.name.now = group.name ∙ (ap (λ (g : Group). g.name) group.was ∙ named_at c.args.name.now gs c.in-Some.i group.from (at c)) in
+    let of_name : group.to.name ≡ c.args.name = group.name ∙ (ap (λ (g : Group). g.name) group.was ∙ named_at c.args.name gs c.in-Some.i group.from (at c)) in
     ap (λ hs. is_marked (marks_of hs) n) group.items
-    ∙ (marked_close gs c.in-Some.i group.to (names_apart gs distinct) c.in-Some.ensures.within (ap (λ (g : Group). g.is_open) group.changed) (of_name ∙ sym (named_at c.args.name.now gs c.in-Some.i group.to (at c))) n
+    ∙ (marked_close gs c.in-Some.i group.to (names_apart gs distinct) c.in-Some.ensures.within (ap (λ (g : Group). g.is_open) group.changed) (of_name ∙ sym (named_at c.args.name gs c.in-Some.i group.to (at c))) n
     ∙ ap (λ m. is_marked (marks_of gs) n && not (same_name n m)) of_name)
+
+pub close-requires-clause-name : goal.close-requires-clause-name
+close-requires-clause-name c d = named_at c.args.name c.args.groups.now.items c.in-Some.i d (sym c.in-Some.ensures.index)
 
 -- ---- there is no such group
 
 pub returns-in_default-clause-marks : goal.returns-in_default-clause-marks
-returns-in_default-clause-marks c distinct n = marked_missing c.args.groups.now.items c.args.name.now (sym c.in_default.ensures.index) n
+returns-in_default-clause-marks c distinct n = marked_missing c.args.groups.now.items c.args.name (sym c.in_default.ensures.index) n
 
 pub returns-in_default-clause-groups : goal.returns-in_default-clause-groups
 returns-in_default-clause-groups c distinct =
-    let at : position (λ g. same_name c.args.name.now g.name) c.args.groups.now.items ≡ None = sym c.in_default.ensures.index in
-    sym (changed-missing c.args.name.now c.args.groups.now.items (without_leaving c.args.all_succeeded c.args.leaving.now) at)
+    let at : position (λ g. same_name c.args.name g.name) c.args.groups.now.items ≡ None = sym c.in_default.ensures.index in
+    sym (changed-missing c.args.name c.args.groups.now.items (without_leaving c.args.all_succeeded c.args.leaving.now) at)
 
 pub returns-in_default-clause-count : goal.returns-in_default-clause-count
 returns-in_default-clause-count c =
-    let at : position (λ g. same_name c.args.name.now g.name) c.args.groups.now.items ≡ None = sym c.in_default.ensures.index in
-    sym (ap (count_by (leaves_where c.args.all_succeeded c.args.leaving.now)) (members-missing c.args.name.now c.args.groups.now.items at))
+    let at : position (λ g. same_name c.args.name g.name) c.args.groups.now.items ≡ None = sym c.in_default.ensures.index in
+    sym (ap (count_by (leaves_where c.args.all_succeeded c.args.leaving.now)) (members-missing c.args.name c.args.groups.now.items at))
 
 -- ---- one integration failed
 
@@ -70,13 +73,13 @@ returns-then-not-all_succeeded-clause-marks c = marks ((goal.at.returns-then-not
 pub returns-then-not-all_succeeded-clause-groups : goal.returns-then-not-all_succeeded-clause-groups
 returns-then-not-all_succeeded-clause-groups c distinct =
     states ((goal.at.returns-then-not-all_succeeded-clause-groups c).After-close)
-    ∙ sym (ap (λ all. changed_where (is_named c.args.name.now) (without_leaving all c.args.leaving.now) (map group_state c.args.groups.now.items)) c.if-not-all_succeeded.true
-    ∙ groups-stay c.args.leaving.now c.args.name.now (map group_state c.args.groups.now.items))
+    ∙ sym (ap (λ all. changed_where (is_named c.args.name) (without_leaving all c.args.leaving.now) (map group_state c.args.groups.now.items)) c.if-not-all_succeeded.true
+    ∙ groups-stay c.args.leaving.now c.args.name (map group_state c.args.groups.now.items))
 
 pub returns-then-not-all_succeeded-clause-count : goal.returns-then-not-all_succeeded-clause-count
 returns-then-not-all_succeeded-clause-count c =
-    sym (ap (λ all. count_by (leaves_where all c.args.leaving.now) (members_in (map group_state c.args.groups.now.items) c.args.name.now)) c.if-not-all_succeeded.true
-    ∙ none-leave c.args.leaving.now (members_in (map group_state c.args.groups.now.items) c.args.name.now))
+    sym (ap (λ all. count_by (leaves_where all c.args.leaving.now) (members_in (map group_state c.args.groups.now.items) c.args.name)) c.if-not-all_succeeded.true
+    ∙ none-leave c.args.leaving.now (members_in (map group_state c.args.groups.now.items) c.args.name))
 
 -- ---- all succeeded
 
@@ -100,21 +103,21 @@ returns-clause-groups c distinct =
     let spot = (goal.at.returns-clause-groups c).After-close in
     let gs = c.close.new.self.items in
     let group = c.take_leaving.ensures.group in
-    let here : position (λ g. same_name c.args.name.now g.name) gs ≡ Some c.in-Some.i = same_indexes c.args.name.now c.args.groups.now.items gs (names spot) ∙ at spot in
+    let here : position (λ g. same_name c.args.name g.name) gs ≡ Some c.in-Some.i = same_indexes c.args.name c.args.groups.now.items gs (names spot) ∙ at spot in
     ap (map group_state) group.items
-    ∙ (changed-found c.args.name.now gs c.in-Some.i group.from (without_leaving c.args.all_succeeded c.args.leaving.now) group.to here (subst (IsDistinct same_group) (sym (states spot)) distinct)
+    ∙ (changed-found c.args.name gs c.in-Some.i group.from (without_leaving c.args.all_succeeded c.args.leaving.now) group.to here (subst (IsDistinct same_group) (sym (states spot)) distinct)
     (group.changed
     ∙ (ap (λ all. without_leaving all c.args.leaving.now (group_state group.from)) (sym c.if-not-all_succeeded.false)
     ∙ ap (λ (g : Group). without_leaving c.args.all_succeeded c.args.leaving.now (group_state g)) group.was))
-    ∙ ap (changed_where (is_named c.args.name.now) (without_leaving c.args.all_succeeded c.args.leaving.now)) (states spot))
+    ∙ ap (changed_where (is_named c.args.name) (without_leaving c.args.all_succeeded c.args.leaving.now)) (states spot))
 
 pub returns-clause-count : goal.returns-clause-count
 returns-clause-count c =
     let spot = (goal.at.returns-clause-count c).After-close in
     let gs = c.close.new.self.items in
     let group = c.take_leaving.ensures.group in
-    let here : position (λ g. same_name c.args.name.now g.name) gs ≡ Some c.in-Some.i = same_indexes c.args.name.now c.args.groups.now.items gs (names spot) ∙ at spot in
+    let here : position (λ g. same_name c.args.name g.name) gs ≡ Some c.in-Some.i = same_indexes c.args.name c.args.groups.now.items gs (names spot) ∙ at spot in
     c.take_leaving.ensures.count group.from
-    ∙ (ap (count_by (leaves_where true c.args.leaving.now)) (sym (members-found c.args.name.now gs c.in-Some.i group.from here))
-    ∙ (ap (λ all. count_by (leaves_where all c.args.leaving.now) (members_in (map group_state gs) c.args.name.now)) (sym c.if-not-all_succeeded.false)
-    ∙ ap (λ (ss : List GroupState). count_by (leaves_where c.args.all_succeeded c.args.leaving.now) (members_in ss c.args.name.now)) (states spot)))
+    ∙ (ap (count_by (leaves_where true c.args.leaving.now)) (sym (members-found c.args.name gs c.in-Some.i group.from here))
+    ∙ (ap (λ all. count_by (leaves_where all c.args.leaving.now) (members_in (map group_state gs) c.args.name)) (sym c.if-not-all_succeeded.false)
+    ∙ ap (λ (ss : List GroupState). count_by (leaves_where c.args.all_succeeded c.args.leaving.now) (members_in ss c.args.name)) (states spot)))

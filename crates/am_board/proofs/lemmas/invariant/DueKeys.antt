@@ -105,21 +105,25 @@ popped_keeps (Some k) old new key other at removal same apart =
 
 -- ---- the keys of the first groups
 
+-- the set has the key of a group, unless a flush of it is open
+abbrev pub HasKeyOf : DueSet → Group → Type 0
+HasKeyOf set g = g.is_open ≡ false → HasKey set (key_of g)
+
 -- the set has the keys of the groups below an index
 abbrev pub HasBelow : DueSet → List Group → ℕ → Type 0
-HasBelow new groups n = (k : ℕ) (d : Group) → k < n → HasKey new (key_of (get_or groups k d))
+HasBelow new groups n = (k : ℕ) (d : Group) → k < n → HasKeyOf new (get_or groups k d)
 
 -- and of the one at it, once its key was put in
 pub has_next : (old new : DueSet) (groups : List Group) (n : ℕ) (g : Group) → n < length groups → g ≡ get_or groups n g
-    → HasBelow old groups n → HasKey new (key_of g) → ((key : DueKey) → HasKey old key → HasKey new key) → HasBelow new groups (n + 1)
+    → HasBelow old groups n → HasKeyOf new g → ((key : DueKey) → HasKey old key → HasKey new key) → HasBelow new groups (n + 1)
 has_next old new groups n g within is below has keeps k d less =
-    elim (eqb k n) as (λ b. eqb k n ≡ b → HasKey new (key_of (get_or groups k d))) [
+    elim (eqb k n) as (λ b. eqb k n ≡ b → HasKeyOf new (get_or groups k d)) [
       | true ↦ λ e.
           let here : get_or groups k d ≡ g = ap (λ j. get_or groups j d) (eqb-true k n e) ∙ (get_or_default groups n d g within ∙ sym is) in
-          subst (λ x. HasKey new (key_of x)) (sym here) has
-      | false ↦ λ e.
+          subst (HasKeyOf new) (sym here) has
+      | false ↦ λ e closed.
           let apart : k ≢ n = eqb-false k n e in
-          keeps (key_of (get_or groups k d)) (below k d (omega (arith, less, apart)))
+          keeps (key_of (get_or groups k d)) (below k d (omega (arith, less, apart)) closed)
     ] refl
 
 -- ---- each group has its name alone
@@ -165,14 +169,14 @@ keys_set (e ∷ es) (suc i) x = ap (λ ks. e.0 ∷ ks) (keys_set es i x)
 
 -- the group at an index was changed, and maybe its key
 due_set : (old new : DueSet) (gs : List Group) (i : ℕ) (from to : Group) → IsDistinct same_name (names_of gs) → from ≡ get_or gs i from → i < length gs
-    → HasKey new (key_of to) → ((key : DueKey) → same_name key.name from.name ≡ false → HasKey old key → HasKey new key)
+    → HasKeyOf new to → ((key : DueKey) → same_name key.name from.name ≡ false → HasKey old key → HasKey new key)
     → AreDue old gs → AreDue new (set gs i to)
 due_set old new gs i from to distinct at within has keeps due k d less =
     let there : k < length gs = omega (arith, less, length-set gs i to) in
-    elim (eqb k i) as (λ b. eqb k i ≡ b → HasKey new (key_of (get_or (set gs i to) k d))) [
+    elim (eqb k i) as (λ b. eqb k i ≡ b → HasKeyOf new (get_or (set gs i to) k d)) [
       | true ↦ λ e.
           let is : get_or (set gs i to) k d ≡ to = ap (λ j. get_or (set gs i to) j d) (eqb-true k i e) ∙ get_or-set_same gs i to d within in
-          subst (λ x. HasKey new (key_of x)) (sym is) has
+          subst (HasKeyOf new) (sym is) has
       | false ↦ λ e.
           let apart : k ≢ i = eqb-false k i e in
           let is : get_or (set gs i to) k d ≡ get_or gs k d = get_or-set_other gs i k to d apart in
@@ -181,21 +185,21 @@ due_set old new gs i from to distinct at within has keeps due k d less =
             | true ↦ λ same. absurd (apart (sym (only_index gs k i d from distinct there within (ap (λ (x : Group). same_name (get_or gs k d).name x.name) (sym at) ∙ same))))
             | false ↦ λ same. refl
           ] refl in
-          subst (λ x. HasKey new (key_of x)) (sym is) (keeps (key_of (get_or gs k d)) other (due k d there))
+          subst (HasKeyOf new) (sym is) (λ closed. keeps (key_of (get_or gs k d)) other (due k d there closed))
     ] refl
 
 -- the key of a group that is there
 pub had_at : (due : DueSet) (es : List (GroupName × Group)) (i : ℕ) (from : Group) (name : GroupName) → IsTied due es → slice_get (values_of es) i ≡ Some from → name ≡ from.name
-    → HasKey due (key_at name from.due)
-had_at due es i from name tied at named =
+    → from.is_open ≡ false → HasKey due (key_at name from.due)
+had_at due es i from name tied at named closed =
     let there = value_at (values_of es) i from at in
     let key : key_of (get_or (values_of es) i from) ≡ key_at name from.due = ap key_of (sym there.0) ∙ (λ j. key_at (sym named j) from.due) in
-    subst (HasKey due) key (tied.due i from there.1)
+    subst (HasKey due) key (tied.due i from there.1 (ap (λ (g : Group). g.is_open) (sym there.0) ∙ closed))
 
 -- a group was changed, and its key from one time to another
 pub tied_change : (old new : DueSet) (es : List (GroupName × Group)) (i : ℕ) (from to : Group) (name : GroupName) (due : ℕ) → IsTied old es → slice_get (values_of es) i ≡ Some from
     → name ≡ from.name → to.name ≡ from.name → to.due ≡ due
-    → HasKey new (key_at name due) → ((key : DueKey) → same_name key.name name ≡ false → HasKey old key → HasKey new key)
+    → (to.is_open ≡ false → HasKey new (key_at name due)) → ((key : DueKey) → same_name key.name name ≡ false → HasKey old key → HasKey new key)
     → IsTied new (set_value_at es i to)
 tied_change old new es i from to name due tied at called named time has keeps =
     let there = value_at (values_of es) i from at in
@@ -205,17 +209,18 @@ tied_change old new es i from to name due tied at called named time has keeps =
       distinct = subst (IsDistinct same_name) (sym (keys_set es i to)) tied.distinct;
       due = subst (AreDue new) (sym (values-set es i to))
           (due_set old new (values_of es) i from to (subst (IsDistinct same_name) (sym (names-keys es tied.keyed)) tied.distinct) there.0 there.1
-          (subst (HasKey new) key has) (λ k apart. keeps k (ap (same_name k.name) called ∙ apart)) tied.due);
+          (λ closed. subst (HasKey new) key (has closed)) (λ k apart. keeps k (ap (same_name k.name) called ∙ apart)) tied.due);
     }
 
 -- a group was changed, but not its key
 pub tied_same : (due : DueSet) (es : List (GroupName × Group)) (i : ℕ) (from to : Group) → IsTied due es → slice_get (values_of es) i ≡ Some from → to.name ≡ from.name
-    → to.due ≡ from.due → IsTied due (set_value_at es i to)
-tied_same due es i from to tied at named same =
-    tied_change due due es i from to from.name from.due tied at refl named same (had_at due es i from from.name tied at refl) (λ k apart has. has)
+    → to.due ≡ from.due → to.is_open ≡ from.is_open → IsTied due (set_value_at es i to)
+tied_same due es i from to tied at named same marked =
+    tied_change due due es i from to from.name from.due tied at refl named same
+    (λ closed. had_at due es i from from.name tied at refl (sym marked ∙ closed)) (λ k apart has. has)
 
 -- a group was added, and its key
 pub due_push : (old new : DueSet) (gs : List Group) (g : Group) → AreDue old gs → HasKey new (key_of g) → ((key : DueKey) → HasKey old key → HasKey new key) → AreDue new (gs ++ g ∷ [])
 due_push old new gs g due has keeps =
-    let Has : Group → Type 0 = λ x. HasKey new (key_of x) in
-    All-append Has gs (g ∷ []) (All-weaker (λ x. HasKey old (key_of x)) Has (λ x h. keeps (key_of x) h) gs due) (All-cons Has g [] has (All-nil Has))
+    let Has : Group → Type 0 = HasKeyOf new in
+    All-append Has gs (g ∷ []) (All-weaker (HasKeyOf old) Has (λ x h closed. keeps (key_of x) (h closed)) gs due) (All-cons Has g [] (λ closed. has) (All-nil Has))

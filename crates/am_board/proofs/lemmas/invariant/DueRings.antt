@@ -1,9 +1,9 @@
 -- Keys that rise: what stays of that, and which keys are there, as keys come and go.
 use Rattle.std.proofs.Common.{◌≡◌, ℕ, zero, suc, ◌+◌, ◌<◌, Bool, true, false, true≢false, ◌||◌, Option, Some, None, List, [], ◌∷◌, ◌++◌, length, get_or, slice_get, refl, sym, ap, ◌∙◌, subst, arith}
 use Rattle.std.specs.Prelude.{IfSome, unwrap_or}
-use Rattle.std.specs.List.{AllByRecursion, remove}
+use Rattle.std.specs.List.{AllByRecursion}
 use Rattle.std.specs.List.Sorted.{IsStrictlySortedBy}
-use Rattle.std.specs.Option.{is_some, option_to_list, OnSome}
+use Rattle.std.specs.Option.{option_to_list}
 use Rattle.std.specs.Ordering.{is_eq, is_gt, is_lt, ordering_reverse}
 use Rattle.std.specs.declared.cmp.Ordering.{Ordering}
 use Rattle.std.specs.declared.cmp.Ordering.TheVariants.{Less, Equal, Greater}
@@ -88,40 +88,6 @@ first_keeps (Some k) old new key other at is apart =
     let differs : is_eq (key_cmp other k) ≡ false = ap (λ (x : DueKey). is_eq (key_cmp other x)) same ∙ apart in
     sym (ap (λ (ks : List DueKey). has_key ks other) is ∙ ap (λ b. b || has_key new other) differs)
 
--- ---- a key at an index goes
-
-without_at : (P : DueKey → Type 0) (keys : List DueKey) (i : ℕ) → AllByRecursion P keys → AllByRecursion P (remove keys i)
-without_at P [] zero h = tt
-without_at P [] (suc i) h = tt
-without_at P (y ∷ ys) zero h = h.1
-without_at P (y ∷ ys) (suc i) h = (h.0, without_at P ys i h.1)
-
--- the others rise
-pub rise_removed : (keys : List DueKey) (i : ℕ) → AreRising keys → AreRising (remove keys i)
-unfolding IsStrictlySortedBy
-rise_removed [] zero rising = tt
-rise_removed [] (suc i) rising = tt
-rise_removed (y ∷ ys) zero rising = rising.1
-rise_removed (y ∷ ys) (suc i) rising = (without_at (λ z. key_cmp z y ≡ Less) ys i rising.0, rise_removed ys i rising.1)
-
--- and other keys stay
-others_stay : (keys : List DueKey) (i : ℕ) (d other : DueKey) → i < length keys → is_eq (key_cmp other (get_or keys i d)) ≡ false
-    → has_key (remove keys i) other ≡ has_key keys other
-others_stay [] i d other within apart = absurd (omega (arith, within))
-others_stay (y ∷ ys) zero d other within apart = sym (ap (λ b. b || has_key ys other) apart)
-others_stay (y ∷ ys) (suc i) d other within apart = ap (λ b. is_eq (key_cmp other y) || b) (others_stay ys i d other (omega (arith, within)) apart)
-
-pub removed_keeps : (keys : List DueKey) (i : ℕ) (key other : DueKey) → slice_get keys i ≡ Some key → is_eq (key_cmp other key) ≡ false
-    → has_key (remove keys i) other ≡ has_key keys other
-removed_keeps keys i key other at apart =
-    let there = value_at keys i key at in
-    others_stay keys i key other there.1 (ap (λ (k : DueKey). is_eq (key_cmp other k)) (sym there.0) ∙ apart)
-
--- a key was there, so it went
-pub removed_all : (o : Option DueKey) (old new : List DueKey) (i : ℕ) (d : DueKey) → o ≡ Some (get_or old i d) → OnSome o (new ≡ remove old i) → new ≡ remove old i
-removed_all None old new i d is went = absurd (true≢false (sym (ap is_some is)))
-removed_all (Some k) old new i d is went = went
-
 -- ---- the key of an index
 
 -- a key of this time and name is there
@@ -147,7 +113,7 @@ either_stays false b c d f g h = in_second c d (g h)
 
 -- ---- a key was put behind all others
 
-self_tied : (o : Ordering) → o ≡ ordering_reverse o → is_eq o ≡ true
+pub self_tied : (o : Ordering) → o ≡ ordering_reverse o → is_eq o ≡ true
 self_tied Less same = absurd (true≢false (sym (ap is_gt same)))
 self_tied Equal same = refl
 self_tied Greater same = absurd (true≢false (ap is_gt same))

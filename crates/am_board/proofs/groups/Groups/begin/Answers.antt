@@ -1,22 +1,19 @@
-use Rattle.std.proofs.Common.{◌≡◌, true, ap}
+use Rattle.std.proofs.Common.{◌≡◌, true, true≢false, ap}
 use Rattle.indexmap.specs.IndexMap.{spare}
 use Rattle.am_board.specs.declared.group.Group.{Group}
 use Rattle.am_board.proofs.lemmas.insert.GroupRoom.{changes_at}
-use Rattle.am_board.proofs.lemmas.invariant.DueKeys.{had_at, tied_change}
+use Rattle.am_board.proofs.lemmas.invariant.DueKeys.{tied_change}
 use Rattle.am_board.proofs.groups.Groups.begin.Goals as goal
 
 -- a group with an open flush
 abbrev opened : Group → Group
 opened g = record g { is_open = true }
 
-pub change-requires : goal.change-requires
-change-requires c =
-    had_at c.self.inside.due c.self.inside.groups.entries c.args.i c.index_mut-group.result.now c.mark_begun.new.group.name c.self.invariant c.index_mut-group.ensures.value (ap (λ (g : Group). g.name) c.mark_begun.ensures)
-
+-- its key went
 pub invariant_of-self : goal.invariant_of-self
 invariant_of-self c =
-    tied_change c.self.inside.due c.change.new.self c.self.inside.groups.entries c.args.i c.index_mut-group.result.now (opened c.mark_begun.new.group) c.mark_begun.new.group.name c.args.due c.self.invariant c.index_mut-group.ensures.value
-    (ap (λ (g : Group). g.name) c.mark_begun.ensures) (ap (λ (g : Group). g.name) c.mark_begun.ensures) (ap (λ (g : Group). g.due) c.mark_begun.ensures) c.change.ensures.has c.change.ensures.keeps
+    tied_change c.self.inside.due c.lend.new.self c.self.inside.groups.entries c.args.i c.index_mut-group.result.now (opened c.mark_begun.new.group) c.mark_begun.new.group.name c.args.due c.self.invariant c.index_mut-group.ensures.value
+    (ap (λ (g : Group). g.name) c.mark_begun.ensures) (ap (λ (g : Group). g.name) c.mark_begun.ensures) (ap (λ (g : Group). g.due) c.mark_begun.ensures) (λ closed. absurd (true≢false closed)) c.lend.ensures
 
 pub returns : goal.returns
 returns c =

@@ -1,4 +1,4 @@
-use Rattle.std.proofs.Common.{◌≡◌, true, ap, ◌∙◌}
+use Rattle.std.proofs.Common.{◌≡◌, true, sym, ap, ◌∙◌}
 use Rattle.indexmap.specs.IndexMap.{spare}
 use Rattle.am_board.specs.Refinement.{group_state}
 use Rattle.am_model.specs.State.{GroupState}
@@ -13,14 +13,16 @@ use Rattle.am_board.specs.Marks.{marks_of}
 use Rattle.am_board.proofs.lemmas.invariant.Keyed.{value_at, values-set}
 use Rattle.am_board.proofs.lemmas.invariant.Marks.{marks_set}
 
-pub change-requires : goal.change-requires
-change-requires c =
-    had_at c.self.inside.due c.self.inside.groups.entries c.args.i c.index_mut-group.result.now c.mark_begun.new.group.name c.self.invariant c.index_mut-group.ensures.value (ap (λ (g : Group). g.name) c.mark_begun.ensures)
-
 pub invariant_of-self : goal.invariant_of-self
 invariant_of-self c =
-    tied_change c.self.inside.due c.change.new.self c.self.inside.groups.entries c.args.i c.index_mut-group.result.now c.take_resolved.new.group c.mark_begun.new.group.name c.args.due c.self.invariant c.index_mut-group.ensures.value
-    (ap (λ (g : Group). g.name) c.mark_begun.ensures) (ap (λ (g : GroupState). g.name) c.take_resolved.ensures.group ∙ ap (λ (g : Group). g.name) c.mark_begun.ensures) (ap (λ (g : GroupState). g.due) c.take_resolved.ensures.group ∙ ap (λ (g : Group). g.due) c.mark_begun.ensures) c.change.ensures.has c.change.ensures.keeps
+    let es = c.self.inside.groups.entries in
+    let was = c.index_mut-group.result.now in
+    let name = c.mark_begun.new.group.name in
+    let named = ap (λ (g : Group). g.name) c.mark_begun.ensures in
+    let marked = c.take_resolved.ensures.opened ∙ ap (λ (g : Group). g.is_open) c.mark_begun.ensures in
+    tied_change c.self.inside.due c.change.new.self es c.args.i was c.take_resolved.new.group name c.args.due c.self.invariant c.index_mut-group.ensures.value
+    named (ap (λ (g : GroupState). g.name) c.take_resolved.ensures.group ∙ named) (ap (λ (g : GroupState). g.due) c.take_resolved.ensures.group ∙ ap (λ (g : Group). g.due) c.mark_begun.ensures)
+    (λ closed. c.change.ensures.has (had_at c.self.inside.due es c.args.i was name c.self.invariant c.index_mut-group.ensures.value named (sym marked ∙ closed))) c.change.ensures.keeps
 
 pub returns-clause-group : goal.returns-clause-group
 returns-clause-group c =

@@ -4,7 +4,7 @@ use Rattle.std.specs.Map.{values_of}
 use Rattle.indexmap.proofs.CallerLemmas.{filter-RetainsPairs}
 use Rattle.std.proofs.lemmas.List.Elements.{All-filter}
 use Rattle.am_alerts.specs.RoutingTree.{last_of}
-use Rattle.am_board.specs.Due.{key_of, AreDue, HasKey}
+use Rattle.am_board.specs.Due.{AreDue}
 use Rattle.am_board.specs.declared.group.Group.{Group}
 use Rattle.am_model.specs.declared.group.GroupName.{GroupName}
 use Rattle.am_board.specs.Group.{names_of, AreRouted}
@@ -14,6 +14,7 @@ use Rattle.am_board.specs.Refinement.{group_state}
 use Rattle.am_model.specs.Lists.{without}
 use Rattle.am_model.specs.State.{same_name}
 use Rattle.am_model.specs.Maintenance.{has_no_alerts}
+use Rattle.am_board.proofs.lemmas.invariant.DueKeys.{HasKeyOf}
 use Rattle.am_board.proofs.lemmas.invariant.Keyed.{values-filter, length-values, AreKeyed-filter}
 use Rattle.am_board.proofs.lemmas.maintain.Maintenance.{map-without, length-without, All-map_filter}
 use Rattle.am_board.proofs.groups.Groups.drop_empty.Goals as goal
@@ -34,7 +35,7 @@ keyed c =
 pub tidy-requires : goal.tidy-requires
 tidy-requires c =
     subst (AreDue c.self.inside.due) (sym (c.as_slice.ensures ∙ (c.values.ensures.rest ∙ left ((goal.at.tidy-requires c).After-retain))))
-    (All-filter (λ g. not (has_no_alerts (group_state g))) (λ (g : Group). HasKey c.self.inside.due (key_of g)) (values_of c.self.inside.groups.entries) c.self.invariant.due)
+    (All-filter (λ g. not (has_no_alerts (group_state g))) (HasKeyOf c.self.inside.due) (values_of c.self.inside.groups.entries) c.self.invariant.due)
 
 pub invariant_of-self : goal.invariant_of-self
 invariant_of-self c =

@@ -17,13 +17,13 @@ use Rattle.am_board.proofs.groups.Groups.first_due.Goals as goal
 returned : (due : DueSet) (es : List (GroupName × Group)) → IsTied due es → (fs : List FlushState) → AreMarked fs (values_of es) → TellOpen fs (values_of es)
 returned due es tied fs marked = tell_open fs (values_of es) (subst (IsDistinct same_name) (sym (names-keys es tied.keyed)) tied.distinct) marked
 
-pub returns-then-self-clause-first : goal.returns-then-self-clause-first
-returns-then-self-clause-first c fs marked =
-    subst (λ (k : GroupList). IsFirst k.items c.first_by_keys.result (first_of fs c.args.t (map group_state k.items))) c.self.view_is
-    (c.first_by_keys.ensures.first fs (returned c.self.inside.due c.self.inside.groups.entries c.self.invariant fs (subst (λ (k : GroupList). AreMarked fs k.items) (sym c.self.view_is) marked)))
+pub returns-in-Some-clause-first : goal.returns-in-Some-clause-first
+returns-in-Some-clause-first c fs marked =
+    subst (λ (k : GroupList). IsFirst k.items c.in-Some.first (first_of fs c.args.t (map group_state k.items))) c.self.view_is
+    (c.in-Some.ensures.first fs (returned c.self.inside.due c.self.inside.groups.entries c.self.invariant fs (subst (λ (k : GroupList). AreMarked fs k.items) (sym c.self.view_is) marked)))
 
-pub returns-else-self-clause-first : goal.returns-else-self-clause-first
-returns-else-self-clause-first c fs marked =
+pub returns-in-None-clause-first : goal.returns-in-None-clause-first
+returns-in-None-clause-first c fs marked =
     let es = c.self.inside.groups.entries in
     let whole = c.as_slice.ensures ∙ c.values.ensures.rest in
     subst (λ (k : GroupList). IsFirst k.items c.first_by_walk.result (first_of fs c.args.t (map group_state k.items))) c.self.view_is

@@ -1,4 +1,4 @@
-use Rattle.std.proofs.Common.{refl}
+use Rattle.std.proofs.Common.{refl, sym, ◌∙◌}
 use Rattle.indexmap.specs.IndexMap.{spare}
 use Rattle.am_board.proofs.lemmas.insert.GroupRoom.{changes_at}
 use Rattle.am_board.proofs.lemmas.invariant.DueKeys.{had_at, tied_change}
@@ -6,14 +6,14 @@ use Rattle.am_board.specs.Group.{Gets}
 use Rattle.am_board.specs.Refinement.{member_state}
 use Rattle.am_board.proofs.groups.Groups.insert.Goals as goal
 
-pub change-requires : goal.change-requires
-change-requires c =
-    had_at c.self.inside.due c.self.inside.groups.entries c.args.i c.index_mut-group.result.now c.insert.new.self.name c.self.invariant c.index_mut-group.ensures.value c.insert.ensures.name
-
 pub invariant_of-self : goal.invariant_of-self
 invariant_of-self c =
-    tied_change c.self.inside.due c.change.new.self c.self.inside.groups.entries c.args.i c.index_mut-group.result.now c.insert.new.self c.insert.new.self.name c.insert.new.self.due c.self.invariant c.index_mut-group.ensures.value
-    c.insert.ensures.name c.insert.ensures.name refl c.change.ensures.has c.change.ensures.keeps
+    let es = c.self.inside.groups.entries in
+    let was = c.index_mut-group.result.now in
+    let group = c.insert.new.self in
+    tied_change c.self.inside.due c.change.new.self es c.args.i was group group.name group.due c.self.invariant c.index_mut-group.ensures.value
+    c.insert.ensures.name c.insert.ensures.name refl
+    (λ closed. c.change.ensures.has (had_at c.self.inside.due es c.args.i was group.name c.self.invariant c.index_mut-group.ensures.value c.insert.ensures.name (sym c.insert.ensures.opened ∙ closed))) c.change.ensures.keeps
 
 pub returns : goal.returns
 returns c =

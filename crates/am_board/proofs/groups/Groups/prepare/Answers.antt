@@ -14,7 +14,7 @@ prepare-requires c =
 pub invariant_of-self : goal.invariant_of-self
 invariant_of-self c =
     tied_same c.self.inside.due c.self.inside.groups.entries c.args.i c.index_mut.result.now c.prepare.new.group c.self.invariant c.index_mut.ensures.value
-    (ap (λ (g : Group). g.name) c.prepare.ensures.group) (ap (λ (g : Group). g.due) c.prepare.ensures.group)
+    (ap (λ (g : Group). g.name) c.prepare.ensures.group) (ap (λ (g : Group). g.due) c.prepare.ensures.group) (ap (λ (g : Group). g.is_open) c.prepare.ensures.group)
 
 pub returns-clause-groups : goal.returns-clause-groups
 returns-clause-groups c =

@@ -1,4 +1,4 @@
-use Rattle.std.proofs.Common.{refl, ap, ◌∙◌, map, arith}
+use Rattle.std.proofs.Common.{refl, sym, ap, ◌∙◌, map, arith}
 use Rattle.std.specs.Map.{values_of}
 use Rattle.indexmap.specs.IndexMap.{spare}
 use Rattle.am_board.proofs.lemmas.insert.GroupRoom.{changes_at}
@@ -10,14 +10,15 @@ use Rattle.am_board.specs.GroupList.{GroupList}
 use Rattle.am_board.specs.Inserting.{stamped_alert}
 use Rattle.am_board.proofs.groups.Groups.replace.Goals as goal
 
-pub change-requires : goal.change-requires
-change-requires c =
-    had_at c.self.inside.due c.self.inside.groups.entries c.args.spot.group c.index_mut-group.result.now c.replace.new.self.name c.self.invariant c.index_mut-group.ensures.value c.replace.ensures.name
-
 pub invariant_of-self : goal.invariant_of-self
 invariant_of-self c =
-    tied_change c.self.inside.due c.change.new.self c.self.inside.groups.entries c.args.spot.group c.index_mut-group.result.now c.replace.new.self c.replace.new.self.name c.replace.new.self.due c.self.invariant
-    c.index_mut-group.ensures.value c.replace.ensures.name c.replace.ensures.name refl c.change.ensures.has c.change.ensures.keeps
+    let es = c.self.inside.groups.entries in
+    let i = c.args.spot.group in
+    let was = c.index_mut-group.result.now in
+    let group = c.replace.new.self in
+    tied_change c.self.inside.due c.change.new.self es i was group group.name group.due c.self.invariant c.index_mut-group.ensures.value
+    c.replace.ensures.name c.replace.ensures.name refl
+    (λ closed. c.change.ensures.has (had_at c.self.inside.due es i was group.name c.self.invariant c.index_mut-group.ensures.value c.replace.ensures.name (sym c.replace.ensures.opened ∙ closed))) c.change.ensures.keeps
 
 pub returns-clause-group : goal.returns-clause-group
 returns-clause-group c =

@@ -10,7 +10,7 @@ use Rattle.am_board.proofs.groups.Groups.reserve_at.Goals as goal
 
 pub invariant_of-self : goal.invariant_of-self
 invariant_of-self c =
-    tied_same c.self.inside.due c.self.inside.groups.entries c.args.i c.index_mut.result.now c.reserve_members.new.group c.self.invariant c.index_mut.ensures.value (c.reserve_members.ensures.kept.name) (ap (λ (g : GroupState). g.due) c.reserve_members.ensures.kept.state)
+    tied_same c.self.inside.due c.self.inside.groups.entries c.args.i c.index_mut.result.now c.reserve_members.new.group c.self.invariant c.index_mut.ensures.value (c.reserve_members.ensures.kept.name) (ap (λ (g : GroupState). g.due) c.reserve_members.ensures.kept.state) c.reserve_members.ensures.kept.is_open
 
 pub returns-clause-kept : goal.returns-clause-kept
 returns-clause-kept c =

@@ -17,7 +17,7 @@ use Rattle.am_board.proofs.lemmas.invariant.Marks.{marks_set}
 
 pub invariant_of-self : goal.invariant_of-self
 invariant_of-self c =
-    tied_same c.self.inside.due c.self.inside.groups.entries c.args.i c.index_mut.result.now c.take_leaving.new.group c.self.invariant c.index_mut.ensures.value (ap (λ (g : GroupState). g.name) c.take_leaving.ensures.group) (ap (λ (g : GroupState). g.due) c.take_leaving.ensures.group)
+    tied_same c.self.inside.due c.self.inside.groups.entries c.args.i c.index_mut.result.now c.take_leaving.new.group c.self.invariant c.index_mut.ensures.value (ap (λ (g : GroupState). g.name) c.take_leaving.ensures.group) (ap (λ (g : GroupState). g.due) c.take_leaving.ensures.group) c.take_leaving.ensures.opened
 
 pub returns-clause-group : goal.returns-clause-group
 returns-clause-group c =

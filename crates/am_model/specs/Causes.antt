@@ -73,6 +73,10 @@ begin_cause config records s t =
 abbrev pub maintain_cause : Config → ℕ → State → Option Fault
 maintain_cause config records s = if is_full config records s 1 then Some HistoryFull else None
 
+-- why a removal of empty groups is refused
+abbrev pub removal_cause : Config → ℕ → State → Option Fault
+removal_cause config records s = if is_full config records s 1 then Some HistoryFull else None
+
 -- why a forgetting is refused
 abbrev pub forget_cause : Config → ℕ → State → Option Fault
 forget_cause config records s = if is_full config records s 1 then Some HistoryFull else None

@@ -11,7 +11,7 @@ use Rattle.am_model.specs.declared.record.Call.{Call}
 use Rattle.am_model.specs.declared.record.Record.{Record}
 use Rattle.am_model.specs.declared.record.Reply.{Reply}
 use Rattle.am_model.specs.declared.record.Reply.TheVariants.{Inserted, Silenced, NothingDue, Quiet, Flush}
-use Rattle.am_model.specs.declared.record.Reply.TheVariants.{Finished, Maintained, Forgotten, Loaded, Noted}
+use Rattle.am_model.specs.declared.record.Reply.TheVariants.{Finished, Maintained, EmptyGroupsRemoved, Forgotten, Loaded, Noted}
 use Rattle.am_model.specs.declared.fault.Fault.TheVariants.{TooManyOpen}
 use Rattle.am_model.specs.Carry.{carried, is_led_to}
 use Rattle.am_model.specs.Causes.{begin_cause}
@@ -54,8 +54,8 @@ time_of history = fold (λ t r. max t (min (now_of r.call) MAX_TIME)) 0 history
 abbrev pub ClockIsTime : Type 0
 ClockIsTime = (config : Config) (history : List Record) → (replay config history).clock ≡ time_of history
 
--- the time of the last begin of a group since it was made, after a record that leaves the clock at t; a maintenance that finds the
--- group without alerts ends it
+-- the time of the last begin of a group since it was made, after a record that leaves the clock at t; a maintenance or a removal of
+-- empty groups that finds the group without alerts ends it
 abbrev pub last_begin_after : GroupName → State → ℕ → Option ℕ → Reply → Option ℕ
 last_begin_after name s t last (Inserted inserted) = last
 last_begin_after name s t last (Silenced silenced) = last
@@ -64,6 +64,7 @@ last_begin_after name s t last (Quiet group removed) = if same_name name group t
 last_begin_after name s t last (Flush group opened) = if same_name name group then Some t else last
 last_begin_after name s t last (Finished finished) = last
 last_begin_after name s t last (Maintained maintained) = if is_empty (members_in s.groups name) then None else last
+last_begin_after name s t last (EmptyGroupsRemoved removed) = if is_empty (members_in s.groups name) then None else last
 last_begin_after name s t last (Forgotten forgotten) = last
 last_begin_after name s t last (Loaded loaded) = last
 last_begin_after name s t last Noted = last
@@ -88,7 +89,8 @@ abbrev pub IsThere : State → GroupName → Option ℕ → Type 0
 IsThere s name None = Unit {0}
 IsThere s name (Some t) = IsTrue (has_group s.groups name)
 
--- the groups of a history are due as their begins say, and no group that was begun goes but by a maintenance
+-- the groups of a history are due as their begins say, and no group that was begun goes but by a maintenance or a removal of
+-- empty groups
 pub record KeepsBegins (config : Config) (history : List Record) : Type 0 where
   pub due : All (λ g. IsBegunAt config g (last_begin config g.name history)) (replay config history).groups
   pub there : (name : GroupName) → IsThere (replay config history) name (last_begin config name history)
@@ -196,6 +198,7 @@ bare_reply (Quiet group removed) = Quiet group removed
 bare_reply (Flush group opened) = Flush group opened
 bare_reply (Finished finished) = Finished finished
 bare_reply (Maintained maintained) = Maintained maintained
+bare_reply (EmptyGroupsRemoved removed) = EmptyGroupsRemoved removed
 bare_reply (Forgotten forgotten) = Forgotten (record { alerts = 0; silences = 0 })
 bare_reply (Loaded loaded) = Loaded loaded
 bare_reply Noted = Noted

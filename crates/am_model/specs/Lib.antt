@@ -42,7 +42,7 @@ pub mod RouteKeys
 pub mod State
 -- a ticket as contracts see it, and the outcomes that it records
 pub mod Ticket
--- the calls silence and maintain
+-- the calls silence, maintain and remove_empty_groups
 pub mod Maintenance
 -- the limits, the default and the faults' numbers, by their values
 pub mod Values

@@ -1,8 +1,9 @@
--- Upkeep: the calls silence and maintain.
+-- Upkeep: the calls silence, maintain and remove_empty_groups.
 use Rattle.std.specs.Prelude.{ℕ, Bool, ◌==◌, nat_le, count_by}
 use Rattle.std.specs.List.{list_any}
 use Rattle.am_mute.specs.Silence.{SilenceData}
 use Rattle.am_nflog.specs.Members.{is_empty}
+use Rattle.am_model.specs.declared.record.EmptyGroupsRemoved.{EmptyGroupsRemoved}
 use Rattle.am_model.specs.declared.record.Maintained.{Maintained}
 use Rattle.am_model.specs.declared.record.Silenced.{Silenced}
 use Rattle.am_model.specs.declared.views.RowView.{RowView}
@@ -38,3 +39,11 @@ maintained s t = record { groups = count_by has_no_alerts s.groups; entries = co
 abbrev pub after_maintain : State → ℕ → State
 after_maintain s t =
     record s { clock = t; groups = without has_no_alerts s.groups; rows = without (has_expired t) s.rows }
+
+-- the reply to a removal of empty groups: how many groups go
+abbrev pub empty_groups_removed : State → EmptyGroupsRemoved
+empty_groups_removed s = record { groups = count_by has_no_alerts s.groups }
+
+-- the state after a removal of empty groups at t: groups without alerts go, and nothing else (Alertmanager's dispatch maintenance)
+abbrev pub after_removal : State → ℕ → State
+after_removal s t = record s { clock = t; groups = without has_no_alerts s.groups }

@@ -12,6 +12,7 @@ finished_with number (call.Silence now id matchers start end) = None
 finished_with number (call.Begin now) = None
 finished_with number (call.Finish now finished outcomes) = if finished == number then Some outcomes else None
 finished_with number (call.Maintain now) = None
+finished_with number (call.RemoveEmptyGroups now) = None
 finished_with number (call.Forget now) = None
 finished_with number (call.Load now row) = None
 finished_with number (call.Note now noted integration outcome) = None

@@ -2,7 +2,7 @@
 use Rattle.std.specs.Prelude.{◌≡◌, ℕ, List, Some, slice_get}
 use Rattle.am_mute.specs.Silence.{SilenceData}
 use Rattle.am_model.specs.declared.record.Call.{Call}
-use Rattle.am_model.specs.declared.record.Call.TheVariants.{Insert, Silence, Begin, Finish, Maintain, Forget, Load, Note}
+use Rattle.am_model.specs.declared.record.Call.TheVariants.{Insert, Silence, Begin, Finish, Maintain, RemoveEmptyGroups, Forget, Load, Note}
 use Rattle.am_model.specs.declared.record.Record.{Record}
 use Rattle.am_model.specs.declared.group.GroupName.{GroupName}
 use Rattle.am_model.specs.declared.record.Reply.{Reply}
@@ -21,6 +21,7 @@ now_of (Silence now number matchers start end) = now
 now_of (Begin now) = now
 now_of (Finish now number outcomes) = now
 now_of (Maintain now) = now
+now_of (RemoveEmptyGroups now) = now
 now_of (Forget now) = now
 now_of (Load now row) = now
 now_of (Note now number integration outcome) = now

@@ -4,17 +4,17 @@ use Rattle.std.specs.Option.{option_map}
 use Rattle.am_mute.specs.Silence.{silence_of}
 use Rattle.am_model.specs.declared.config.Config.{Config}
 use Rattle.am_model.specs.declared.record.Call.{Call}
-use Rattle.am_model.specs.declared.record.Call.TheVariants.{Insert, Silence, Begin, Finish, Maintain, Forget, Load, Note}
+use Rattle.am_model.specs.declared.record.Call.TheVariants.{Insert, Silence, Begin, Finish, Maintain, RemoveEmptyGroups, Forget, Load, Note}
 use Rattle.am_model.specs.declared.record.Record.{Record}
 use Rattle.am_model.specs.declared.record.Reply.{Reply}
-use Rattle.am_model.specs.declared.record.Reply.TheVariants.{Inserted, Silenced, Finished, Maintained, Forgotten}
+use Rattle.am_model.specs.declared.record.Reply.TheVariants.{Inserted, Silenced, Finished, Maintained, EmptyGroupsRemoved, Forgotten}
 use Rattle.am_model.specs.Insert.{inserted, after_insert}
 use Rattle.am_model.specs.Begin.{begun, after_begin}
 use Rattle.am_model.specs.Finish.{finished, after_finish_of}
 use Rattle.am_model.specs.Forget.{forgotten, after_forget}
 use Rattle.am_model.specs.Load.{load_reply, after_load}
 use Rattle.am_model.specs.Note.{noted, after_note_of}
-use Rattle.am_model.specs.Maintenance.{silenced, after_silence, maintained, after_maintain}
+use Rattle.am_model.specs.Maintenance.{silenced, after_silence, maintained, after_maintain, empty_groups_removed, after_removal}
 use Rattle.am_model.specs.State.{State, opening_state, time, flush_numbered}
 
 -- the reply to a call at a state; none where the call is no legal one: a finish or a note of a flush that isn't open, or a note or a load
@@ -26,6 +26,7 @@ reply config id s (Begin now) = Some (begun config id s (time s now))
 reply config id s (Finish now number outcomes) =
     option_map (λ f. Finished (finished s outcomes f)) (flush_numbered s.flushes number)
 reply config id s (Maintain now) = Some (Maintained (maintained s (time s now)))
+reply config id s (RemoveEmptyGroups now) = Some (EmptyGroupsRemoved (empty_groups_removed s))
 reply config id s (Forget now) = Some (Forgotten (forgotten s (time s now)))
 reply config id s (Load now row) = load_reply config s (time s now) row
 reply config id s (Note now number integration outcome) = noted integration outcome (flush_numbered s.flushes number)
@@ -38,6 +39,7 @@ after_call config s (Begin now) = after_begin config s (time s now)
 after_call config s (Finish now number outcomes) =
     after_finish_of config s (time s now) outcomes (flush_numbered s.flushes number)
 after_call config s (Maintain now) = after_maintain s (time s now)
+after_call config s (RemoveEmptyGroups now) = after_removal s (time s now)
 after_call config s (Forget now) = after_forget s (time s now)
 after_call config s (Load now row) = after_load config s (time s now) row
 after_call config s (Note now number integration outcome) =

@@ -10,7 +10,7 @@
 //! - `law`: the laws, as public calls without a body.
 //! - specs `Config`, `Configured`, `Faults`, `Notice`, `Records`, `Ticket`, `Views`: what is
 //!   defined of one type, with the data that contracts see.
-//! - specs `State`, `Insert`, `Begin`, `Note`, `Finish`, `Upkeep` (silence and maintenance),
+//! - specs `State`, `Insert`, `Begin`, `Note`, `Finish`, `Maintenance` (silences and upkeep),
 //!   `Forget`, `Load`: the state, over plain lists in the order of arrival, with the reply of each call and
 //!   the state after it.
 //! - specs `Replay`: the reply that is due at a state, the replay of a history, and when one is

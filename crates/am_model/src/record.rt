@@ -45,6 +45,13 @@ pub struct Maintained {
     pub entries: usize,
 }
 
+/// The reply to a removal of empty groups.
+#[derive(Clone, Copy, Debug, PartialEq, Eq)]
+pub struct EmptyGroupsRemoved {
+    /// How many groups went.
+    pub groups: usize,
+}
+
 /// The reply to a forgetting.
 #[derive(Clone, Copy, Debug, PartialEq, Eq)]
 pub struct Forgotten {
@@ -106,6 +113,9 @@ pub enum Call {
     Maintain {
         now: u64,
     },
+    RemoveEmptyGroups {
+        now: u64,
+    },
     Forget {
         now: u64,
     },
@@ -139,6 +149,7 @@ pub enum Reply {
     },
     Finished(Finished),
     Maintained(Maintained),
+    EmptyGroupsRemoved(EmptyGroupsRemoved),
     Forgotten(Forgotten),
     Loaded(Loaded),
     Noted,

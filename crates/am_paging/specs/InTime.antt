@@ -8,11 +8,11 @@ use Rattle.am_retry.specs.declared.outcome.Outcome.{Outcome}
 use Rattle.am_model.specs.declared.config.Config.{Config}
 use Rattle.am_model.specs.declared.group.GroupName.{GroupName}
 use Rattle.am_model.specs.declared.record.Call.{Call}
-use Rattle.am_model.specs.declared.record.Call.TheVariants.{Insert, Silence, Begin, Finish, Maintain, Forget, Load, Note}
+use Rattle.am_model.specs.declared.record.Call.TheVariants.{Insert, Silence, Begin, Finish, Maintain, RemoveEmptyGroups, Forget, Load, Note}
 use Rattle.am_model.specs.declared.record.Record.{Record}
 use Rattle.am_model.specs.declared.record.Reply.{Reply}
 use Rattle.am_model.specs.declared.record.Reply.TheVariants.{Inserted, Silenced, NothingDue, Quiet, Flush}
-use Rattle.am_model.specs.declared.record.Reply.TheVariants.{Finished, Maintained, Forgotten, Loaded, Noted}
+use Rattle.am_model.specs.declared.record.Reply.TheVariants.{Finished, Maintained, EmptyGroupsRemoved, Forgotten, Loaded, Noted}
 use Rattle.am_model.specs.Configured.{route_of, integrations_of}
 use Rattle.am_model.specs.Insert.{wait_of}
 use Rattle.am_model.specs.State.{is_named}
@@ -31,6 +31,7 @@ is_finish_of name past (Silence now id matchers start end) = false
 is_finish_of name past (Begin now) = false
 is_finish_of name past (Finish now number outcomes) = begins_group name (begin_of number past)
 is_finish_of name past (Maintain now) = false
+is_finish_of name past (RemoveEmptyGroups now) = false
 is_finish_of name past (Forget now) = false
 is_finish_of name past (Load now row) = false
 is_finish_of name past (Note now number integration outcome) = false
@@ -70,6 +71,7 @@ is_nothing_due (Quiet group removed) = false
 is_nothing_due (Flush group opened) = false
 is_nothing_due (Finished finished) = false
 is_nothing_due (Maintained maintained) = false
+is_nothing_due (EmptyGroupsRemoved removed) = false
 is_nothing_due (Forgotten forgotten) = false
 is_nothing_due (Loaded loaded) = false
 is_nothing_due Noted = false
@@ -172,6 +174,7 @@ finishes_for integration past (Silence now id matchers start end) = false
 finishes_for integration past (Begin now) = false
 finishes_for integration past (Finish now number outcomes) = reaches integration number outcomes past (begin_of number past)
 finishes_for integration past (Maintain now) = false
+finishes_for integration past (RemoveEmptyGroups now) = false
 finishes_for integration past (Forget now) = false
 finishes_for integration past (Load now row) = false
 finishes_for integration past (Note now number i outcome) = false

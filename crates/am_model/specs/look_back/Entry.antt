@@ -11,11 +11,11 @@ use Rattle.am_retry.specs.declared.outcome.Outcome.{Outcome}
 use Rattle.am_model.specs.declared.config.Config.{Config}
 use Rattle.am_model.specs.declared.group.GroupName.{GroupName}
 use Rattle.am_model.specs.declared.record.Call.{Call}
-use Rattle.am_model.specs.declared.record.Call.TheVariants.{Insert, Silence, Begin, Finish, Maintain, Forget, Load, Note}
+use Rattle.am_model.specs.declared.record.Call.TheVariants.{Insert, Silence, Begin, Finish, Maintain, RemoveEmptyGroups, Forget, Load, Note}
 use Rattle.am_model.specs.declared.record.Record.{Record}
 use Rattle.am_model.specs.declared.record.Reply.{Reply}
 use Rattle.am_model.specs.declared.record.Reply.TheVariants.{Inserted, Silenced, NothingDue, Quiet, Flush}
-use Rattle.am_model.specs.declared.record.Reply.TheVariants.{Finished, Maintained, Forgotten, Loaded, Noted}
+use Rattle.am_model.specs.declared.record.Reply.TheVariants.{Finished, Maintained, EmptyGroupsRemoved, Forgotten, Loaded, Noted}
 use Rattle.am_model.specs.declared.views.RowView.{RowView}
 use Rattle.am_model.specs.Begin.{alert_cmp, label_sets, is_entry_of}
 use Rattle.am_model.specs.Configured.{rules_of, route_muted, expiry_at}
@@ -39,6 +39,7 @@ alert_in (Silence now id matchers start end) = None
 alert_in (Begin now) = None
 alert_in (Finish now number outcomes) = None
 alert_in (Maintain now) = None
+alert_in (RemoveEmptyGroups now) = None
 alert_in (Forget now) = None
 alert_in (Load now row) = None
 alert_in (Note now number integration outcome) = None
@@ -50,6 +51,7 @@ silence_in (Silence now id matchers start end) = Some (silence_of id matchers st
 silence_in (Begin now) = None
 silence_in (Finish now number outcomes) = None
 silence_in (Maintain now) = None
+silence_in (RemoveEmptyGroups now) = None
 silence_in (Forget now) = None
 silence_in (Load now row) = None
 silence_in (Note now number integration outcome) = None
@@ -114,6 +116,7 @@ row_of_flush config t integration begun past (Flush group opened) =
     })
 row_of_flush config t integration begun past (Finished finished) = None
 row_of_flush config t integration begun past (Maintained maintained) = None
+row_of_flush config t integration begun past (EmptyGroupsRemoved removed) = None
 row_of_flush config t integration begun past (Forgotten forgotten) = None
 row_of_flush config t integration begun past (Loaded loaded) = None
 row_of_flush config t integration begun past Noted = None
@@ -144,6 +147,7 @@ logs name integration past (Finish now number outcomes) =
     begins_group name (begin_of number past)
     && (notified_and_succeeded number outcomes past integration (begin_of number past) && not (was_noted number integration past))
 logs name integration past (Maintain now) = false
+logs name integration past (RemoveEmptyGroups now) = false
 logs name integration past (Forget now) = false
 logs name integration past (Load now row) = false
 logs name integration past (Note now number i outcome) = begins_group name (begin_of number past) && (i == integration)
@@ -155,6 +159,7 @@ begin_named past (Silence now id matchers start end) = []
 begin_named past (Begin now) = []
 begin_named past (Finish now number outcomes) = begin_of number past
 begin_named past (Maintain now) = []
+begin_named past (RemoveEmptyGroups now) = []
 begin_named past (Forget now) = []
 begin_named past (Load now row) = []
 begin_named past (Note now number integration outcome) = begin_of number past
@@ -173,6 +178,7 @@ row_in (Silence now id matchers start end) = None
 row_in (Begin now) = None
 row_in (Finish now number outcomes) = None
 row_in (Maintain now) = None
+row_in (RemoveEmptyGroups now) = None
 row_in (Forget now) = None
 row_in (Load now row) = Some row
 row_in (Note now number integration outcome) = None
@@ -186,6 +192,7 @@ reports_put (Quiet group removed) = false
 reports_put (Flush group opened) = false
 reports_put (Finished finished) = false
 reports_put (Maintained maintained) = false
+reports_put (EmptyGroupsRemoved removed) = false
 reports_put (Forgotten forgotten) = false
 reports_put (Loaded loaded) = is_put loaded
 reports_put Noted = false
@@ -211,6 +218,7 @@ unless_collected t (Silence now id matchers start end) row = row
 unless_collected t (Begin now) row = row
 unless_collected t (Finish now number outcomes) row = row
 unless_collected t (Maintain now) row = unless_expired t row
+unless_collected t (RemoveEmptyGroups now) row = row
 unless_collected t (Forget now) row = row
 unless_collected t (Load now loaded) row = row
 unless_collected t (Note now number integration outcome) row = row

@@ -14,11 +14,11 @@ use Rattle.am_model.specs.declared.config.Config.{Config}
 use Rattle.am_model.specs.declared.config.Integration.{Integration}
 use Rattle.am_model.specs.declared.group.GroupName.{GroupName}
 use Rattle.am_model.specs.declared.record.Call.{Call}
-use Rattle.am_model.specs.declared.record.Call.TheVariants.{Insert, Silence, Begin, Finish, Maintain, Forget, Load, Note}
+use Rattle.am_model.specs.declared.record.Call.TheVariants.{Insert, Silence, Begin, Finish, Maintain, RemoveEmptyGroups, Forget, Load, Note}
 use Rattle.am_model.specs.declared.record.Record.{Record}
 use Rattle.am_model.specs.declared.record.Reply.{Reply}
 use Rattle.am_model.specs.declared.record.Reply.TheVariants.{Inserted, Silenced, NothingDue, Quiet, Flush}
-use Rattle.am_model.specs.declared.record.Reply.TheVariants.{Finished, Maintained, Forgotten, Loaded, Noted}
+use Rattle.am_model.specs.declared.record.Reply.TheVariants.{Finished, Maintained, EmptyGroupsRemoved, Forgotten, Loaded, Noted}
 use Rattle.am_model.specs.declared.views.RowView.{RowView}
 use Rattle.am_model.specs.Begin.{alert_cmp, is_entry_of, log_row}
 use Rattle.am_model.specs.Configured.{route_of, integrations_of}
@@ -96,6 +96,7 @@ reports_delivery name integration past (Begin now) = false
 reports_delivery name integration past (Finish now number outcomes) =
     is_delivered_in name integration (outcome_of outcomes integration) (begin_of number past)
 reports_delivery name integration past (Maintain now) = false
+reports_delivery name integration past (RemoveEmptyGroups now) = false
 reports_delivery name integration past (Forget now) = false
 reports_delivery name integration past (Load now row) = false
 reports_delivery name integration past (Note now number i outcome) =
@@ -200,6 +201,7 @@ number_in (Quiet group removed) = 0
 number_in (Flush group opened) = opened.number
 number_in (Finished finished) = 0
 number_in (Maintained maintained) = 0
+number_in (EmptyGroupsRemoved removed) = 0
 number_in (Forgotten forgotten) = 0
 number_in (Loaded loaded) = 0
 number_in Noted = 0
@@ -208,7 +210,7 @@ number_in Noted = 0
 abbrev pub has_open : GroupName → Past → Bool
 has_open name past = list_any (λ r. is_flush_of name r.reply && not (has_finished (number_in r.reply) past)) past
 
--- the time of the last begin of a group, unless a maintenance since then found it without alerts
+-- the time of the last begin of a group, unless a maintenance or a removal of empty groups since then found it without alerts
 abbrev pub begun_at : Config → GroupName → Past → Option ℕ
 begun_at config name [] = None
 begun_at config name (r ∷ past) =
@@ -293,6 +295,7 @@ IsReplyFound config t past (Quiet group removed) = removed ≡ count_by (λ m. i
 IsReplyFound config t past (Flush group opened) = IsFlushFound config opened.number group opened.deadline t past opened.notices
 IsReplyFound config t past (Finished finished) = Unit {0}
 IsReplyFound config t past (Maintained maintained) = Unit {0}
+IsReplyFound config t past (EmptyGroupsRemoved removed) = Unit {0}
 IsReplyFound config t past (Forgotten forgotten) = Unit {0}
 IsReplyFound config t past (Loaded loaded) = Unit {0}
 IsReplyFound config t past Noted = Unit {0}

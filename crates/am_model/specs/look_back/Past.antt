@@ -7,11 +7,11 @@ use Rattle.am_retry.specs.declared.outcome.Outcome.{Outcome}
 use Rattle.am_model.specs.declared.config.Config.{Config}
 use Rattle.am_model.specs.declared.group.GroupName.{GroupName}
 use Rattle.am_model.specs.declared.record.Call.{Call}
-use Rattle.am_model.specs.declared.record.Call.TheVariants.{Insert, Silence, Begin, Finish, Maintain, Forget, Load, Note}
+use Rattle.am_model.specs.declared.record.Call.TheVariants.{Insert, Silence, Begin, Finish, Maintain, RemoveEmptyGroups, Forget, Load, Note}
 use Rattle.am_model.specs.declared.record.Record.{Record}
 use Rattle.am_model.specs.declared.record.Reply.{Reply}
 use Rattle.am_model.specs.declared.record.Reply.TheVariants.{Inserted, Silenced, NothingDue, Quiet, Flush}
-use Rattle.am_model.specs.declared.record.Reply.TheVariants.{Finished, Maintained, Forgotten, Loaded, Noted}
+use Rattle.am_model.specs.declared.record.Reply.TheVariants.{Finished, Maintained, EmptyGroupsRemoved, Forgotten, Loaded, Noted}
 use Rattle.am_model.specs.Records.{now_of}
 use Rattle.am_model.specs.Notice.{NoticeData, is_nothing}
 use Rattle.am_model.specs.Finish.{is_delivered}
@@ -50,6 +50,7 @@ is_flush number (Quiet group removed) = false
 is_flush number (Flush group opened) = opened.number == number
 is_flush number (Finished finished) = false
 is_flush number (Maintained maintained) = false
+is_flush number (EmptyGroupsRemoved removed) = false
 is_flush number (Forgotten forgotten) = false
 is_flush number (Loaded loaded) = false
 is_flush number Noted = false
@@ -63,6 +64,7 @@ is_quiet name (Quiet group removed) = same_name name group
 is_quiet name (Flush group opened) = false
 is_quiet name (Finished finished) = false
 is_quiet name (Maintained maintained) = false
+is_quiet name (EmptyGroupsRemoved removed) = false
 is_quiet name (Forgotten forgotten) = false
 is_quiet name (Loaded loaded) = false
 is_quiet name Noted = false
@@ -76,6 +78,7 @@ is_flush_of name (Quiet group removed) = false
 is_flush_of name (Flush group opened) = same_name name group
 is_flush_of name (Finished finished) = false
 is_flush_of name (Maintained maintained) = false
+is_flush_of name (EmptyGroupsRemoved removed) = false
 is_flush_of name (Forgotten forgotten) = false
 is_flush_of name (Loaded loaded) = false
 is_flush_of name Noted = false
@@ -93,6 +96,7 @@ notices_in (Quiet group removed) = []
 notices_in (Flush group opened) = opened.notices
 notices_in (Finished finished) = []
 notices_in (Maintained maintained) = []
+notices_in (EmptyGroupsRemoved removed) = []
 notices_in (Forgotten forgotten) = []
 notices_in (Loaded loaded) = []
 notices_in Noted = []
@@ -104,6 +108,7 @@ is_finish number (Silence now id matchers start end) = false
 is_finish number (Begin now) = false
 is_finish number (Finish now n outcomes) = n == number
 is_finish number (Maintain now) = false
+is_finish number (RemoveEmptyGroups now) = false
 is_finish number (Forget now) = false
 is_finish number (Load now row) = false
 is_finish number (Note now n integration outcome) = false
@@ -115,6 +120,7 @@ is_note number integration (Silence now id matchers start end) = false
 is_note number integration (Begin now) = false
 is_note number integration (Finish now n outcomes) = false
 is_note number integration (Maintain now) = false
+is_note number integration (RemoveEmptyGroups now) = false
 is_note number integration (Forget now) = false
 is_note number integration (Load now row) = false
 is_note number integration (Note now n i outcome) = (n == number) && (i == integration)
@@ -126,9 +132,22 @@ is_maintenance (Silence now id matchers start end) = false
 is_maintenance (Begin now) = false
 is_maintenance (Finish now n outcomes) = false
 is_maintenance (Maintain now) = true
+is_maintenance (RemoveEmptyGroups now) = false
 is_maintenance (Forget now) = false
 is_maintenance (Load now row) = false
 is_maintenance (Note now n i outcome) = false
+
+-- whether a call removes groups without alerts: a maintenance, or the removal of empty groups alone
+abbrev pub removes_empty_groups : Call → Bool
+removes_empty_groups (Insert now alert) = false
+removes_empty_groups (Silence now id matchers start end) = false
+removes_empty_groups (Begin now) = false
+removes_empty_groups (Finish now n outcomes) = false
+removes_empty_groups (Maintain now) = true
+removes_empty_groups (RemoveEmptyGroups now) = true
+removes_empty_groups (Forget now) = false
+removes_empty_groups (Load now row) = false
+removes_empty_groups (Note now n i outcome) = false
 
 -- the past that begins with the begin of the flush of this number; empty, if it isn't there
 abbrev pub begin_of : ℕ → Past → Past

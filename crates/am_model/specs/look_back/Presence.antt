@@ -8,11 +8,11 @@ use Rattle.am_retry.specs.declared.outcome.Outcome.{Outcome}
 use Rattle.am_model.specs.declared.config.Config.{Config}
 use Rattle.am_model.specs.declared.group.GroupName.{GroupName}
 use Rattle.am_model.specs.declared.record.Call.{Call}
-use Rattle.am_model.specs.declared.record.Call.TheVariants.{Insert, Silence, Begin, Finish, Maintain, Forget, Load, Note}
+use Rattle.am_model.specs.declared.record.Call.TheVariants.{Insert, Silence, Begin, Finish, Maintain, RemoveEmptyGroups, Forget, Load, Note}
 use Rattle.am_model.specs.declared.record.Record.{Record}
 use Rattle.am_model.specs.declared.record.Reply.{Reply}
 use Rattle.am_model.specs.declared.record.Reply.TheVariants.{Inserted, Silenced, NothingDue, Quiet, Flush}
-use Rattle.am_model.specs.declared.record.Reply.TheVariants.{Finished, Maintained, Forgotten, Loaded, Noted}
+use Rattle.am_model.specs.declared.record.Reply.TheVariants.{Finished, Maintained, EmptyGroupsRemoved, Forgotten, Loaded, Noted}
 use Rattle.am_model.specs.Insert.{names_for}
 use Rattle.am_model.specs.look_back.Past.{Past, time_at, is_flush, is_flush_of, is_quiet, notices_in, begin_of, succeeded}
 use Rattle.am_model.specs.State.{MemberState, same_name}
@@ -28,6 +28,7 @@ inserts labels (Silence now id matchers start end) = false
 inserts labels (Begin now) = false
 inserts labels (Finish now number outcomes) = false
 inserts labels (Maintain now) = false
+inserts labels (RemoveEmptyGroups now) = false
 inserts labels (Forget now) = false
 inserts labels (Load now row) = false
 inserts labels (Note now number integration outcome) = false
@@ -41,6 +42,7 @@ stamp_returned (Quiet group removed) = 0
 stamp_returned (Flush group opened) = 0
 stamp_returned (Finished finished) = 0
 stamp_returned (Maintained maintained) = 0
+stamp_returned (EmptyGroupsRemoved removed) = 0
 stamp_returned (Forgotten forgotten) = 0
 stamp_returned (Loaded loaded) = 0
 stamp_returned Noted = 0
@@ -52,6 +54,7 @@ inserted_by stamp (Silence now id matchers start end) = None
 inserted_by stamp (Begin now) = None
 inserted_by stamp (Finish now number outcomes) = None
 inserted_by stamp (Maintain now) = None
+inserted_by stamp (RemoveEmptyGroups now) = None
 inserted_by stamp (Forget now) = None
 inserted_by stamp (Load now row) = None
 inserted_by stamp (Note now number integration outcome) = None
@@ -88,6 +91,7 @@ finish_removes name a past (Begin now) = false
 finish_removes name a past (Finish now number outcomes) =
     resolved_at_begin name a (begin_since a.labels number past) && all_succeeded_at number outcomes past (begin_of number past)
 finish_removes name a past (Maintain now) = false
+finish_removes name a past (RemoveEmptyGroups now) = false
 finish_removes name a past (Forget now) = false
 finish_removes name a past (Load now row) = false
 finish_removes name a past (Note now number integration outcome) = false

@@ -9,7 +9,7 @@ use Rattle.am_model.specs.declared.config.Config.{Config}
 use Rattle.am_model.specs.declared.config.Integration.{Integration}
 use Rattle.am_model.specs.declared.group.GroupName.{GroupName}
 use Rattle.am_model.specs.declared.record.Call.{Call}
-use Rattle.am_model.specs.declared.record.Call.TheVariants.{Insert, Silence, Begin, Finish, Maintain, Forget, Load, Note}
+use Rattle.am_model.specs.declared.record.Call.TheVariants.{Insert, Silence, Begin, Finish, Maintain, RemoveEmptyGroups, Forget, Load, Note}
 use Rattle.am_model.specs.declared.record.Record.{Record}
 use Rattle.am_model.specs.declared.record.Reply.{Reply}
 use Rattle.am_model.specs.declared.record.Reply.TheVariants as reply_is
@@ -115,6 +115,7 @@ module _ (config : Config) (id : ℕ) (name : GroupName) where
           begin = λ now g is notified are e. absurd (begin-not now g notified e);
           finish = λ now number outcomes f is e. absurd (false≢true e);
           maintain = λ now e. absurd (false≢true e);
+          remove_empty_groups = λ now e. absurd (false≢true e);
           forget = λ now e. absurd (false≢true e);
           load = λ now row may e. absurd (false≢true e);
           note = λ now number i outcome f is may e. absurd (false≢true e);
@@ -145,6 +146,7 @@ module _ (config : Config) (id : ℕ) (name : GroupName) where
       numbered (reply_is.Flush group opened) e = nat_eq_equiv.symm opened.number k ∙ (and_parts (same_name name group) (k == opened.number) e).1
       numbered (reply_is.Finished finished) e = absurd (false≢true e)
       numbered (reply_is.Maintained maintained) e = absurd (false≢true e)
+      numbered (reply_is.EmptyGroupsRemoved removed) e = absurd (false≢true e)
       numbered (reply_is.Forgotten forgotten) e = absurd (false≢true e)
       numbered (reply_is.Loaded loaded) e = absurd (false≢true e)
       numbered reply_is.Noted e = absurd (false≢true e)
@@ -205,6 +207,7 @@ module _ (config : Config) (id : ℕ) (name : GroupName) where
       close (Begin now) e = absurd (none past e)
       close (Finish now k outcomes) e = found-begin k past once e
       close (Maintain now) e = absurd (none past e)
+      close (RemoveEmptyGroups now) e = absurd (none past e)
       close (Forget now) e = absurd (none past e)
       close (Load now row) e = absurd (none past e)
       close (Note now k integration outcome) e = absurd (none past e)

@@ -16,12 +16,12 @@ use Rattle.am_model.specs.declared.config.Config.{Config}
 use Rattle.am_model.specs.declared.config.Integration.{Integration}
 use Rattle.am_model.specs.declared.group.GroupName.{GroupName}
 use Rattle.am_model.specs.declared.record.Call.{Call}
-use Rattle.am_model.specs.declared.record.Call.TheVariants.{Insert, Silence, Begin, Finish, Maintain, Forget, Load, Note}
+use Rattle.am_model.specs.declared.record.Call.TheVariants.{Insert, Silence, Begin, Finish, Maintain, RemoveEmptyGroups, Forget, Load, Note}
 use Rattle.am_model.specs.declared.record.Call.TheVariants as call_is
 use Rattle.am_model.specs.declared.record.Record.{Record}
 use Rattle.am_model.specs.declared.record.Reply.{Reply}
 use Rattle.am_model.specs.declared.record.Reply.TheVariants as reply_is
-use Rattle.am_model.specs.declared.record.Reply.TheVariants.{Inserted, Silenced, NothingDue, Quiet, Flush, Finished, Maintained, Forgotten, Loaded, Noted}
+use Rattle.am_model.specs.declared.record.Reply.TheVariants.{Inserted, Silenced, NothingDue, Quiet, Flush, Finished, Maintained, EmptyGroupsRemoved, Forgotten, Loaded, Noted}
 use Rattle.am_model.specs.Begin.{taken, notified_of, after_notifying, after_taking, reply_notifying, reply_taking, flush_notifying}
 use Rattle.am_model.specs.Begin as begin_is
 use Rattle.am_model.specs.Finish.{finished, after_finish, after_finish_of}
@@ -29,7 +29,7 @@ use Rattle.am_model.specs.Forget.{forgotten}
 use Rattle.am_model.specs.Insert.{inserted}
 use Rattle.am_model.specs.Laws.{last_begin_after}
 use Rattle.am_model.specs.Load.{loaded}
-use Rattle.am_model.specs.Maintenance.{silenced, maintained}
+use Rattle.am_model.specs.Maintenance.{silenced, maintained, empty_groups_removed}
 use Rattle.am_model.specs.Note.{with_note, may_note, after_note}
 use Rattle.am_model.specs.Records.{entry}
 use Rattle.am_model.specs.Replay.{reply, after_call}
@@ -87,6 +87,7 @@ of_other test m past (Flush group opened) = by (test group opened.number) (m == 
     by false false c = refl
 of_other test m past (Finished finished) = refl
 of_other test m past (Maintained maintained) = refl
+of_other test m past (EmptyGroupsRemoved removed) = refl
 of_other test m past (Forgotten forgotten) = refl
 of_other test m past (Loaded loaded) = refl
 of_other test m past Noted = refl
@@ -208,6 +209,9 @@ module _ (config : Config) (id : ℕ) (s : State) (past : List Record) (pass : �
         finish = finish;
         maintain = λ now.
             plain (Maintain now) (Maintained (maintained s (time s now))) refl (λ name. ap (λ b. if b then None else begun_at config name past) (empty-found config s past k name))
+            (λ keeps. record { opens = n.opens; begun = n.begun; ended = n.ended; keeps = keeps });
+        remove_empty_groups = λ now.
+            plain (RemoveEmptyGroups now) (EmptyGroupsRemoved (empty_groups_removed s)) refl (λ name. ap (λ b. if b then None else begun_at config name past) (empty-found config s past k name))
             (λ keeps. record { opens = n.opens; begun = n.begun; ended = n.ended; keeps = keeps });
         forget = λ now. plain (Forget now) (Forgotten (forgotten s (time s now))) refl (λ name. refl) (λ keeps. record { opens = n.opens; begun = n.begun; ended = n.ended; keeps = keeps });
         load = λ now row may.

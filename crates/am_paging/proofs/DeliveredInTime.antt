@@ -13,7 +13,7 @@ use Rattle.am_model.specs.declared.config.Config.{Config}
 use Rattle.am_model.specs.declared.config.Integration.{Integration}
 use Rattle.am_model.specs.declared.group.GroupName.{GroupName}
 use Rattle.am_model.specs.declared.record.Call.{Call}
-use Rattle.am_model.specs.declared.record.Call.TheVariants.{Insert, Silence, Begin, Finish, Maintain, Forget, Load, Note}
+use Rattle.am_model.specs.declared.record.Call.TheVariants.{Insert, Silence, Begin, Finish, Maintain, RemoveEmptyGroups, Forget, Load, Note}
 use Rattle.am_model.specs.declared.record.Record.{Record}
 use Rattle.am_model.specs.declared.record.Reply.{Reply}
 use Rattle.am_model.specs.declared.record.Reply.TheVariants as reply_is
@@ -24,7 +24,7 @@ use Rattle.am_model.specs.Notice.{NoticeData}
 use Rattle.am_model.specs.look_back.Entry.{begins_group, logs, begin_named, notified_and_succeeded, row_of_flush, row_of_begin, firing_in, resolved_in}
 use Rattle.am_model.specs.look_back.Interval.{found_empty}
 use Rattle.am_model.specs.look_back.Laws.{EveryLegalHistory, LogsDelivered, IsNoticeFound, IsReplyFound, IsOneFlushAtATime, number_in, has_open, begun_at}
-use Rattle.am_model.specs.look_back.Past.{AtEach, past_of, time_at, is_flush, is_flush_of, is_finish, is_note, is_maintenance, takes, notices_in, begin_of, has_begun, has_finished, was_noted, succeeded}
+use Rattle.am_model.specs.look_back.Past.{AtEach, past_of, time_at, is_flush, is_flush_of, is_finish, is_note, removes_empty_groups, takes, notices_in, begin_of, has_begun, has_finished, was_noted, succeeded}
 use Rattle.am_model.proofs.lists.Distinct.{all_from, all_to, all-weaker}
 use Rattle.am_model.proofs.looking_back.LooksBack.{histories_look_back}
 use Rattle.am_model.proofs.looking_back.Pasts.{IsLegalPast, legal_past}
@@ -44,6 +44,7 @@ begin-finishes n (Silence now id matchers start end) e = refl
 begin-finishes n (Begin now) e = refl
 begin-finishes n (Finish now number outcomes) e = absurd (false≢true e)
 begin-finishes n (Maintain now) e = refl
+begin-finishes n (RemoveEmptyGroups now) e = refl
 begin-finishes n (Forget now) e = refl
 begin-finishes n (Load now row) e = refl
 begin-finishes n (Note now number i outcome) e = refl
@@ -54,6 +55,7 @@ begin-notes n i (Silence now id matchers start end) e = refl
 begin-notes n i (Begin now) e = refl
 begin-notes n i (Finish now number outcomes) e = refl
 begin-notes n i (Maintain now) e = refl
+begin-notes n i (RemoveEmptyGroups now) e = refl
 begin-notes n i (Forget now) e = refl
 begin-notes n i (Load now row) e = refl
 begin-notes n i (Note now number j outcome) e = absurd (false≢true e)
@@ -108,6 +110,7 @@ module _ (config : Config) (name : GroupName) (labels : List Label) (i : ℕ) wh
   flush-is (reply_is.Flush group opened) taken paged = (taken, nat_eq_equiv.refl opened.number)
   flush-is (reply_is.Finished finished) taken paged = absurd (false≢true taken)
   flush-is (reply_is.Maintained maintained) taken paged = absurd (false≢true taken)
+  flush-is (reply_is.EmptyGroupsRemoved removed) taken paged = absurd (false≢true taken)
   flush-is (reply_is.Forgotten forgotten) taken paged = absurd (false≢true taken)
   flush-is (reply_is.Loaded loaded) taken paged = absurd (false≢true taken)
   flush-is reply_is.Noted taken paged = absurd (false≢true taken)
@@ -144,6 +147,7 @@ module _ (config : Config) (name : GroupName) (labels : List Label) (i : ℕ) wh
       }
   reply-listed t begun before (reply_is.Finished finished) found paged = absurd (false≢true paged)
   reply-listed t begun before (reply_is.Maintained maintained) found paged = absurd (false≢true paged)
+  reply-listed t begun before (reply_is.EmptyGroupsRemoved removed) found paged = absurd (false≢true paged)
   reply-listed t begun before (reply_is.Forgotten forgotten) found paged = absurd (false≢true paged)
   reply-listed t begun before (reply_is.Loaded loaded) found paged = absurd (false≢true paged)
   reply-listed t begun before reply_is.Noted found paged = absurd (false≢true paged)
@@ -184,6 +188,7 @@ module _ (config : Config) (name : GroupName) (labels : List Label) (i : ℕ) wh
         ap (λ k. begin_of k past) own,
       )
   finish-logs n past (Maintain now) is all begun paged unnoted = absurd (false≢true is)
+  finish-logs n past (RemoveEmptyGroups now) is all begun paged unnoted = absurd (false≢true is)
   finish-logs n past (Forget now) is all begun paged unnoted = absurd (false≢true is)
   finish-logs n past (Load now row) is all begun paged unnoted = absurd (false≢true is)
   finish-logs n past (Note now m j outcome) is all begun paged unnoted = absurd (false≢true is)
@@ -195,6 +200,7 @@ module _ (config : Config) (name : GroupName) (labels : List Label) (i : ℕ) wh
   note-logs n past (Begin now) is begun = absurd (false≢true is)
   note-logs n past (Finish now m outcomes) is begun = absurd (false≢true is)
   note-logs n past (Maintain now) is begun = absurd (false≢true is)
+  note-logs n past (RemoveEmptyGroups now) is begun = absurd (false≢true is)
   note-logs n past (Forget now) is begun = absurd (false≢true is)
   note-logs n past (Load now row) is begun = absurd (false≢true is)
   note-logs n past (Note now m j outcome) is begun =
@@ -281,7 +287,7 @@ module _ (config : Config) (name : GroupName) (labels : List Label) (i : ℕ) wh
             no false e = refl
 
         full : found_empty config name r past ≡ false
-        full = ap (λ b. is_maintenance r.call && b) (alive config id name past legal opens) ∙ and-false (is_maintenance r.call)
+        full = ap (λ b. removes_empty_groups r.call && b) (alive config id name past legal opens) ∙ and-false (removes_empty_groups r.call)
           where
             and-false : (b : Bool) → (b && false) ≡ false
             and-false true = refl
@@ -293,6 +299,7 @@ module _ (config : Config) (name : GroupName) (labels : List Label) (i : ℕ) wh
         finish-of (Begin now) e = absurd (false≢true e)
         finish-of (Finish now m outcomes) e = ap (λ k. begins_group name (begin_of k past)) (eqb-true m n e) ∙ p.begun
         finish-of (Maintain now) e = absurd (false≢true e)
+        finish-of (RemoveEmptyGroups now) e = absurd (false≢true e)
         finish-of (Forget now) e = absurd (false≢true e)
         finish-of (Load now row) e = absurd (false≢true e)
         finish-of (Note now m j outcome) e = absurd (false≢true e)

@@ -105,8 +105,8 @@ module _ (config : Config) (name : GroupName) (Q : GroupState → Type 0) where
   unless-gone gone None has = has
   unless-gone gone (Some g) has = elim (gone g) as (λ b. Has Q (cond b None (Some g))) [ true ↦ tt | false ↦ has ]
 
-  maintained : (gs : List GroupState) → IsDistinct same_group gs → Has Q (own gs) → Has Q (own (without has_no_alerts gs))
-  maintained gs apart has =
+  removed : (gs : List GroupState) → IsDistinct same_group gs → Has Q (own gs) → Has Q (own (without has_no_alerts gs))
+  removed gs apart has =
       subst (Has Q) (sym (find-without (is_named name) same_group (λ g h e f. sym (same_name_equiv.congr name g.name h.name e) ∙ f) has_no_alerts gs apart))
       (unless-gone has_no_alerts (own gs) has)
 
@@ -131,7 +131,8 @@ module _ (config : Config) (name : GroupName) (Q : GroupState → Type 0) where
           begin = λ now g is notified are k h. notifying (time s now) g notified k h.has;
           finish = λ now number outcomes f is k h.
               changed (is_named f.group) (finished_group outcomes f) (λ g. refl) (λ g. k.left g (without (leaves_by outcomes f) g.members)) s.groups h.has;
-          maintain = λ now k h. maintained s.groups apart h.has;
+          maintain = λ now k h. removed s.groups apart h.has;
+          remove_empty_groups = λ now k h. removed s.groups apart h.has;
           forget = λ now k h. h.has;
           load = λ now row may k h. h.has;
           note = λ now number i outcome f is may k h. h.has;

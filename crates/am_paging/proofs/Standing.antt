@@ -10,7 +10,7 @@ use Rattle.am_nflog.specs.Members.{is_empty}
 use Rattle.am_model.specs.declared.config.Config.{Config}
 use Rattle.am_model.specs.declared.group.GroupName.{GroupName}
 use Rattle.am_model.specs.declared.record.Call.{Call}
-use Rattle.am_model.specs.declared.record.Call.TheVariants.{Insert, Silence, Begin, Finish, Maintain, Forget, Load, Note}
+use Rattle.am_model.specs.declared.record.Call.TheVariants.{Insert, Silence, Begin, Finish, Maintain, RemoveEmptyGroups, Forget, Load, Note}
 use Rattle.am_model.specs.declared.record.Record.{Record}
 use Rattle.am_model.specs.Configured.{route_of}
 use Rattle.am_model.specs.Laws.{IsBegunAt}
@@ -18,7 +18,7 @@ use Rattle.am_model.specs.State.{MemberState, GroupState, FlushState, is_named, 
 use Rattle.am_model.specs.look_back.Entry.{present_in}
 use Rattle.am_model.specs.look_back.Interval.{found_empty}
 use Rattle.am_model.specs.look_back.Laws.{member_with, number_in, has_open, begun_at, IsOneFlushAtATime}
-use Rattle.am_model.specs.look_back.Past.{replay_past, time_at, is_flush_of, is_quiet, is_finish, is_maintenance, takes, has_finished}
+use Rattle.am_model.specs.look_back.Past.{replay_past, time_at, is_flush_of, is_quiet, is_finish, removes_empty_groups, takes, has_finished}
 use Rattle.am_model.specs.look_back.Presence.{presence}
 use Rattle.am_model.proofs.legal.Begins.{RespectsIntervals}
 use Rattle.am_model.proofs.legal.ConsistentGroups.{members_of, members_of-in, IsAlive}
@@ -55,9 +55,9 @@ module _ (config : Config) (id : ℕ) (name : GroupName) (labels : List Label) w
       by [] e = never m (sym e)
       by (n ∷ members) e = refl
 
-  -- and no maintenance finds it empty
+  -- and no record finds it empty
   pub not-found_empty : (m : MemberState) (r : Record) (past : List Record) → presence config name labels past ≡ Some m → found_empty config name r past ≡ false
-  not-found_empty m r past there = ap (λ b. is_maintenance r.call && b) (not-empty m past there) ∙ none (is_maintenance r.call)
+  not-found_empty m r past there = ap (λ b. removes_empty_groups r.call && b) (not-empty m past there) ∙ none (removes_empty_groups r.call)
     where
       none : (b : Bool) → (b && false) ≡ false
       none true = refl
@@ -152,7 +152,7 @@ module _ (config : Config) (id : ℕ) (name : GroupName) where
       by true taken e earlier = never (time_at (r ∷ past)) e
       by false other e earlier =
           let before : has_open name past ≡ true = open-before r past other opens in
-          let full : found_empty config name r past ≡ false = ap (λ b. is_maintenance r.call && b) (alive past legal.1 before) ∙ and-false (is_maintenance r.call) in
+          let full : found_empty config name r past ≡ false = ap (λ b. removes_empty_groups r.call && b) (alive past legal.1 before) ∙ and-false (removes_empty_groups r.call) in
           earlier before (sym (ap (λ b. cond b None (begun_at config name past)) full) ∙ e)
 
   -- a flush of the group that is finished was open
@@ -165,6 +165,7 @@ module _ (config : Config) (id : ℕ) (name : GroupName) where
       by (Begin now) e first = absurd (false≢true e)
       by (Finish now n outcomes) e first = open-has name n past (first n (nat_eq_equiv.refl n)) past e
       by (Maintain now) e first = absurd (false≢true e)
+      by (RemoveEmptyGroups now) e first = absurd (false≢true e)
       by (Forget now) e first = absurd (false≢true e)
       by (Load now row) e first = absurd (false≢true e)
       by (Note now n integration outcome) e first = absurd (false≢true e)

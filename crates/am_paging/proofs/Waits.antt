@@ -8,7 +8,7 @@ use Rattle.am_alerts.specs.declared.labels.Label.{Label}
 use Rattle.am_model.specs.declared.config.Config.{Config}
 use Rattle.am_model.specs.declared.group.GroupName.{GroupName}
 use Rattle.am_model.specs.declared.record.Call.{Call}
-use Rattle.am_model.specs.declared.record.Call.TheVariants.{Insert, Silence, Begin, Finish, Maintain, Forget, Load, Note}
+use Rattle.am_model.specs.declared.record.Call.TheVariants.{Insert, Silence, Begin, Finish, Maintain, RemoveEmptyGroups, Forget, Load, Note}
 use Rattle.am_model.specs.declared.record.Record.{Record}
 use Rattle.am_model.specs.Configured.{route_of}
 use Rattle.am_model.specs.Insert.{wait_of}
@@ -74,6 +74,7 @@ module _ (name : GroupName) (a : AlertData) where
   finish-leaves since past e (Finish now number outcomes) =
       ap (λ b. b && all_succeeded_at number outcomes past (begin_of number past)) (begin-other since number past e)
   finish-leaves since past e (Maintain now) = refl
+  finish-leaves since past e (RemoveEmptyGroups now) = refl
   finish-leaves since past e (Forget now) = refl
   finish-leaves since past e (Load now row) = refl
   finish-leaves since past e (Note now number integration outcome) = refl
@@ -107,6 +108,7 @@ has-insert labels (r ∷ past) None is name since e =
     by stamp (Begin now) e none = false≢true e
     by stamp (Finish now number outcomes) e none = false≢true e
     by stamp (Maintain now) e none = false≢true e
+    by stamp (RemoveEmptyGroups now) e none = false≢true e
     by stamp (Forget now) e none = false≢true e
     by stamp (Load now row) e none = false≢true e
     by stamp (Note now number integration outcome) e none = false≢true e

@@ -129,6 +129,9 @@ abbrev pub maintain : ℕ → ℕ → ℕ → Record
 maintain now groups entries =
     entry 0 (call.Maintain now) (reply.Maintained (record { groups = groups; entries = entries }))
 
+abbrev pub remove_empty_groups : ℕ → ℕ → Record
+remove_empty_groups now groups = entry 0 (call.RemoveEmptyGroups now) (reply.EmptyGroupsRemoved (record { groups = groups }))
+
 abbrev pub forget : ℕ → ℕ → ℕ → Record
 forget now alerts silences =
     entry 0 (call.Forget now) (reply.Forgotten (record { alerts = alerts; silences = silences }))

@@ -10,11 +10,11 @@ use Rattle.am_model.specs.Configured.{route_of}
 use Rattle.am_model.specs.look_back.Entry.{begins_group, entry_in}
 use Rattle.am_model.specs.look_back.Interval.{found_empty, begun_since, KeepsInterval}
 use Rattle.am_model.specs.look_back.Laws.{member_with, insert_during, has_open, begun_at}
-use Rattle.am_model.specs.look_back.Past.{past_of, time_at, is_flush, is_quiet, is_flush_of, takes, notices_in, is_finish, is_note, is_maintenance, begin_of, has_begun, has_finished}
+use Rattle.am_model.specs.look_back.Past.{past_of, time_at, is_flush, is_quiet, is_flush_of, takes, notices_in, is_finish, is_note, is_maintenance, removes_empty_groups, begin_of, has_begun, has_finished}
 use Rattle.am_model.specs.look_back.Presence.{inserts, presence}
 use Rattle.am_model.specs.Replay.{IsLegal, replay}
 use Rattle.am_model.specs.State.{members_in}
-use Rattle.am_model.proofs.examples.Base.{base, named, group, fires, ended, group_a, a, first_notice, insert, nothing_due, quiet, notice, flush_hook, finish, maintain, row}
+use Rattle.am_model.proofs.examples.Base.{base, named, group, fires, ended, group_a, a, first_notice, insert, nothing_due, quiet, notice, flush_hook, finish, maintain, remove_empty_groups, row}
 
 -- ---- three flushes are open at once; the second ends first, and the third fails
 
@@ -187,6 +187,19 @@ maintains = refl
 begins_only : is_maintenance (call.Begin 0) ≡ false
 begins_only = refl
 
+-- both remove groups without alerts, and only one is a maintenance
+maintains_groups : removes_empty_groups (call.Maintain 0) ≡ true
+maintains_groups = refl
+
+removes_groups : removes_empty_groups (call.RemoveEmptyGroups 0) ≡ true
+removes_groups = refl
+
+removes_only : is_maintenance (call.RemoveEmptyGroups 0) ≡ false
+removes_only = refl
+
+begins_remove_none : removes_empty_groups (call.Begin 0) ≡ false
+begins_remove_none = refl
+
 notes_hook : is_note 1 0 (call.Note 31_000 1 0 None) ≡ true
 notes_hook = refl
 
@@ -296,7 +309,30 @@ begun_no_more = refl
 begun_nowhere : begun_at base group_a (past_of made_again) ≡ None
 begun_nowhere = refl
 
--- without that maintenance it waits for its interval
+-- so does a removal of empty groups
+abbrev made_again_swiftly : List Record
+made_again_swiftly = gone_again ++ remove_empty_groups 332_000 1 ∷ insert 333_000 a_again 3 1 1 ∷ []
+
+made_again_swiftly_legal : IsLegal base 7 (made_again_swiftly ++ flush_hook 363_000 3 group_a 663_000 (a_again ∷ []) [] ∷ [])
+made_again_swiftly_legal = (refl, (refl, (refl, (refl, (refl, (refl, (refl, (refl, (refl, (refl, tt))))))))))
+
+removal_found : found_empty base group_a (remove_empty_groups 332_000 1) (past_of gone_again) ≡ true
+removal_found = refl
+
+begun_no_more_either : begun_since base group_a 330_000 (past_of made_again_swiftly) ≡ false
+begun_no_more_either = refl
+
+begun_nowhere_either : begun_at base group_a (past_of made_again_swiftly) ≡ None
+begun_nowhere_either = refl
+
+-- and it ends no interval of a group with alerts
+looked_at : found_empty base group_a (remove_empty_groups 100_000 0) (past_of first_notice) ≡ false
+looked_at = refl
+
+begun_still : begun_at base group_a (past_of (first_notice ++ remove_empty_groups 100_000 0 ∷ [])) ≡ Some 30_000
+begun_still = refl
+
+-- without either it waits for its interval
 abbrev not_swept : List Record
 not_swept =
     gone_again

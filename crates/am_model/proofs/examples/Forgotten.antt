@@ -10,7 +10,7 @@ use Rattle.am_model.specs.declared.record.Reply.TheVariants.{Silenced}
 use Rattle.am_model.specs.look_back.Past.{is_maintenance}
 use Rattle.am_model.specs.Records.{entry}
 use Rattle.am_model.specs.Replay.{IsLegal, replay}
-use Rattle.am_model.proofs.examples.Base.{base, named, fires, ended, group_a, first_notice, insert, flush_hook, finish, maintain, forget}
+use Rattle.am_model.proofs.examples.Base.{base, named, fires, ended, group_a, first_notice, insert, flush_hook, finish, maintain, remove_empty_groups, forget}
 
 -- A, ended at 200,000
 abbrev gone : AlertData
@@ -39,6 +39,9 @@ again_legal = (refl, (refl, (refl, (refl, (refl, (refl, (refl, (refl, (refl, (re
 
 maintained_legal : IsLegal base 7 (idle ++ maintain 700_000 1 0 ∷ [])
 maintained_legal = (refl, (refl, (refl, (refl, (refl, (refl, (refl, (refl, (refl, (refl, (refl, (refl, (refl, tt)))))))))))))
+
+removed_legal : IsLegal base 7 (idle ++ remove_empty_groups 700_000 1 ∷ [])
+removed_legal = (refl, (refl, (refl, (refl, (refl, (refl, (refl, (refl, (refl, (refl, (refl, (refl, (refl, tt)))))))))))))
 
 -- a silence of alert name A from 0 to 330,000
 abbrev silence : ℕ → Bool → Record

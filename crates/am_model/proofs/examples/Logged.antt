@@ -8,7 +8,7 @@ use Rattle.am_model.specs.declared.record.Call.TheVariants.{Note}
 use Rattle.am_model.specs.declared.record.Reply.TheVariants.{Noted}
 use Rattle.am_model.specs.Records.{entry}
 use Rattle.am_model.specs.Replay.{IsLegal, reply, replay}
-use Rattle.am_model.proofs.examples.Base.{base, firing_only, for_an_hour, named, ended, group_a, a, first_notice, insert, quiet, flush_hook, finish, maintain, row}
+use Rattle.am_model.proofs.examples.Base.{base, firing_only, for_an_hour, named, ended, group_a, a, first_notice, insert, quiet, flush_hook, finish, maintain, remove_empty_groups, row}
 
 -- collected at expiry
 abbrev kept : List Record
@@ -19,6 +19,13 @@ kept_row = refl
 
 collected_legal : IsLegal for_an_hour 7 (kept ++ maintain 3_630_000 0 1 ∷ flush_hook 3_630_000 2 group_a 3_930_000 (a ∷ []) [] ∷ [])
 collected_legal = (refl, (refl, (refl, (refl, (refl, (refl, (refl, tt)))))))
+
+-- and not by a removal of empty groups
+removal_keeps : IsLegal for_an_hour 7 (kept ++ remove_empty_groups 3_630_000 0 ∷ quiet 3_630_000 group_a 0 ∷ [])
+removal_keeps = (refl, (refl, (refl, (refl, (refl, (refl, (refl, tt)))))))
+
+removal_keeps_row : (replay for_an_hour (kept ++ remove_empty_groups 3_630_000 0 ∷ [])).rows ≡ row group_a 0 30_000 3_630_000 (named (codes "A") ∷ []) [] ∷ []
+removal_keeps_row = refl
 
 -- an entry is found past its expiry
 not_collected_legal : IsLegal for_an_hour 7 (kept ++ quiet 3_630_000 group_a 0 ∷ [])

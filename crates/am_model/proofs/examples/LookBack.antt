@@ -14,7 +14,7 @@ use Rattle.am_model.specs.look_back.Past.{past_of, begin_of, has_begun, has_fini
 use Rattle.am_model.specs.look_back.Presence.{goes_to, presence}
 use Rattle.am_model.specs.Replay.{IsLegal, replay}
 use Rattle.am_model.specs.State.{members_in}
-use Rattle.am_model.proofs.examples.Base.{base, for_an_hour, named, fires, ended, group_a, a, first_notice, insert, quiet, flush_hook, finish, maintain, row}
+use Rattle.am_model.proofs.examples.Base.{base, for_an_hour, named, fires, ended, group_a, a, first_notice, insert, quiet, flush_hook, finish, maintain, remove_empty_groups, row}
 
 -- ---- first notice: the alert is there, and its row
 
@@ -128,6 +128,10 @@ collected_entry = refl
 
 kept_entry : entry_in for_an_hour group_a 0 (past_of (noted ++ maintain 3_630_999 0 0 ∷ [])) ≡ Some (row group_a 0 31_000 3_631_000 (named (codes "A") ∷ []) [])
 kept_entry = refl
+
+-- a removal of empty groups collects no row
+uncollected_entry : entry_in for_an_hour group_a 0 (past_of (noted ++ remove_empty_groups 3_631_000 0 ∷ [])) ≡ Some (row group_a 0 31_000 3_631_000 (named (codes "A") ∷ []) [])
+uncollected_entry = refl
 
 -- ---- whom a begin notifies
 

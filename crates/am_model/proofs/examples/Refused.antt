@@ -13,7 +13,7 @@ use Rattle.am_model.specs.declared.fault.NoteFault.TheVariants as note
 use Rattle.am_model.specs.declared.record.Record.{Record}
 use Rattle.am_model.specs.declared.record.Call.TheVariants.{Silence, Note}
 use Rattle.am_model.specs.declared.record.Reply.TheVariants.{Silenced, Noted}
-use Rattle.am_model.specs.Causes.{insert_cause, silence_cause, begin_cause, maintain_cause, note_cause}
+use Rattle.am_model.specs.Causes.{insert_cause, silence_cause, begin_cause, maintain_cause, removal_cause, note_cause}
 use Rattle.am_model.specs.Ticket.{TicketData}
 use Rattle.am_model.specs.Records.{entry}
 use Rattle.am_model.specs.Replay.{IsLegal, replay}
@@ -61,6 +61,9 @@ fifth_insert = refl
 
 fifth_maintenance : maintain_cause five 4 (replay five four_records) ≡ Some HistoryFull
 fifth_maintenance = refl
+
+fifth_removal : removal_cause five 4 (replay five four_records) ≡ Some HistoryFull
+fifth_removal = refl
 
 abbrev five_records : List Record
 five_records = four_records ++ finish 60_000 1 [] 0 0 ∷ []

@@ -19,13 +19,13 @@ use Rattle.am_model.specs.Load.{may_load, loaded, load_reply, after_load}
 use Rattle.am_model.specs.Note.{may_note, after_note_of, after_note, noted}
 use Rattle.am_model.specs.Replay.{reply, after, after_call, replay_from, replay, IsLegalFrom, IsLegal}
 use Rattle.am_model.specs.State.{MemberState, GroupState, FlushState, State, opening_state, at_time, time, same_name, is_named, has_group, members_in, flush_numbered}
-use Rattle.am_model.specs.Maintenance.{has_no_alerts, silenced, maintained}
+use Rattle.am_model.specs.Maintenance.{has_no_alerts, silenced, maintained, empty_groups_removed}
 use Rattle.am_mute.specs.Silence.{silence_of}
 use Rattle.am_model.specs.declared.config.Config.{Config}
 use Rattle.am_model.specs.declared.config.Integration.{Integration}
 use Rattle.am_model.specs.declared.group.GroupName.{GroupName}
 use Rattle.am_model.specs.declared.record.Call.{Call}
-use Rattle.am_model.specs.declared.record.Call.TheVariants.{Insert, Silence, Begin, Finish, Maintain, Forget, Load, Note}
+use Rattle.am_model.specs.declared.record.Call.TheVariants.{Insert, Silence, Begin, Finish, Maintain, RemoveEmptyGroups, Forget, Load, Note}
 use Rattle.am_model.specs.declared.record.Record.{Record}
 use Rattle.am_model.specs.declared.record.Reply.{Reply}
 use Rattle.am_model.specs.declared.record.Reply.TheVariants as reply_is
@@ -207,8 +207,8 @@ kept_there name (g ∷ groups) h =
     ] refl h
 
 module _ (config : Config) (last : GroupName → Option ℕ) where
-  keeps-maintain : (groups : List GroupState) → RespectsIntervals config groups last → RespectsIntervals config (without has_no_alerts groups) (λ n. if is_empty (members_in groups n) then None else last n)
-  keeps-maintain groups k =
+  keeps-removal : (groups : List GroupState) → RespectsIntervals config groups last → RespectsIntervals config (without has_no_alerts groups) (λ n. if is_empty (members_in groups n) then None else last n)
+  keeps-removal groups k =
       let now : GroupName → Option ℕ = λ n. if is_empty (members_in groups n) then None else last n in
       record {
         due = all-kept (λ g. IsBegunAt config g (last g.name) × (members_in groups g.name ≡ g.members)) (λ g. IsBegunAt config g (now g.name)) (λ g. not (has_no_alerts g))
@@ -282,7 +282,9 @@ module _ (config : Config) (id : ℕ) (s : State) (last : GroupName → Option �
       subst (After (after_call config s (Begin now))) (inside (begun config id s (time s now)) p e) (keeps-taking (time s now) (taken s (time s now)) (taken_there s (time s now)))
   keeps-call (Finish now number outcomes) p e = keeps-finish (time s now) outcomes (flush_numbered s.flushes number) p e
   keeps-call (Maintain now) p e =
-      subst (After (after_call config s (Maintain now))) (inside (reply_is.Maintained (maintained s (time s now))) p e) (keeps-maintain config last s.groups k)
+      subst (After (after_call config s (Maintain now))) (inside (reply_is.Maintained (maintained s (time s now))) p e) (keeps-removal config last s.groups k)
+  keeps-call (RemoveEmptyGroups now) p e =
+      subst (After (after_call config s (RemoveEmptyGroups now))) (inside (reply_is.EmptyGroupsRemoved (empty_groups_removed s)) p e) (keeps-removal config last s.groups k)
   keeps-call (Forget now) p e =
       subst (After (after_call config s (Forget now))) (inside (reply_is.Forgotten (forgotten s (time s now))) p e) k
   keeps-call (Load now row) p e = keeps-load (time s now) row p e

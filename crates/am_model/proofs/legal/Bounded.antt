@@ -8,7 +8,7 @@ use Rattle.am_retry.specs.declared.outcome.Outcome.{Outcome}
 use Rattle.am_model.specs.declared.config.Config.{Config}
 use Rattle.am_model.specs.declared.config.Integration.{Integration}
 use Rattle.am_model.specs.declared.record.Call.{Call}
-use Rattle.am_model.specs.declared.record.Call.TheVariants.{Insert, Silence, Begin, Finish, Maintain, Forget, Load, Note}
+use Rattle.am_model.specs.declared.record.Call.TheVariants.{Insert, Silence, Begin, Finish, Maintain, RemoveEmptyGroups, Forget, Load, Note}
 use Rattle.am_model.specs.declared.record.Record.{Record}
 use Rattle.am_model.specs.Begin.{due_cmp, may_begin, taken, notified_of, begun_group, without_resolved, flush_notifying, after_notifying, after_taking}
 use Rattle.am_model.specs.Finish.{leaves_by, finished_group, after_finish, after_finish_of}
@@ -17,7 +17,7 @@ use Rattle.am_model.specs.Lists.{changed_where}
 use Rattle.am_model.specs.Note.{with_note, may_note, after_note, after_note_of}
 use Rattle.am_model.specs.Replay.{after, after_call, replay, replay_from}
 use Rattle.am_model.specs.State.{MemberState, GroupState, FlushState, State, opening_state, time, at_time, is_named, flush_numbered}
-use Rattle.am_model.specs.Maintenance.{has_no_alerts, after_maintain}
+use Rattle.am_model.specs.Maintenance.{has_no_alerts, after_maintain, after_removal}
 use Rattle.am_model.proofs.legal.BoundedAlerts.{count_alerts, count_alerts-sum, count-filter, count-changed, count-each, length-filter, length-names, routed-each, routed-names}
 use Rattle.am_model.proofs.lists.Distinct.{all_from, all-filter, all-least, all-map, all-push, all-weaker}
 
@@ -120,14 +120,18 @@ small_finish config s t outcomes (Some f) h =
     small_changed config s (is_named f.group) (finished_group outcomes f) (filter stays s.flushes) h (λ k. refl)
     (λ k. length-filter (λ m. not (leaves_by outcomes f m)) k.members) (all-filter P stays s.flushes h.flushes) (after_finish config s t outcomes f) refl refl refl
 
-small_maintain : (config : Config) (s : State) (t : ℕ) → IsSmall config s → IsSmall config (after_maintain s t)
-small_maintain config s t h =
+small_removal : (config : Config) (s : State) (t : ℕ) → IsSmall config s → IsSmall config (after_removal s t)
+small_removal config s t h =
     let stays : GroupState → Bool = λ g. not (has_no_alerts g) in
     record {
       groups = all-filter (λ (g : GroupState). g.name.route ≤ last_route config) stays s.groups h.groups;
       flushes = h.flushes;
       alerts = λ within. let before = h.alerts within in let less = count-filter stays s.groups in omega (arith, before, less);
     }
+
+small_maintain : (config : Config) (s : State) (t : ℕ) → IsSmall config s → IsSmall config (after_maintain s t)
+small_maintain config s t h =
+    let removed = small_removal config s t h in record { groups = removed.groups; flushes = removed.flushes; alerts = removed.alerts }
 
 small_note : (config : Config) (s : State) (t integration : ℕ) (outcome : Option Outcome) (o : Option FlushState) → IsSmall config s → IsSmall config (after_note_of config s t integration outcome o)
 small_note config s t integration outcome None h = small_at config s t h
@@ -153,6 +157,7 @@ small_call config s (Silence now number matchers start end) h = record { groups 
 small_call config s (Begin now) h = small_taking config s (time s now) (taken s (time s now)) refl h
 small_call config s (Finish now number outcomes) h = small_finish config s (time s now) outcomes (flush_numbered s.flushes number) h
 small_call config s (Maintain now) h = small_maintain config s (time s now) h
+small_call config s (RemoveEmptyGroups now) h = small_removal config s (time s now) h
 small_call config s (Forget now) h = record { groups = h.groups; flushes = h.flushes; alerts = h.alerts }
 small_call config s (Load now row) h = record { groups = h.groups; flushes = h.flushes; alerts = h.alerts }
 small_call config s (Note now number integration outcome) h = small_note config s (time s now) integration outcome (flush_numbered s.flushes number) h
@@ -185,6 +190,7 @@ step_call config s (Silence now number matchers start end) = record { inserts = 
 step_call config s (Begin now) = step_taking config s (time s now) (taken s (time s now))
 step_call config s (Finish now number outcomes) = step_finish config s (time s now) outcomes (flush_numbered s.flushes number)
 step_call config s (Maintain now) = record { inserts = omega arith; next_number = omega arith }
+step_call config s (RemoveEmptyGroups now) = record { inserts = omega arith; next_number = omega arith }
 step_call config s (Forget now) = record { inserts = omega arith; next_number = omega arith }
 step_call config s (Load now row) = record { inserts = omega arith; next_number = omega arith }
 step_call config s (Note now number integration outcome) = step_note config s (time s now) integration outcome (flush_numbered s.flushes number)

@@ -4,7 +4,7 @@ use Rattle.am_alerts.specs.declared.limits.TheConstants.{MAX_TIME}
 use Rattle.am_mute.specs.Silence.{silence_of}
 use Rattle.am_model.specs.declared.config.Config.{Config}
 use Rattle.am_model.specs.declared.record.Call.{Call}
-use Rattle.am_model.specs.declared.record.Call.TheVariants.{Insert, Silence, Begin, Finish, Maintain, Forget, Load, Note}
+use Rattle.am_model.specs.declared.record.Call.TheVariants.{Insert, Silence, Begin, Finish, Maintain, RemoveEmptyGroups, Forget, Load, Note}
 use Rattle.am_model.specs.declared.record.Record.{Record}
 use Rattle.am_model.specs.Insert.{same_alert, same_group}
 use Rattle.am_model.specs.Finish.{same_key}
@@ -13,7 +13,7 @@ use Rattle.am_model.specs.Replay.{after, after_call, replay, replay_from}
 use Rattle.am_model.specs.State.{State, opening_state, time, flush_numbered}
 use Rattle.am_model.specs.Maintenance.{same_silence}
 use Rattle.am_model.proofs.legal.ConsistentBegin.{steady_begin}
-use Rattle.am_model.proofs.legal.ConsistentFinish.{steady_finish, steady_maintain, steady_forget, steady_load, steady_note}
+use Rattle.am_model.proofs.legal.ConsistentFinish.{steady_finish, steady_removal, steady_maintain, steady_forget, steady_load, steady_note}
 use Rattle.am_model.proofs.legal.ConsistentInsert.{steady_insert, steady_silence}
 use Rattle.am_model.proofs.lists.Distinct.{IsDistinct-nil}
 use Rattle.am_model.proofs.legal.ConsistentState.{IsSteady, consistent_from, consistent_to}
@@ -29,6 +29,7 @@ steady_call config s (Silence now number matchers start end) h =
 steady_call config s (Begin now) h = steady_begin config s (time s now) (time-within s now h.clock) h
 steady_call config s (Finish now number outcomes) h = steady_finish config s (time s now) number outcomes (time-within s now h.clock) h
 steady_call config s (Maintain now) h = steady_maintain s (time s now) (time-within s now h.clock) h
+steady_call config s (RemoveEmptyGroups now) h = steady_removal s (time s now) (time-within s now h.clock) h
 steady_call config s (Forget now) h = steady_forget s (time s now) (time-within s now h.clock) h
 steady_call config s (Load now row) h = steady_load config s (time s now) row (time-within s now h.clock) h
 steady_call config s (Note now number integration outcome) h =

@@ -18,7 +18,7 @@ use Rattle.am_model.specs.Lists.{without, changed_where}
 use Rattle.am_model.specs.Load.{may_load, loaded, is_put, rows_loading, after_load}
 use Rattle.am_model.specs.Note.{as_noted, with_note, may_note, after_note, after_note_of}
 use Rattle.am_model.specs.State.{MemberState, GroupState, NotifiedState, FlushState, State, at_time, same_name, is_named, flush_numbered}
-use Rattle.am_model.specs.Maintenance.{same_silence, has_no_alerts, has_expired, after_maintain}
+use Rattle.am_model.specs.Maintenance.{same_silence, has_no_alerts, has_expired, after_maintain, after_removal}
 use Rattle.am_model.proofs.lists.Words.{IsDistinct-upsert}
 use Rattle.am_model.proofs.legal.ConsistentGroups.{members_of-elsewhere, alive-kept}
 use Rattle.am_model.proofs.lists.Distinct.{IsDistinct-filter, IsDistinct-changed, all-filter, all-find, all-passes, all-weaker, all-both, all-map}
@@ -138,10 +138,10 @@ steady_finish config s t number outcomes within h =
       | Some f ↦ λ e. finish_open config s t number outcomes f e within h
     ] refl
 
--- ---- a maintenance
+-- ---- a removal of empty groups, and a maintenance
 
-pub steady_maintain : (s : State) (t : ℕ) → t ≤ MAX_TIME → IsSteady s → IsSteady (after_maintain s t)
-steady_maintain s t within h =
+pub steady_removal : (s : State) (t : ℕ) → t ≤ MAX_TIME → IsSteady s → IsSteady (after_removal s t)
+steady_removal s t within h =
     let stays : GroupState → Bool = λ g. not (has_no_alerts g) in
     record {
       clock = within;
@@ -149,13 +149,28 @@ steady_maintain s t within h =
       groups = IsDistinct-filter same_group stays s.groups h.groups;
       tidy = all-filter (IsTidy s.inserts) stays s.groups h.tidy;
       silences = h.silences;
-      rows = IsDistinct-filter same_key (λ r. not (has_expired t r)) s.rows h.rows;
+      rows = h.rows;
       flushes = h.flushes;
       numbers = h.numbers;
       opened =
           all-weaker (IsOpen s.next_number s.groups) (IsOpen s.next_number (without has_no_alerts s.groups))
           (λ f o. record { number = o.number; notified = o.notified; each_once = o.each_once; alive = alive-kept f.group s.groups o.alive })
           s.flushes h.opened;
+    }
+
+pub steady_maintain : (s : State) (t : ℕ) → t ≤ MAX_TIME → IsSteady s → IsSteady (after_maintain s t)
+steady_maintain s t within h =
+    let removed = steady_removal s t within h in
+    record {
+      clock = removed.clock;
+      known = removed.known;
+      groups = removed.groups;
+      tidy = removed.tidy;
+      silences = removed.silences;
+      rows = IsDistinct-filter same_key (λ r. not (has_expired t r)) s.rows h.rows;
+      flushes = removed.flushes;
+      numbers = removed.numbers;
+      opened = removed.opened;
     }
 
 -- ---- a forgetting

@@ -9,7 +9,7 @@ use Rattle.am_retry.specs.declared.outcome.Outcome.{Outcome}
 use Rattle.am_model.specs.declared.config.Config.{Config}
 use Rattle.am_model.specs.declared.config.Integration.{Integration}
 use Rattle.am_model.specs.declared.record.Call.{Call}
-use Rattle.am_model.specs.declared.record.Call.TheVariants.{Insert, Silence, Begin, Finish, Maintain, Forget, Load, Note}
+use Rattle.am_model.specs.declared.record.Call.TheVariants.{Insert, Silence, Begin, Finish, Maintain, RemoveEmptyGroups, Forget, Load, Note}
 use Rattle.am_model.specs.declared.record.Reply.{Reply}
 use Rattle.am_model.specs.declared.record.Reply.TheVariants as reply_is
 use Rattle.am_model.specs.declared.views.RowView.{RowView}
@@ -21,7 +21,7 @@ use Rattle.am_model.specs.Load.{may_load, loaded, load_reply, after_load}
 use Rattle.am_model.specs.Note.{may_note, noted, after_note, after_note_of}
 use Rattle.am_model.specs.Replay.{reply, after_call}
 use Rattle.am_model.specs.State.{GroupState, FlushState, State, at_time, time, flush_numbered}
-use Rattle.am_model.specs.Maintenance.{silenced, after_silence, maintained, after_maintain}
+use Rattle.am_model.specs.Maintenance.{silenced, after_silence, maintained, after_maintain, empty_groups_removed, after_removal}
 
 pub inside : {X : Type 0} (x y : X) → Some x ≡ Some y → x ≡ y
 inside x y e = ap (λ o. unwrap_or o x) e
@@ -37,6 +37,7 @@ pub record HoldsOfEach (config : Config) (id : ℕ) (s : State) (P : Call → St
   pub finish : (now number : ℕ) (outcomes : List (ℕ × Outcome)) (f : FlushState) → flush_numbered s.flushes number ≡ Some f
       → P (Finish now number outcomes) (after_finish config s (time s now) outcomes f) (reply_is.Finished (finished s outcomes f))
   pub maintain : (now : ℕ) → P (Maintain now) (after_maintain s (time s now)) (reply_is.Maintained (maintained s (time s now)))
+  pub remove_empty_groups : (now : ℕ) → P (RemoveEmptyGroups now) (after_removal s (time s now)) (reply_is.EmptyGroupsRemoved (empty_groups_removed s))
   pub forget : (now : ℕ) → P (Forget now) (after_forget s (time s now)) (reply_is.Forgotten (forgotten s (time s now)))
   pub load : (now : ℕ) (row : RowView) → may_load config (time s now) row ≡ true
       → P (Load now row) (after_load config s (time s now) row) (reply_is.Loaded (loaded s.rows (time s now) row))
@@ -79,6 +80,7 @@ module _ (config : Config) (id : ℕ) (s : State) (P : Call → State → Reply 
   each_call (Begin now) p e = subst (P (Begin now) (after_call config s (Begin now))) (inside (begun config id s (time s now)) p e) (begins now (taken s (time s now)) refl)
   each_call (Finish now number outcomes) p e = finishes now number outcomes (flush_numbered s.flushes number) p refl e
   each_call (Maintain now) p e = subst (P (Maintain now) (after_maintain s (time s now))) (inside (reply_is.Maintained (maintained s (time s now))) p e) (each.maintain now)
+  each_call (RemoveEmptyGroups now) p e = subst (P (RemoveEmptyGroups now) (after_removal s (time s now))) (inside (reply_is.EmptyGroupsRemoved (empty_groups_removed s)) p e) (each.remove_empty_groups now)
   each_call (Forget now) p e = subst (P (Forget now) (after_forget s (time s now))) (inside (reply_is.Forgotten (forgotten s (time s now))) p e) (each.forget now)
   each_call (Load now row) p e = loads now row p e
   each_call (Note now number integration outcome) p e = notes now number integration outcome (flush_numbered s.flushes number) p refl e

@@ -12,7 +12,7 @@ use Rattle.am_model.specs.declared.config.Integration.{Integration}
 use Rattle.am_model.specs.declared.fault.Fault.TheVariants.{TooManyAlerts, TooManyGroups}
 use Rattle.am_model.specs.declared.group.GroupName.{GroupName}
 use Rattle.am_model.specs.declared.record.Call.{Call}
-use Rattle.am_model.specs.declared.record.Call.TheVariants.{Insert, Silence, Begin, Finish, Maintain, Forget, Load, Note}
+use Rattle.am_model.specs.declared.record.Call.TheVariants.{Insert, Silence, Begin, Finish, Maintain, RemoveEmptyGroups, Forget, Load, Note}
 use Rattle.am_model.specs.Begin.{taken, notified_of, after_notifying, after_taking, begun_group, without_resolved}
 use Rattle.am_model.specs.Causes.{makes_too_many}
 use Rattle.am_model.specs.Finish.{after_finish_of, finished_group}
@@ -96,6 +96,7 @@ IsInsert (Silence now number matchers start end) = false
 IsInsert (Begin now) = false
 IsInsert (Finish now number outcomes) = false
 IsInsert (Maintain now) = false
+IsInsert (RemoveEmptyGroups now) = false
 IsInsert (Forget now) = false
 IsInsert (Load now row) = false
 IsInsert (Note now number integration outcome) = false
@@ -131,6 +132,7 @@ few_others config s (Silence now number matchers start end) e = omega arith
 few_others config s (Begin now) e = omega (arith, few_taking config s (time s now) (taken s (time s now)))
 few_others config s (Finish now number outcomes) e = omega (arith, few_finished config s (time s now) outcomes (flush_numbered s.flushes number))
 few_others config s (Maintain now) e = length-filter (λ g. not (has_no_alerts g)) s.groups
+few_others config s (RemoveEmptyGroups now) e = length-filter (λ g. not (has_no_alerts g)) s.groups
 few_others config s (Forget now) e = omega arith
 few_others config s (Load now row) e = omega arith
 few_others config s (Note now number integration outcome) e = omega (arith, few_noted config s (time s now) integration outcome (flush_numbered s.flushes number))

@@ -7,7 +7,7 @@ use Rattle.am_retry.specs.declared.outcome.Outcome.{Outcome}
 use Rattle.am_model.specs.declared.config.Config.{Config}
 use Rattle.am_model.specs.declared.config.Integration.{Integration}
 use Rattle.am_model.specs.declared.record.Call.{Call}
-use Rattle.am_model.specs.declared.record.Call.TheVariants.{Insert, Silence, Begin, Finish, Maintain, Forget, Load, Note}
+use Rattle.am_model.specs.declared.record.Call.TheVariants.{Insert, Silence, Begin, Finish, Maintain, RemoveEmptyGroups, Forget, Load, Note}
 use Rattle.am_model.specs.Begin.{taken, notified_of, after_notifying, after_taking}
 use Rattle.am_model.specs.Finish.{after_finish_of}
 use Rattle.am_model.specs.Forget.{is_idle}
@@ -43,6 +43,7 @@ IsSilence (Silence now number matchers start end) = true
 IsSilence (Begin now) = false
 IsSilence (Finish now number outcomes) = false
 IsSilence (Maintain now) = false
+IsSilence (RemoveEmptyGroups now) = false
 IsSilence (Forget now) = false
 IsSilence (Load now row) = false
 IsSilence (Note now number integration outcome) = false
@@ -53,6 +54,7 @@ IsForget (Silence now number matchers start end) = false
 IsForget (Begin now) = false
 IsForget (Finish now number outcomes) = false
 IsForget (Maintain now) = false
+IsForget (RemoveEmptyGroups now) = false
 IsForget (Forget now) = true
 IsForget (Load now row) = false
 IsForget (Note now number integration outcome) = false
@@ -88,6 +90,7 @@ module _ (config : Config) (s : State) where
   known_others (Begin now) e f g = known_taking (time s now) (taken s (time s now))
   known_others (Finish now number outcomes) e f g = known_finished (time s now) outcomes (flush_numbered s.flushes number)
   known_others (Maintain now) e f g = (refl, refl)
+  known_others (RemoveEmptyGroups now) e f g = (refl, refl)
   known_others (Forget now) e f g = absurd (cc)
   known_others (Load now row) e f g = (refl, refl)
   known_others (Note now number integration outcome) e f g = known_noted (time s now) integration outcome (flush_numbered s.flushes number)
@@ -107,6 +110,7 @@ module _ (config : Config) (s : State) where
   fewer_others (Finish now number outcomes) e f =
       no_more (after_call config s (Finish now number outcomes)) (known_others (Finish now number outcomes) refl refl refl)
   fewer_others (Maintain now) e f = no_more (after_call config s (Maintain now)) (refl, refl)
+  fewer_others (RemoveEmptyGroups now) e f = no_more (after_call config s (RemoveEmptyGroups now)) (refl, refl)
   fewer_others (Forget now) e f = (
     length-filter (λ a. not (is_idle s.groups (time s now) a)) s.known,
     length-filter (λ x. not (is_over (time s now) x)) s.silences,

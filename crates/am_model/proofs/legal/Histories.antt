@@ -7,7 +7,7 @@ use Rattle.am_alerts.specs.declared.limits.TheConstants.{MAX_TIME}
 use Rattle.am_model.specs.declared.config.Config.{Config}
 use Rattle.am_model.specs.declared.config.Integration.{Integration}
 use Rattle.am_model.specs.declared.record.Call.{Call}
-use Rattle.am_model.specs.declared.record.Call.TheVariants.{Insert, Silence, Begin, Finish, Maintain, Forget, Load, Note}
+use Rattle.am_model.specs.declared.record.Call.TheVariants.{Insert, Silence, Begin, Finish, Maintain, RemoveEmptyGroups, Forget, Load, Note}
 use Rattle.am_model.specs.declared.record.Record.{Record}
 use Rattle.am_model.specs.Begin.{taken, notified_of, after_notifying, after_taking}
 use Rattle.am_model.specs.Finish.{after_finish_of}
@@ -70,6 +70,7 @@ after_clock config s (Silence now number matchers start end) = refl
 after_clock config s (Begin now) = taking_clock config s (time s now) (taken s (time s now))
 after_clock config s (Finish now number outcomes) = finish_clock config s (time s now) outcomes (flush_numbered s.flushes number)
 after_clock config s (Maintain now) = refl
+after_clock config s (RemoveEmptyGroups now) = refl
 after_clock config s (Forget now) = refl
 after_clock config s (Load now row) = refl
 after_clock config s (Note now number integration outcome) =

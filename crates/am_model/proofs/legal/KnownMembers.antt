@@ -15,7 +15,7 @@ use Rattle.am_model.specs.declared.config.Config.{Config}
 use Rattle.am_model.specs.declared.config.Integration.{Integration}
 use Rattle.am_model.specs.declared.group.GroupName.{GroupName}
 use Rattle.am_model.specs.declared.record.Call.{Call}
-use Rattle.am_model.specs.declared.record.Call.TheVariants.{Insert, Silence, Begin, Finish, Maintain, Forget, Load, Note}
+use Rattle.am_model.specs.declared.record.Call.TheVariants.{Insert, Silence, Begin, Finish, Maintain, RemoveEmptyGroups, Forget, Load, Note}
 use Rattle.am_model.specs.declared.record.Record.{Record}
 use Rattle.am_model.specs.Begin.{taken, notified_of, begun_group, without_resolved, after_notifying, after_taking}
 use Rattle.am_model.specs.Finish.{leaves_by, finished_group, after_finish_of}
@@ -322,6 +322,7 @@ known_call config s (Begin now) steady h = (h.0, known_begin config s h.0 h.1 (t
 known_call config s (Finish now number outcomes) steady h =
     (h.0, known_finish config s h.0 h.1 (time s now) outcomes (flush_numbered s.flushes number))
 known_call config s (Maintain now) steady h = (h.0, all-filter (AreKnown config s.known h.0) (λ g. not (has_no_alerts g)) s.groups h.1)
+known_call config s (RemoveEmptyGroups now) steady h = (h.0, all-filter (AreKnown config s.known h.0) (λ g. not (has_no_alerts g)) s.groups h.1)
 known_call config s (Forget now) steady h = (h.0, known_forget config s h.0 (time s now) h.1)
 known_call config s (Load now row) steady h = h
 known_call config s (Note now number integration outcome) steady h =

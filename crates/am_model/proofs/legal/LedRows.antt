@@ -12,7 +12,7 @@ use Rattle.am_retry.specs.declared.outcome.Outcome.{Outcome}
 use Rattle.am_model.specs.declared.config.Config.{Config}
 use Rattle.am_model.specs.declared.config.Integration.{Integration}
 use Rattle.am_model.specs.declared.record.Call.{Call}
-use Rattle.am_model.specs.declared.record.Call.TheVariants.{Insert, Silence, Begin, Finish, Maintain, Forget, Load, Note}
+use Rattle.am_model.specs.declared.record.Call.TheVariants.{Insert, Silence, Begin, Finish, Maintain, RemoveEmptyGroups, Forget, Load, Note}
 use Rattle.am_model.specs.declared.record.Record.{Record}
 use Rattle.am_model.specs.declared.views.RowView.{RowView}
 use Rattle.am_model.specs.Begin.{alert_cmp, due_cmp, may_begin, taken, copied, copy_under, copy_of, label_sets, firing_of, resolved_of, needs, notified_of, flush_notifying, after_notifying, after_taking}
@@ -177,6 +177,7 @@ module _ (config : Config) where
   call s (Finish now number outcomes) led known h = finishing s (time s now) number outcomes (flush_numbered s.flushes number) refl h
   call s (Maintain now) led known h =
       record { rows = all-filter IsLed (λ row. not (has_expired (time s now) row)) s.rows h.rows; flushes = h.flushes }
+  call s (RemoveEmptyGroups now) led known h = record { rows = h.rows; flushes = h.flushes }
   call s (Forget now) led known h = record { rows = h.rows; flushes = h.flushes }
   call s (Load now row) led known h = record { rows = loading s.rows (time s now) row (led row refl) h.rows; flushes = h.flushes }
   call s (Note now number integration outcome) led known h =

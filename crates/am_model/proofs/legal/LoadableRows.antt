@@ -15,7 +15,7 @@ use Rattle.am_model.specs.declared.config.Config.{Config}
 use Rattle.am_model.specs.declared.config.Integration.{Integration}
 use Rattle.am_model.specs.declared.group.GroupName.{GroupName}
 use Rattle.am_model.specs.declared.record.Call.{Call}
-use Rattle.am_model.specs.declared.record.Call.TheVariants.{Insert, Silence, Begin, Finish, Maintain, Forget, Load, Note}
+use Rattle.am_model.specs.declared.record.Call.TheVariants.{Insert, Silence, Begin, Finish, Maintain, RemoveEmptyGroups, Forget, Load, Note}
 use Rattle.am_model.specs.declared.record.Record.{Record}
 use Rattle.am_model.specs.declared.views.RowView.{RowView}
 use Rattle.am_model.specs.Begin.{due_cmp, may_begin, taken, label_sets, firing_of, resolved_of, needs, notified_of, notified_state, flush_notifying, begun_group, without_resolved, after_notifying, after_taking}
@@ -257,6 +257,12 @@ module _ (config : Config) where
       let t = time s now in
       record {
         rows = all-filter (MayLoad t) (λ row. not (has_expired t row)) s.rows (rows-later s.clock t s.rows (time-later s now) h.rows);
+        groups = all-filter IsRouted (λ g. not (has_no_alerts g)) s.groups h.groups;
+        flushes = h.flushes;
+      }
+  call s (RemoveEmptyGroups now) consistent h =
+      record {
+        rows = rows-later s.clock (time s now) s.rows (time-later s now) h.rows;
         groups = all-filter IsRouted (λ g. not (has_no_alerts g)) s.groups h.groups;
         flushes = h.flushes;
       }

@@ -7,7 +7,7 @@ use Rattle.am_retry.specs.declared.outcome.Outcome.{Outcome}
 use Rattle.am_model.specs.declared.config.Config.{Config}
 use Rattle.am_model.specs.declared.config.Integration.{Integration}
 use Rattle.am_model.specs.declared.record.Call.{Call}
-use Rattle.am_model.specs.declared.record.Call.TheVariants.{Insert, Silence, Begin, Finish, Maintain, Forget, Load, Note}
+use Rattle.am_model.specs.declared.record.Call.TheVariants.{Insert, Silence, Begin, Finish, Maintain, RemoveEmptyGroups, Forget, Load, Note}
 use Rattle.am_model.specs.declared.record.Record.{Record}
 use Rattle.am_model.specs.declared.views.RowView.{RowView}
 use Rattle.am_model.specs.Begin.{notified_of, taken, after_notifying, after_taking}
@@ -81,6 +81,7 @@ call config s (Maintain now) timely =
       clock = time-within s now timely.clock;
       rows = all-filter (λ (row : RowView). row.time ≤ MAX_TIME) (λ row. not (has_expired (time s now) row)) s.rows timely.rows;
     }
+call config s (RemoveEmptyGroups now) timely = record { clock = time-within s now timely.clock; rows = timely.rows }
 call config s (Forget now) timely = record { clock = time-within s now timely.clock; rows = timely.rows }
 call config s (Load now row) timely =
     record {

@@ -15,7 +15,7 @@ use Rattle.am_retry.specs.declared.outcome.Outcome.{Outcome}
 use Rattle.am_model.specs.declared.config.Config.{Config}
 use Rattle.am_model.specs.declared.config.Integration.{Integration}
 use Rattle.am_model.specs.declared.record.Call.{Call}
-use Rattle.am_model.specs.declared.record.Call.TheVariants.{Insert, Silence, Begin, Finish, Maintain, Forget, Load, Note}
+use Rattle.am_model.specs.declared.record.Call.TheVariants.{Insert, Silence, Begin, Finish, Maintain, RemoveEmptyGroups, Forget, Load, Note}
 use Rattle.am_model.specs.Records.{flush_reply}
 use Rattle.am_model.specs.Begin.{alert_cmp, label_sets, copied, copy_of, firing_of, resolved_of, notified_about, notified_of, sent, deadline_of, leaving_of, begun_group, reply_notifying, reply_taking, flush_notifying, after_notifying, after_taking, taken}
 use Rattle.am_model.specs.Configured.{rules_of, route_muted}
@@ -264,6 +264,14 @@ module _ (config : Config) (s : State) (ks : List AlertData) (xs : List SilenceD
         silences = xs;
         state = refl;
         alike = still (after_call config s (Maintain now)) now refl refl refl;
+      }
+  same (RemoveEmptyGroups now) =
+      record {
+        returned = λ id. refl;
+        known = ks;
+        silences = xs;
+        state = refl;
+        alike = still (after_call config s (RemoveEmptyGroups now)) now refl refl refl;
       }
   same (Forget now) =
       record {

@@ -10,7 +10,7 @@ use Rattle.am_alerts.specs.declared.labels.Label.{Label}
 use Rattle.am_model.specs.declared.config.Config.{Config}
 use Rattle.am_model.specs.declared.group.GroupName.{GroupName}
 use Rattle.am_model.specs.declared.record.Call.{Call}
-use Rattle.am_model.specs.declared.record.Call.TheVariants.{Insert, Silence, Begin, Finish, Maintain, Forget, Load, Note}
+use Rattle.am_model.specs.declared.record.Call.TheVariants.{Insert, Silence, Begin, Finish, Maintain, RemoveEmptyGroups, Forget, Load, Note}
 use Rattle.am_model.specs.declared.record.Inserted.{Inserted}
 use Rattle.am_model.specs.declared.record.Record.{Record}
 use Rattle.am_model.specs.declared.record.Reply.TheVariants as reply_is
@@ -69,6 +69,7 @@ insert-labels labels stamp m (Silence now id matchers start end) e is = absurd (
 insert-labels labels stamp m (Begin now) e is = absurd (false≢true e)
 insert-labels labels stamp m (Finish now number outcomes) e is = absurd (false≢true e)
 insert-labels labels stamp m (Maintain now) e is = absurd (false≢true e)
+insert-labels labels stamp m (RemoveEmptyGroups now) e is = absurd (false≢true e)
 insert-labels labels stamp m (Forget now) e is = absurd (false≢true e)
 insert-labels labels stamp m (Load now row) e is = absurd (false≢true e)
 insert-labels labels stamp m (Note now number integration outcome) e is = absurd (false≢true e)

@@ -15,7 +15,7 @@ use Rattle.am_alerts.specs.Matcher.{match_all}
 use Rattle.am_model.specs.declared.config.Config.{Config}
 use Rattle.am_model.specs.declared.group.GroupName.{GroupName}
 use Rattle.am_model.specs.declared.record.Call.{Call}
-use Rattle.am_model.specs.declared.record.Call.TheVariants.{Insert, Silence, Begin, Finish, Maintain, Forget, Load, Note}
+use Rattle.am_model.specs.declared.record.Call.TheVariants.{Insert, Silence, Begin, Finish, Maintain, RemoveEmptyGroups, Forget, Load, Note}
 use Rattle.am_model.specs.declared.record.Record.{Record}
 use Rattle.am_model.specs.Begin.{alert_cmp, copied, label_sets, firing_of, resolved_of, copy_under, copy_of, count_resolved}
 use Rattle.am_model.specs.Configured.{rules_of, route_muted}
@@ -70,6 +70,7 @@ known-inserted labels (r ∷ past) = by (stamp_returned r.reply) r.call (known-i
     by stamp (Begin now) rest = rest
     by stamp (Finish now number outcomes) rest = rest
     by stamp (Maintain now) rest = rest
+    by stamp (RemoveEmptyGroups now) rest = rest
     by stamp (Forget now) rest = rest
     by stamp (Load now row) rest = rest
     by stamp (Note now number integration outcome) rest = rest

@@ -6,7 +6,7 @@ use Rattle.am_model.specs.declared.config.Config.{Config}
 use Rattle.am_model.specs.declared.config.Integration.{Integration}
 use Rattle.am_model.specs.declared.group.GroupName.{GroupName}
 use Rattle.am_model.specs.declared.record.Call.{Call}
-use Rattle.am_model.specs.declared.record.Call.TheVariants.{Silence, Begin, Forget, Load}
+use Rattle.am_model.specs.declared.record.Call.TheVariants.{Silence, Begin, Maintain, RemoveEmptyGroups, Forget, Load}
 use Rattle.am_model.specs.declared.record.Record.{Record}
 use Rattle.am_model.specs.declared.record.Reply.{Reply}
 use Rattle.am_model.specs.declared.record.Reply.TheVariants as reply_is
@@ -19,14 +19,15 @@ use Rattle.am_model.specs.look_back.Past.{past_of}
 use Rattle.am_model.specs.look_back.Presence.{goes_to, presence}
 use Rattle.am_model.specs.Replay.{replay}
 use Rattle.am_model.specs.State.{MemberState, GroupState, State, opening_state, at_time, time, members_in}
-use Rattle.am_model.specs.Maintenance.{silenced, after_silence}
+use Rattle.am_model.specs.Maintenance.{silenced, after_silence, maintained, after_maintain, empty_groups_removed, after_removal}
 use Rattle.am_model.proofs.legal.Consistent.{consistent_replay}
 use Rattle.am_model.proofs.legal.ConsistentBegin.{IsTaken, taken-is}
 use Rattle.am_model.proofs.legal.ConsistentGroups.{members_of-in}
 use Rattle.am_model.proofs.legal.ConsistentState.{IsSteady, consistent_to}
 use Rattle.am_model.proofs.legal.EachCall.{HoldsOfEach, each_call}
-use Rattle.am_model.proofs.looking_back.alerts.FoundSteps.{finds-insert, finds-still, finds-maintain, finds-quiet, finds-flush, finds-finish, finds-note}
+use Rattle.am_model.proofs.looking_back.alerts.FoundSteps.{finds-insert, finds-still, finds-quiet, finds-flush, finds-finish, finds-note}
 use Rattle.am_model.proofs.looking_back.flushes.Opened.{Finds}
+use Rattle.am_model.proofs.looking_back.PastWords.{members_of-kept_some}
 use Rattle.am_model.proofs.looking_back.Pasts.{state_after, IsLegalPast, replay_of_past, legal_past, replay_is_past}
 
 module _ (config : Config) (id : ℕ) (s : State) (past : List Record) (pass : ℕ) (steady : IsSteady s) (k : Finds config s past) where
@@ -43,18 +44,23 @@ module _ (config : Config) (id : ℕ) (s : State) (past : List Record) (pass : �
       record {
         insert = λ now a. finds-insert config s past k pass now a steady;
         silence = λ now number matchers start end.
-            finds-still config s past k (after_silence s (time s now) (silence_of number matchers start end)) (entry pass (Silence now number matchers start end) (reply_is.Silenced (silenced s (silence_of number matchers start end)))) now refl refl refl refl refl refl
+            finds-still config s past k (after_silence s (time s now) (silence_of number matchers start end)) (entry pass (Silence now number matchers start end) (reply_is.Silenced (silenced s (silence_of number matchers start end)))) now (λ name. refl) refl refl refl refl refl
             (λ labels. refl) (λ name m. refl) (λ n. refl) (λ n i. refl);
         nothing = λ now none.
-            finds-still config s past k (at_time s (time s now)) (entry pass (Begin now) reply_is.NothingDue) now refl refl refl refl refl refl (λ labels. refl) (λ name m. refl) (λ number. refl) (λ number i. refl);
+            finds-still config s past k (at_time s (time s now)) (entry pass (Begin now) reply_is.NothingDue) now (λ name. refl) refl refl refl refl refl (λ labels. refl) (λ name m. refl) (λ number. refl) (λ number i. refl);
         begin = λ now g is notified are. notifying now g (taken-is s (time s now) g steady.groups is) notified;
         finish = λ now number outcomes f is. finds-finish config s past k pass now number outcomes f steady is;
-        maintain = λ now. finds-maintain config s past k pass now steady;
+        maintain = λ now.
+            finds-still config s past k (after_maintain s (time s now)) (entry pass (Maintain now) (reply_is.Maintained (maintained s (time s now)))) now (λ name. members_of-kept_some name s.groups steady.groups) refl refl refl refl refl
+            (λ labels. refl) (λ name m. refl) (λ n. refl) (λ n i. refl);
+        remove_empty_groups = λ now.
+            finds-still config s past k (after_removal s (time s now)) (entry pass (RemoveEmptyGroups now) (reply_is.EmptyGroupsRemoved (empty_groups_removed s))) now (λ name. members_of-kept_some name s.groups steady.groups) refl refl refl refl refl
+            (λ labels. refl) (λ name m. refl) (λ n. refl) (λ n i. refl);
         forget = λ now.
-            finds-still config s past k (after_forget s (time s now)) (entry pass (Forget now) (reply_is.Forgotten (forgotten s (time s now)))) now refl refl refl refl refl refl
+            finds-still config s past k (after_forget s (time s now)) (entry pass (Forget now) (reply_is.Forgotten (forgotten s (time s now)))) now (λ name. refl) refl refl refl refl refl
             (λ labels. refl) (λ name m. refl) (λ n. refl) (λ n i. refl);
         load = λ now row may.
-            finds-still config s past k (after_load config s (time s now) row) (entry pass (Load now row) (reply_is.Loaded (loaded s.rows (time s now) row))) now refl refl refl refl refl refl
+            finds-still config s past k (after_load config s (time s now) row) (entry pass (Load now row) (reply_is.Loaded (loaded s.rows (time s now) row))) now (λ name. refl) refl refl refl refl refl
             (λ labels. refl) (λ name m. refl) (λ n. refl) (λ n i. refl);
         note = λ now number integration outcome f is may. finds-note config s past k pass now number integration outcome f steady is;
       }

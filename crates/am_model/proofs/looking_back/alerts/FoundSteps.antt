@@ -29,14 +29,13 @@ use Rattle.am_model.specs.look_back.Laws.{member_with}
 use Rattle.am_model.specs.look_back.Past.{time_at, is_flush, is_note, begin_of, was_noted}
 use Rattle.am_model.specs.look_back.Presence.{goes_to, inserts, begin_since, resolved_at_begin, all_succeeded_at, last_insert, unless_left, removes, presence}
 use Rattle.am_model.specs.State.{MemberState, GroupState, FlushState, State, time, same_name, is_named, flush_numbered}
-use Rattle.am_model.specs.Maintenance.{after_maintain, maintained}
 use Rattle.am_model.proofs.legal.ConsistentBegin.{IsTaken}
 use Rattle.am_model.proofs.legal.ConsistentGroups.{members_of, members_of-kept}
 use Rattle.am_model.proofs.lists.Distinct.{all-find, all-filter, all-map, all-push, all-weaker, all-both, find-passes}
 use Rattle.am_model.proofs.legal.ConsistentState.{IsOpen, IsSteady}
 use Rattle.am_model.proofs.looking_back.flushes.Opened.{notices_at, notified_noted, notified_as, IsOpened, Finds, open-step, success-found, leaving-older, members-tidy}
 use Rattle.am_model.proofs.looking_back.Pasts.{presence-step, presence-insert, unless-some}
-use Rattle.am_model.proofs.looking_back.PastWords.{unless, has_labels, member-put, member-without, member-labels, members_of-put, members_of-changed_own, members_of-kept_some, leaving-found}
+use Rattle.am_model.proofs.looking_back.PastWords.{unless, has_labels, member-put, member-without, member-labels, members_of-put, members_of-changed_own, leaving-found}
 use Rattle.am_model.proofs.states.Alike.{same_name-is}
 use Rattle.am_model.proofs.legal.BoundedAlerts.{members-or_new}
 
@@ -142,16 +141,16 @@ module _ (config : Config) (s : State) (past : List Record) (k : Finds config s 
           let said : cond (goes_to config name n.alert.labels) (Some (record { alert = a; stamp = next_stamp s })) None ≡ Some n = sym (presence-insert config name n.alert.labels pass now a (inserted config s a) past e) ∙ is in
           leaving-older s.inserts n f.leaving o.stamps (stamp_of n (goes_to config name n.alert.labels) said)
 
-  -- ---- a silence, and a begin where nothing is due
+  -- ---- records that leave alerts and open flushes
 
-  -- the groups and the open flushes stay
-  pub finds-still : (s' : State) (r : Record) (now : ℕ) → s'.groups ≡ s.groups → s'.flushes ≡ s.flushes → s'.inserts ≡ s.inserts → s'.next_number ≡ s.next_number → s'.clock ≡ time s now → now_of r.call ≡ now
+  -- the groups have their alerts, and the open flushes stay
+  pub finds-still : (s' : State) (r : Record) (now : ℕ) → ((name : GroupName) → members_of s'.groups name ≡ members_of s.groups name) → s'.flushes ≡ s.flushes → s'.inserts ≡ s.inserts → s'.next_number ≡ s.next_number → s'.clock ≡ time s now → now_of r.call ≡ now
       → ((labels : List Label) → inserts labels r.call ≡ false) → ((name : GroupName) (m : MemberState) → removes name m.alert r past ≡ false)
       → ((number : ℕ) → is_flush number r.reply ≡ false) → ((number i : ℕ) → is_note number i r.call ≡ false)
       → Finds config s' (r ∷ past)
-  finds-still s' r now groups flushes stamps next clock handed none stays unflushed unnoted =
+  finds-still s' r now members flushes stamps next clock handed none stays unflushed unnoted =
       record {
-        found = λ name labels. ap (λ gs. member_with labels (members_of gs name)) groups ∙ same-step name labels r (none labels) (stays name);
+        found = λ name labels. ap (member_with labels) (members name) ∙ same-step name labels r (none labels) (stays name);
         clock = clock ∙ clock-step now r handed;
         opened =
             subst (AllByRecursion (IsOpened config s'.inserts (r ∷ past))) (sym flushes)
@@ -160,20 +159,6 @@ module _ (config : Config) (s : State) (past : List Record) (k : Finds config s 
             (λ f o. open-step config r past s.inserts s.inserts f (omega arith) (unflushed f.number) (unnoted f.number) (λ name m e. absurd (false≢true (sym (none m.alert.labels) ∙ e))) o)
             s.flushes k.opened));
         fresh = λ number i h. ap (λ b. b || was_noted number i past) (unnoted number i) ∙ k.fresh number i (subst (λ n. n ≤ number) next h);
-      }
-
-  -- ---- a maintenance
-
-  pub finds-maintain : (pass now : ℕ) → IsSteady s → Finds config (after_maintain s (time s now)) (entry pass (call.Maintain now) (reply_is.Maintained (maintained s (time s now))) ∷ past)
-  finds-maintain pass now steady =
-      let r = entry pass (call.Maintain now) (reply_is.Maintained (maintained s (time s now))) in
-      record {
-        found = λ name labels. ap (member_with labels) (members_of-kept_some name s.groups steady.groups) ∙ same-step name labels r refl (λ m. refl);
-        clock = clock-step now r refl;
-        opened =
-            all-weaker (IsOpened config s.inserts past) (IsOpened config s.inserts (r ∷ past))
-            (λ f o. open-step config r past s.inserts s.inserts f (omega arith) refl (λ i. refl) (λ name m e. absurd (false≢true e)) o) s.flushes k.opened;
-        fresh = λ number i h. k.fresh number i h;
       }
 
   -- ---- records that take alerts out of one group

@@ -8,10 +8,10 @@ use Rattle.am_alerts.specs.declared.labels.Label.{Label}
 use Rattle.am_model.specs.declared.config.Config.{Config}
 use Rattle.am_model.specs.declared.group.GroupName.{GroupName}
 use Rattle.am_model.specs.declared.record.Call.{Call}
-use Rattle.am_model.specs.declared.record.Call.TheVariants.{Insert, Silence, Begin, Finish, Maintain, Forget, Load, Note}
+use Rattle.am_model.specs.declared.record.Call.TheVariants.{Insert, Silence, Begin, Finish, Maintain, RemoveEmptyGroups, Forget, Load, Note}
 use Rattle.am_model.specs.declared.record.Record.{Record}
 use Rattle.am_model.specs.declared.record.Reply.{Reply}
-use Rattle.am_model.specs.declared.record.Reply.TheVariants.{Inserted, Silenced, NothingDue, Quiet, Flush, Finished, Maintained, Forgotten, Loaded, Noted}
+use Rattle.am_model.specs.declared.record.Reply.TheVariants.{Inserted, Silenced, NothingDue, Quiet, Flush, Finished, Maintained, EmptyGroupsRemoved, Forgotten, Loaded, Noted}
 use Rattle.am_model.specs.look_back.Entry.{begins_group}
 use Rattle.am_model.specs.look_back.Laws.{member_with, EveryLegalHistory, number_in, insert_during, KeepsRefiring, IsOneFlushAtATime, RefiringAlertsStay}
 use Rattle.am_model.specs.look_back.Past.{AtEach, past_of, time_at, is_flush, is_flush_of, is_quiet, is_finish, takes, begin_of, has_finished}
@@ -30,6 +30,7 @@ number-is number (Quiet group removed) e = absurd (false≢true e)
 number-is number (Flush group opened) e = eqb-true opened.number number e
 number-is number (Finished finished) e = absurd (false≢true e)
 number-is number (Maintained maintained) e = absurd (false≢true e)
+number-is number (EmptyGroupsRemoved removed) e = absurd (false≢true e)
 number-is number (Forgotten forgotten) e = absurd (false≢true e)
 number-is number (Loaded loaded) e = absurd (false≢true e)
 number-is number Noted e = absurd (false≢true e)
@@ -92,6 +93,7 @@ module _ (config : Config) (name : GroupName) (number : ℕ) where
     none-removed past (Begin now) h = refl
     none-removed past (Finish now n outcomes) h = ap (λ b. b && all_succeeded_at n outcomes past (begin_of n past)) (h n)
     none-removed past (Maintain now) h = refl
+    none-removed past (RemoveEmptyGroups now) h = refl
     none-removed past (Forget now) h = refl
     none-removed past (Load now row) h = refl
     none-removed past (Note now n integration outcome) h = refl
@@ -142,6 +144,7 @@ finish-keeps labels number (Silence now id matchers start end) e = refl
 finish-keeps labels number (Begin now) e = refl
 finish-keeps labels number (Finish now n outcomes) e = refl
 finish-keeps labels number (Maintain now) e = refl
+finish-keeps labels number (RemoveEmptyGroups now) e = refl
 finish-keeps labels number (Forget now) e = refl
 finish-keeps labels number (Load now row) e = refl
 finish-keeps labels number (Note now n integration outcome) e = refl

@@ -18,12 +18,12 @@ use Rattle.am_model.specs.declared.config.Config.{Config}
 use Rattle.am_model.specs.declared.config.Integration.{Integration}
 use Rattle.am_model.specs.declared.group.GroupName.{GroupName}
 use Rattle.am_model.specs.declared.record.Call.{Call}
-use Rattle.am_model.specs.declared.record.Call.TheVariants.{Insert, Silence, Begin, Finish, Maintain, Forget, Load, Note}
+use Rattle.am_model.specs.declared.record.Call.TheVariants.{Insert, Silence, Begin, Finish, Maintain, RemoveEmptyGroups, Forget, Load, Note}
 use Rattle.am_model.specs.declared.record.Call.TheVariants as call_is
 use Rattle.am_model.specs.declared.record.Record.{Record}
 use Rattle.am_model.specs.declared.record.Reply.TheVariants as reply_is
 use Rattle.am_model.specs.declared.record.Reply.{Reply}
-use Rattle.am_model.specs.declared.record.Reply.TheVariants.{Inserted, Silenced, NothingDue, Quiet, Flush, Finished, Maintained, Forgotten, Loaded, Noted}
+use Rattle.am_model.specs.declared.record.Reply.TheVariants.{Inserted, Silenced, NothingDue, Quiet, Flush, Finished, Maintained, EmptyGroupsRemoved, Forgotten, Loaded, Noted}
 use Rattle.am_model.specs.Begin.{due_cmp, may_begin, taken, notified_of, after_notifying, after_taking, reply_notifying, reply_taking, flush_notifying}
 use Rattle.am_model.specs.Begin as begin_is
 use Rattle.am_model.specs.Configured.{route_of}
@@ -41,7 +41,7 @@ use Rattle.am_model.specs.Note.{is_ready, notified_by, may_be_noted, with_note, 
 use Rattle.am_model.specs.look_back.Past.{AtEach, past_of, time_at, is_flush, is_flush_of, is_finish, is_note, takes, begin_of, has_begun, has_finished, was_noted}
 use Rattle.am_model.specs.Replay.{reply, after, after_call}
 use Rattle.am_model.specs.State.{MemberState, GroupState, NotifiedState, FlushState, State, time, same_name, is_flushing, members_in, flush_numbered}
-use Rattle.am_model.specs.Maintenance.{silenced, maintained}
+use Rattle.am_model.specs.Maintenance.{silenced, maintained, empty_groups_removed}
 use Rattle.am_model.proofs.legal.Begins.{RespectsIntervals, keeps-call, opening_keeps}
 use Rattle.am_model.proofs.legal.ConsistentBegin.{taken-is}
 use Rattle.am_model.proofs.legal.ConsistentGroups.{members_of, members_of-in}
@@ -66,6 +66,7 @@ flush_passes test (Quiet group removed) = false
 flush_passes test (Flush group opened) = test group opened.number
 flush_passes test (Finished finished) = false
 flush_passes test (Maintained maintained) = false
+flush_passes test (EmptyGroupsRemoved removed) = false
 flush_passes test (Forgotten forgotten) = false
 flush_passes test (Loaded loaded) = false
 flush_passes test Noted = false
@@ -133,6 +134,7 @@ of_number number past (Flush group opened) =
     ] refl
 of_number number past (Finished finished) = refl
 of_number number past (Maintained maintained) = refl
+of_number number past (EmptyGroupsRemoved removed) = refl
 of_number number past (Forgotten forgotten) = refl
 of_number number past (Loaded loaded) = refl
 of_number number past Noted = refl
@@ -145,6 +147,7 @@ of_group name (Quiet group removed) = refl
 of_group name (Flush group opened) = refl
 of_group name (Finished finished) = refl
 of_group name (Maintained maintained) = refl
+of_group name (EmptyGroupsRemoved removed) = refl
 of_group name (Forgotten forgotten) = refl
 of_group name (Loaded loaded) = refl
 of_group name Noted = refl
@@ -165,6 +168,7 @@ of_other test m past (Flush group opened) = by (test group opened.number) (m == 
     by false false c = refl
 of_other test m past (Finished finished) = refl
 of_other test m past (Maintained maintained) = refl
+of_other test m past (EmptyGroupsRemoved removed) = refl
 of_other test m past (Forgotten forgotten) = refl
 of_other test m past (Loaded loaded) = refl
 of_other test m past Noted = refl
@@ -267,6 +271,18 @@ module _ (config : Config) (id : ℕ) (s : State) (past : List Record) (pass : �
           begun = n.begun;
           ended = n.ended;
           keeps = keeps-after (Maintain now) p refl (λ name. ap (λ b. if b then None else begun_at config name past) (empty-found config s past k name));
+        },
+      )
+
+  remove_empty_groups : (now : ℕ) → Holds (RemoveEmptyGroups now) (after_call config s (RemoveEmptyGroups now)) (EmptyGroupsRemoved (empty_groups_removed s))
+  remove_empty_groups now =
+      let p = reply_is.EmptyGroupsRemoved (empty_groups_removed s) in (
+        none-begun (RemoveEmptyGroups now) p (λ m. refl) (λ m. refl) (λ m i. refl) (λ name. refl),
+        record {
+          opens = n.opens;
+          begun = n.begun;
+          ended = n.ended;
+          keeps = keeps-after (RemoveEmptyGroups now) p refl (λ name. ap (λ b. if b then None else begun_at config name past) (empty-found config s past k name));
         },
       )
 
@@ -438,6 +454,7 @@ module _ (config : Config) (id : ℕ) (s : State) (past : List Record) (pass : �
         begin = λ now g is notified are. interval-notifying now g notified is;
         finish = λ now number outcomes f is name e. absurd (false≢true e);
         maintain = λ now name e. absurd (false≢true e);
+        remove_empty_groups = λ now name e. absurd (false≢true e);
         forget = λ now name e. absurd (false≢true e);
         load = λ now row may name e. absurd (false≢true e);
         note = λ now number i outcome f is may name e. absurd (false≢true e);
@@ -455,6 +472,7 @@ module _ (config : Config) (id : ℕ) (s : State) (past : List Record) (pass : �
         begin = begin;
         finish = finish;
         maintain = maintain;
+        remove_empty_groups = remove_empty_groups;
         forget = forget;
         load = load;
         note = note;

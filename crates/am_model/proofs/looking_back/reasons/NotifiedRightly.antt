@@ -160,6 +160,7 @@ module _ (config : Config) (id : ℕ) (s : State) (past : List Record) (pass : �
             notifying now g notified (after_notifying config s (time s now) g notified) (ap (map (λ i. i.0)) (sym are) ∙ notified-found (time s now) (later now) g is);
         finish = λ now number outcomes f is name e. absurd (false≢true e);
         maintain = λ now name e. absurd (false≢true e);
+        remove_empty_groups = λ now name e. absurd (false≢true e);
         forget = λ now name e. absurd (false≢true e);
         load = λ now row may name e. absurd (false≢true e);
         note = λ now number i outcome f is may name e. absurd (false≢true e);
@@ -174,6 +175,7 @@ module _ (config : Config) (id : ℕ) (s : State) (past : List Record) (pass : �
         begin = λ now g is notified are. finding now g is notified are (after_notifying config s (time s now) g notified);
         finish = λ now number outcomes f is. tt;
         maintain = λ now. tt;
+        remove_empty_groups = λ now. tt;
         forget = λ now. tt;
         load = λ now row may. tt;
         note = λ now number i outcome f is may. tt;

@@ -19,7 +19,7 @@ use Rattle.am_model.proofs.legal.EachCall.{HoldsOfEach, each_call}
 use Rattle.am_model.proofs.looking_back.alerts.FoundAlerts.{steady_past, finds_past}
 use Rattle.am_model.proofs.looking_back.flushes.Opened.{Finds}
 use Rattle.am_model.proofs.looking_back.Pasts.{state_after, IsLegalPast, legal_past, replay_is_past}
-use Rattle.am_model.proofs.looking_back.rows.RowSteps.{FindsRows, rows-insert, rows-silence, rows-begin, rows-flush, rows-finish, rows-maintain, rows-forget, rows-load, rows-note}
+use Rattle.am_model.proofs.looking_back.rows.RowSteps.{FindsRows, rows-insert, rows-silence, rows-begin, rows-flush, rows-finish, rows-maintain, rows-remove, rows-forget, rows-load, rows-note}
 
 module _ (config : Config) (id : ℕ) (s : State) (past : List Record) (pass : ℕ) (steady : IsSteady s) (k : Finds config s past) (l : FindsRows config s past) where
   -- what is reported after a call that leads to a state and returned a reply
@@ -39,6 +39,7 @@ module _ (config : Config) (id : ℕ) (s : State) (past : List Record) (pass : �
         begin = λ now g is notified are. notifying now g (taken-is s (time s now) g steady.groups is) notified;
         finish = λ now number outcomes f is. rows-finish config s past k l pass now number outcomes f is;
         maintain = λ now. rows-maintain config s past k l pass now steady;
+        remove_empty_groups = λ now. rows-remove config s past k l pass now;
         forget = λ now. rows-forget config s past k l pass now;
         load = λ now row may. rows-load config s past k l pass now row may;
         note = λ now number integration outcome f is may. rows-note config s past k l pass now number integration outcome f is;

@@ -44,6 +44,7 @@ module _ (config : Config) (id : ℕ) (s : State) (past : List Record) (pass : �
         begin = λ now g is notified are row e. absurd (cc);
         finish = λ now number outcomes f is row e. absurd (cc);
         maintain = λ now row e. absurd (cc);
+        remove_empty_groups = λ now row e. absurd (cc);
         forget = λ now row e. absurd (cc);
         load = λ now own may row e.
             subst (IsLoadedRightly config (entry pass (Load now own) (Loaded (loaded s.rows (time s now) own))) past) (inside own row e) (loading now own may);

@@ -33,7 +33,7 @@ use Rattle.am_model.specs.Lists.{upsert, changed_where}
 use Rattle.am_model.specs.Note.{with_note, after_note}
 use Rattle.am_model.specs.look_back.Past.{time_at, is_flush, begin_of, was_noted, succeeded}
 use Rattle.am_model.specs.State.{NotifiedState, FlushState, GroupState, State, time, is_named, same_name, flush_numbered}
-use Rattle.am_model.specs.Maintenance.{same_silence, silenced, after_silence, has_expired, maintained, after_maintain}
+use Rattle.am_model.specs.Maintenance.{same_silence, silenced, after_silence, has_expired, maintained, after_maintain, empty_groups_removed, after_removal}
 use Rattle.am_model.proofs.legal.ConsistentBegin.{IsTaken}
 use Rattle.am_model.proofs.lists.Distinct.{all-find, all-filter, all-map, all-push, all-weaker, all-both, find-passes}
 use Rattle.am_model.proofs.legal.ConsistentState.{IsOpen, IsSteady}
@@ -289,6 +289,16 @@ module _ (config : Config) (s : State) (past : List Record) (k : Finds config s 
       by : (u : ℕ) (o : Option RowView) → unless (has_expired u) o ≡ unless_expired u o
       by u None = refl
       by u (Some row) = refl
+
+  pub rows-remove : (pass now : ℕ) → FindsRows config (after_removal s (time s now)) (entry pass (call.RemoveEmptyGroups now) (reply_is.EmptyGroupsRemoved (empty_groups_removed s)) ∷ past)
+  rows-remove pass now =
+      let r = entry pass (call.RemoveEmptyGroups now) (reply_is.EmptyGroupsRemoved (empty_groups_removed s)) in
+      record {
+        rows = l.rows;
+        known = λ u come. l.known u (earlier now u come);
+        silences = λ u come. l.silences u (earlier now u come);
+        found = all-weaker (IsFoundBy config past) (IsFoundBy config (r ∷ past)) (λ f o. found-step config r past f refl o) s.flushes l.found;
+      }
 
   pub rows-forget : (pass now : ℕ) → FindsRows config (after_forget s (time s now)) (entry pass (call.Forget now) (reply_is.Forgotten (forgotten s (time s now))) ∷ past)
   rows-forget pass now =

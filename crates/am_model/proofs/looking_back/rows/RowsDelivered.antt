@@ -10,7 +10,7 @@ use Rattle.am_retry.specs.declared.outcome.Outcome.{Outcome}
 use Rattle.am_model.specs.declared.config.Config.{Config}
 use Rattle.am_model.specs.declared.group.GroupName.{GroupName}
 use Rattle.am_model.specs.declared.record.Call.{Call}
-use Rattle.am_model.specs.declared.record.Call.TheVariants.{Insert, Silence, Begin, Finish, Maintain, Forget, Load, Note}
+use Rattle.am_model.specs.declared.record.Call.TheVariants.{Insert, Silence, Begin, Finish, Maintain, RemoveEmptyGroups, Forget, Load, Note}
 use Rattle.am_model.specs.declared.record.Record.{Record}
 use Rattle.am_model.specs.declared.record.Reply.{Reply}
 use Rattle.am_model.specs.declared.record.Reply.TheVariants as reply_is
@@ -109,6 +109,7 @@ logged_delivered config id =
       begin = λ now g taken notified are name i e. absurd (false≢true e);
       finish = λ now number outcomes f is name i e. finish_reports name i now number outcomes past e;
       maintain = λ now name i e. absurd (false≢true e);
+      remove_empty_groups = λ now name i e. absurd (false≢true e);
       forget = λ now name i e. absurd (false≢true e);
       load = λ now row may name i e. absurd (false≢true e);
       note = λ now number i outcome f is may name j e. note_reports config s past (finds_past config id past before) (finds_rows_past config id past before) now number i outcome f is may name j e;
@@ -136,6 +137,7 @@ row_time config t i row (q ∷ before) e = by (time_at (q ∷ before)) q.reply e
         time_or (Some x) = x.time
     by begun (reply_is.Finished finished) e = absurd (cc)
     by begun (reply_is.Maintained maintained) e = absurd (cc)
+    by begun (reply_is.EmptyGroupsRemoved removed) e = absurd (cc)
     by begun (reply_is.Forgotten forgotten) e = absurd (cc)
     by begun (reply_is.Loaded loaded) e = absurd (cc)
     by begun reply_is.Noted e = absurd (cc)
@@ -153,6 +155,7 @@ row_there config t i name (q ∷ before) e none = by (time_at (q ∷ before)) q.
     by begun (reply_is.Flush group opened) e none = absurd (cc)
     by begun (reply_is.Finished finished) e none = false≢true e
     by begun (reply_is.Maintained maintained) e none = false≢true e
+    by begun (reply_is.EmptyGroupsRemoved removed) e none = false≢true e
     by begun (reply_is.Forgotten forgotten) e none = false≢true e
     by begun (reply_is.Loaded loaded) e none = false≢true e
     by begun reply_is.Noted e none = false≢true e
@@ -164,6 +167,7 @@ logs_begin name i past (Begin now) e = absurd (false≢true e)
 logs_begin name i past (Finish now number outcomes) e =
     (and_parts (begins_group name (begin_of number past)) (notified_and_succeeded number outcomes past i (begin_of number past) && not (was_noted number i past)) e).0
 logs_begin name i past (Maintain now) e = absurd (false≢true e)
+logs_begin name i past (RemoveEmptyGroups now) e = absurd (false≢true e)
 logs_begin name i past (Forget now) e = absurd (false≢true e)
 logs_begin name i past (Load now row) e = absurd (false≢true e)
 logs_begin name i past (Note now number j outcome) e = (and_parts (begins_group name (begin_of number past)) (j == i) e).0
@@ -176,6 +180,7 @@ left_there t (Begin now) row o e = e
 left_there t (Finish now number outcomes) row o e = e
 left_there t (Maintain now) row None e = e
 left_there t (Maintain now) row (Some x) e = elim (has_expired t x) as (λ b. cond b None (Some x) ≡ Some row → Some x ≡ Some row) [ true ↦ λ e. absurd (cc) | false ↦ λ e. e ] e
+left_there t (RemoveEmptyGroups now) row o e = e
 left_there t (Forget now) row o e = e
 left_there t (Load now loaded) row o e = e
 left_there t (Note now number integration outcome) row o e = e
@@ -196,6 +201,7 @@ logs_unloaded name i past p (Silence now id matchers start end) e = absurd (fals
 logs_unloaded name i past p (Begin now) e = absurd (false≢true e)
 logs_unloaded name i past p (Finish now number outcomes) e = refl
 logs_unloaded name i past p (Maintain now) e = absurd (false≢true e)
+logs_unloaded name i past p (RemoveEmptyGroups now) e = absurd (false≢true e)
 logs_unloaded name i past p (Forget now) e = absurd (false≢true e)
 logs_unloaded name i past p (Load now row) e = absurd (false≢true e)
 logs_unloaded name i past p (Note now number j outcome) e = refl

@@ -3,7 +3,7 @@
 ghost use Rattle.std.specs.Prelude.{◌≡◌, ◌≢◌, ◌≤◌, ◌↔◌, None, Some, IfOk, IfErr, OnOk, OnErr, IsErrOf};
 ghost use Rattle.std.specs.Option.{option_map};
 ghost use Rattle.am_alerts.specs.Fault.{ok_unless};
-ghost use Rattle.am_model.specs.Causes.{insert_cause, silence_cause, begin_cause, maintain_cause, forget_cause, load_cause, note_cause};
+ghost use Rattle.am_model.specs.Causes.{insert_cause, silence_cause, begin_cause, maintain_cause, removal_cause, forget_cause, load_cause, note_cause};
 ghost use Rattle.am_model.specs.Config.{AreAllowed, config_fault};
 ghost use Rattle.am_board.specs.History.{opening, state_at, records_at, IsReplyAt, with_record, reply_of, IsFresh};
 ghost use Rattle.am_board.specs.History.{HandsBack, IsForeign, IsNotOpen};
@@ -20,10 +20,11 @@ use crate::flush::find_flush;
 use crate::forget::{forget_idle, renew};
 use crate::insert::put_alert;
 use crate::load::load_row;
-use crate::maintain::sweep;
+use crate::maintain::{remove_empty, sweep};
 use crate::note::note_success;
 use crate::record::{
-    Call, Finished, Forgotten, Inserted, Loaded, Maintained, Noted, Record, Reply, Silenced,
+    Call, EmptyGroupsRemoved, Finished, Forgotten, Inserted, Loaded, Maintained, Noted, Record,
+    Reply, Silenced,
 };
 use crate::silence::put_silence;
 use crate::state::State;
@@ -313,6 +314,31 @@ impl Board {
         ensures refused { OnErr result (self.new ≡ self.old) }
     {
         sweep(&self.config, &mut self.state, pass, now)
+    }
+
+    /// Removes the groups without alerts, and nothing else: the log rows stay.
+    ///
+    /// An alert that comes for a removed group makes it anew, and it waits for its `group_wait`. A
+    /// group that is still there waits for its next flush instead. Alertmanager's dispatcher removes
+    /// such groups every 30 seconds. [`Board::has_empty_groups`] says whether there are any. It also
+    /// rebuilds the set of due times, as a maintenance does.
+    ///
+    /// # Errors
+    ///
+    /// In this order, and each changes nothing: `HistoryFull`, then `NoMemory` for the record.
+    pub fn remove_empty_groups(
+        &mut self,
+        _alloc: Global,
+        pass: u32,
+        now: u64,
+    ) -> Result<EmptyGroupsRemoved, Fault>
+        ensures recorded { IfOk result
+            (λ removed. self.new ≡ with_record self.old (entry pass (Call.RemoveEmptyGroups now) (Reply.EmptyGroupsRemoved removed))) }
+        ensures reply { IfOk result (λ removed. IsReplyAt self.old (Call.RemoveEmptyGroups now) (Reply.EmptyGroupsRemoved removed)) }
+        ensures cause { IsCaused (removal_cause self.old.config (records_at self.old) (state_at self.old)) result }
+        ensures refused { OnErr result (self.new ≡ self.old) }
+    {
+        remove_empty(&self.config, &mut self.state, pass, now)
     }
 
     /// Forgets the known alerts that are resolved and in no group, and the silences that are over.

@@ -8,7 +8,7 @@ use Rattle.std.proofs.lemmas.List.Sorted.{All-permutation, IsPermutation-reverse
 use Rattle.am_model.specs.declared.config.Config.{Config}
 use Rattle.am_model.specs.declared.group.GroupName.{GroupName}
 use Rattle.am_model.specs.declared.record.Call.{Call}
-use Rattle.am_model.specs.declared.record.Call.TheVariants.{Insert, Silence, Begin, Finish, Maintain, Forget, Load, Note}
+use Rattle.am_model.specs.declared.record.Call.TheVariants.{Insert, Silence, Begin, Finish, Maintain, RemoveEmptyGroups, Forget, Load, Note}
 use Rattle.am_model.specs.declared.record.Record.{Record}
 use Rattle.am_model.specs.declared.views.RowView.{RowView}
 use Rattle.am_model.specs.look_back.Entry.{logs, row_in, row_put}
@@ -48,6 +48,7 @@ no_row (Silence now id matchers start end) is = refl
 no_row (Begin now) is = refl
 no_row (Finish now number outcomes) is = refl
 no_row (Maintain now) is = refl
+no_row (RemoveEmptyGroups now) is = refl
 no_row (Forget now) is = refl
 no_row (Load now row) is = absurd (true≢false (sym is))
 no_row (Note now number integration outcome) is = refl

@@ -1,7 +1,7 @@
 -- Refusal: why a session doesn't do what a line asks.
 use Rattle.std.specs.Prelude.{◌≡◌, ◌≢◌, ◌⊎◌, ◌==◌, ℕ, List, [], Option, Some, None, codes}
 use Rattle.std.specs.List.{position}
-use Rattle.am_model.specs.Causes.{begin_cause, forget_cause, insert_cause, load_cause, maintain_cause, note_cause, silence_cause}
+use Rattle.am_model.specs.Causes.{begin_cause, forget_cause, insert_cause, load_cause, maintain_cause, note_cause, removal_cause, silence_cause}
 use Rattle.am_model.specs.Config.{config_fault}
 use Rattle.am_model.specs.declared.config.Config.{Config}
 use Rattle.am_model.specs.declared.fault.Fault.{Fault}
@@ -123,6 +123,8 @@ IsCauseOf s (request.Note x) f = IsCauseOfUnnoted s x f
 IsCauseOf s (request.Finish x) f = LacksTicket s x.ticket (codes "/finish/ticket") f
 IsCauseOf s (request.Maintain x) f =
     AnswersCause (codes "/maintain") (maintain_cause s.board.config (records_at s.board) (state_at s.board)) f
+IsCauseOf s (request.RemoveEmptyGroups x) f =
+    AnswersCause (codes "/remove_empty_groups") (removal_cause s.board.config (records_at s.board) (state_at s.board)) f
 IsCauseOf s (request.Forget x) f =
     AnswersCause (codes "/forget") (forget_cause s.board.config (records_at s.board) (state_at s.board)) f
 IsCauseOf s (request.Load x) f = IsCauseOfUnloaded s x f

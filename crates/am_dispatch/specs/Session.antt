@@ -184,6 +184,8 @@ Does old (request.Note x) new before after = Notes old new x before after × (ne
 Does old (request.Finish x) new before after = Finishes old new x before after
 Does old (request.Maintain x) new before after =
     Makes old new (call.Maintain x.now) before after × (new.tickets.items ≡ old.tickets.items)
+Does old (request.RemoveEmptyGroups x) new before after =
+    Makes old new (call.RemoveEmptyGroups x.now) before after × (new.tickets.items ≡ old.tickets.items)
 Does old (request.Forget x) new before after =
     Makes old new (call.Forget x.now) before after × (new.tickets.items ≡ old.tickets.items)
 Does old (request.Load x) new before after = Loads old new x before after × (new.tickets.items ≡ old.tickets.items)

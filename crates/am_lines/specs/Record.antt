@@ -69,6 +69,7 @@ call_tokens config (call.Silence now id matchers start end) = silence_tokens now
 call_tokens config (call.Begin now) = timed_tokens (codes "begin") now
 call_tokens config (call.Finish now number outcomes) = finish_tokens now number outcomes
 call_tokens config (call.Maintain now) = timed_tokens (codes "maintain") now
+call_tokens config (call.RemoveEmptyGroups now) = timed_tokens (codes "remove_empty_groups") now
 call_tokens config (call.Forget now) = timed_tokens (codes "forget") now
 call_tokens config (call.Load now row) = load_tokens config now row
 call_tokens config (call.Note now number integration outcome) = note_tokens now number integration

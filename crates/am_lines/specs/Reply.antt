@@ -46,6 +46,10 @@ flush_members config ticket group deadline notices =
 abbrev pub flush_tokens : Config → ℕ → GroupName → ℕ → List NoticeData → List Token
 flush_tokens config ticket group deadline notices = named (codes "flush") (flush_members config ticket group deadline notices)
 
+-- one count, with its name
+abbrev pub count_tokens : List ℕ → List ℕ → ℕ → List Token
+count_tokens name first m = named name (number_member first m)
+
 -- two counts, each with its name
 abbrev pub counts_tokens : List ℕ → List ℕ → ℕ → List ℕ → ℕ → List Token
 counts_tokens name first m second n = named name (number_member first m ++ number_member second n)
@@ -95,6 +99,7 @@ reply_tokens config (reply.Quiet group removed) = quiet_tokens config group remo
 reply_tokens config (reply.Flush group x) = flush_tokens config x.number group x.deadline x.notices
 reply_tokens config (reply.Finished x) = counts_tokens (codes "finished") (codes "logged") x.logged (codes "removed") x.removed
 reply_tokens config (reply.Maintained x) = counts_tokens (codes "maintained") (codes "groups") x.groups (codes "entries") x.entries
+reply_tokens config (reply.EmptyGroupsRemoved x) = count_tokens (codes "empty_groups_removed") (codes "groups") x.groups
 reply_tokens config (reply.Forgotten x) = counts_tokens (codes "forgotten") (codes "alerts") x.alerts (codes "silences") x.silences
 reply_tokens config (reply.Loaded x) = loaded_tokens x
 reply_tokens config reply.Noted = named (codes "noted") []

@@ -164,6 +164,7 @@ IsRequestOf mode members (request.Report x) = Has DecodesToReporting (codes "rep
 IsRequestOf mode members (request.Note x) = Has DecodesToNoting (codes "note") members x
 IsRequestOf mode members (request.Finish x) = Has DecodesToFinishing (codes "finish") members x
 IsRequestOf mode members (request.Maintain x) = Has DecodesToTimed (codes "maintain") members x
+IsRequestOf mode members (request.RemoveEmptyGroups x) = Has DecodesToTimed (codes "remove_empty_groups") members x
 IsRequestOf mode members (request.Forget x) = Has DecodesToTimed (codes "forget") members x
 IsRequestOf mode members (request.Load x) = Has (DecodesToLoading mode) (codes "load") members x
 IsRequestOf mode members request.NextDue = get_member (codes "next_due") members ≢ None

@@ -59,6 +59,7 @@ fn write_call(config: &Config, call: &Call, answer: &mut Answer) -> Result<(), A
             outcomes,
         } => write_finish(config, *now, *number, outcomes.as_slice(), answer),
         Call::Maintain { now } => write_timed("maintain", *now, answer),
+        Call::RemoveEmptyGroups { now } => write_timed("remove_empty_groups", *now, answer),
         Call::Forget { now } => write_timed("forget", *now, answer),
         Call::Load { now, row } => write_load(config, *now, row.get(), answer),
         Call::Note {

@@ -2,7 +2,7 @@
 ghost use Rattle.std.specs.Prelude.{◌≡◌, ◌++◌, ◌∷◌, [], OnOk};
 ghost use Rattle.std.specs.List.{flat_map};
 ghost use Rattle.json.specs.Token.{begin_object, end_object, key};
-ghost use Rattle.am_lines.specs.Reply.{counts_tokens, flush_members, flush_tokens, ignored_members, ignored_tokens, inserted_tokens};
+ghost use Rattle.am_lines.specs.Reply.{count_tokens, counts_tokens, flush_members, flush_tokens, ignored_members, ignored_tokens, inserted_tokens};
 ghost use Rattle.am_lines.specs.Reply.{loaded_tokens, loaded_word, route_name_tokens, routes_members};
 ghost use Rattle.am_lines.specs.Reply.{name_if, named, opened_tokens, quiet_tokens, reply_tokens, silenced_tokens};
 
@@ -36,6 +36,9 @@ pub fn write_reply(config: &Config, reply: &Reply, answer: &mut Answer) -> Resul
             x.entries,
             answer,
         ),
+        Reply::EmptyGroupsRemoved(x) => {
+            write_count("empty_groups_removed", "groups", x.groups, answer)
+        }
         Reply::Forgotten(x) => write_counts(
             "forgotten",
             "alerts",
@@ -163,6 +166,20 @@ pub fn put_flush(
     answer.put_text("receiver", config.route_of(group).receiver.as_str())?;
     answer.put_number("deadline", deadline)?;
     answer.put_list(config, "notices", notices)
+}
+
+/// Writes one count, with its name.
+fn write_count(
+    name: &str,
+    first: &str,
+    count: usize,
+    answer: &mut Answer,
+) -> Result<(), AllocError>
+    ensures { OnOk result (answer.new ≡ answer.old ++ count_tokens name.now first.now count) }
+{
+    begin(name, answer)?;
+    answer.put_number(first, count as u64)?;
+    end(answer)
 }
 
 /// Writes two counts, each with its name.

@@ -46,6 +46,7 @@ pub enum Request {
     Note(Noting),
     Finish(Finishing),
     Maintain(Timed),
+    RemoveEmptyGroups(Timed),
     Forget(Timed),
     Load(Loading),
     /// When the next group is due.
@@ -184,6 +185,10 @@ fn read_call(line: &Object<'_, '_>, name: &str) -> Result<Request, InputFault>
         "note" => Ok(Request::Note(member(line, "note")?)),
         "finish" => Ok(Request::Finish(member(line, "finish")?)),
         "maintain" => Ok(Request::Maintain(member(line, "maintain")?)),
+        "remove_empty_groups" => Ok(Request::RemoveEmptyGroups(member(
+            line,
+            "remove_empty_groups",
+        )?)),
         "forget" => Ok(Request::Forget(member(line, "forget")?)),
         "load" => Ok(Request::Load(member(line, "load")?)),
         "outlook" => Ok(Request::Outlook(member(line, "outlook")?)),

@@ -77,6 +77,7 @@ impl Session {
             Request::Note(noting) => self.note(alloc, noting, answer),
             Request::Finish(finishing) => self.finish(finishing, answer),
             Request::Maintain(timed) => self.maintain(alloc, timed.now, answer),
+            Request::RemoveEmptyGroups(timed) => self.remove_empty_groups(alloc, timed.now, answer),
             Request::Forget(timed) => self.forget(alloc, timed.now, answer),
             Request::Load(loading) => self.load(alloc, loading, answer),
             Request::NextDue => self.show_due(answer),
@@ -305,6 +306,22 @@ impl Session {
         match self.board.maintain(alloc, PASS, now) {
             Ok(maintained) => self.answer_with(&Reply::Maintained(maintained), answer),
             Err(fault) => Err(LineFault::of_board("/maintain", fault)),
+        }
+    }
+
+    fn remove_empty_groups(
+        &mut self,
+        alloc: Global,
+        now: u64,
+        answer: &mut Answer,
+    ) -> Result<(), LineFault>
+        ensures answered { OnOk result (Makes self.old self.new (Call.RemoveEmptyGroups now) answer.old answer.new) }
+        ensures tickets { self.new.tickets.items ≡ self.old.tickets.items }
+        ensures refused { IfErr result (Leaves self.old (Request.RemoveEmptyGroups (record { now = now })) self.new) }
+    {
+        match self.board.remove_empty_groups(alloc, PASS, now) {
+            Ok(removed) => self.answer_with(&Reply::EmptyGroupsRemoved(removed), answer),
+            Err(fault) => Err(LineFault::of_board("/remove_empty_groups", fault)),
         }
     }
 

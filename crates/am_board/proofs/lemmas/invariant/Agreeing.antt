@@ -14,7 +14,7 @@ use Rattle.am_nflog.specs.Needed.{needed}
 use Rattle.am_retry.specs.declared.outcome.Outcome.{Outcome}
 use Rattle.am_model.proofs.lists.Words.{IsDistinct-upsert}
 use Rattle.am_model.specs.Begin.{entry_of, notified_about, notified_of, firing_of, resolved_of, label_sets, reply_notifying, reply_taking, after_notifying, after_taking, taken, next_due}
-use Rattle.am_model.specs.Causes.{insert_cause, silence_cause, begin_cause, maintain_cause, forget_cause, load_cause, note_cause, notifies_some, opens_by, is_full}
+use Rattle.am_model.specs.Causes.{insert_cause, silence_cause, begin_cause, maintain_cause, removal_cause, forget_cause, load_cause, note_cause, notifies_some, opens_by, is_full}
 use Rattle.am_model.specs.Configured.{route_of, route_muted, integrations_of}
 use Rattle.am_model.specs.Ticket.{TicketData}
 use Rattle.am_model.specs.Finish.{same_key, log_with, row_at, rows_after, logged_by, after_finish_of}
@@ -32,7 +32,7 @@ use Rattle.am_model.specs.declared.config.Integration.{Integration}
 use Rattle.am_model.specs.declared.fault.Fault.TheVariants.{TooManyOpen, HistoryFull}
 use Rattle.am_model.specs.declared.group.GroupName.{GroupName}
 use Rattle.am_model.specs.declared.record.Call.{Call}
-use Rattle.am_model.specs.declared.record.Call.TheVariants.{Insert, Silence, Begin, Finish, Maintain, Forget, Load, Note}
+use Rattle.am_model.specs.declared.record.Call.TheVariants.{Insert, Silence, Begin, Finish, Maintain, RemoveEmptyGroups, Forget, Load, Note}
 use Rattle.am_model.specs.declared.record.Reply.TheVariants as reply_is
 use Rattle.am_model.specs.declared.views.RowView.{RowView}
 use Rattle.am_board.specs.Refinement.{EqualUpToRowOrder}
@@ -82,6 +82,7 @@ module _ (config : Config) (s : State) (rows : List RowView) (moved : IsPermutat
   reply-rows id (Begin now) = ap Some (reply_taking-rows id (time s now) (taken s (time s now)))
   reply-rows id (Finish now number outcomes) = refl
   reply-rows id (Maintain now) = ap (λ n. Some (reply_is.Maintained (record { groups = count_by has_no_alerts s.groups; entries = n }))) (sym (count_by-permutation (has_expired (time s now)) rows s.rows moved))
+  reply-rows id (RemoveEmptyGroups now) = refl
   reply-rows id (Forget now) = refl
   reply-rows id (Load now row) = ap (λ l. if may_load config (time s now) row then Some (reply_is.Loaded l) else None) (loaded-rows (time s now) row)
   reply-rows id (Note now number integration outcome) = refl
@@ -134,6 +135,7 @@ module _ (config : Config) (s : State) (rows : List RowView) (moved : IsPermutat
   after_call-rows (Begin now) = after_taking-rows (time s now) (taken s (time s now))
   after_call-rows (Finish now number outcomes) = after_finish_of-rows (time s now) outcomes (flush_numbered s.flushes number)
   after_call-rows (Maintain now) = record { rows = without-permutation (has_expired (time s now)) rows s.rows moved; rest = refl }
+  after_call-rows (RemoveEmptyGroups now) = record { rows = moved; rest = refl }
   after_call-rows (Forget now) = record { rows = moved; rest = refl }
   after_call-rows (Load now row) = record { rows = rows_loading-rows (time s now) row; rest = refl }
   after_call-rows (Note now number integration outcome) = after_note_of-rows (time s now) integration outcome (flush_numbered s.flushes number)
@@ -201,6 +203,9 @@ module _ (a b : State) (agrees : EqualUpToRowOrder a b) where
 
   pub maintain_cause-agrees : (config : Config) (records : ℕ) → maintain_cause config records a ≡ maintain_cause config records b
   maintain_cause-agrees config records = ap (λ s. maintain_cause config records s) agrees.rest
+
+  pub removal_cause-agrees : (config : Config) (records : ℕ) → removal_cause config records a ≡ removal_cause config records b
+  removal_cause-agrees config records = ap (λ s. removal_cause config records s) agrees.rest
 
   pub forget_cause-agrees : (config : Config) (records : ℕ) → forget_cause config records a ≡ forget_cause config records b
   forget_cause-agrees config records = ap (λ s. forget_cause config records s) agrees.rest

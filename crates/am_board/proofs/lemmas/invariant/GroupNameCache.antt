@@ -15,7 +15,7 @@ use Rattle.am_mute.specs.Sources.{IsAt}
 use Rattle.am_model.specs.declared.config.Config.{Config}
 use Rattle.am_model.specs.declared.group.GroupName.{GroupName}
 use Rattle.am_model.specs.declared.record.Call.{Call}
-use Rattle.am_model.specs.declared.record.Call.TheVariants.{Insert, Silence, Begin, Finish, Maintain, Forget, Load, Note}
+use Rattle.am_model.specs.declared.record.Call.TheVariants.{Insert, Silence, Begin, Finish, Maintain, RemoveEmptyGroups, Forget, Load, Note}
 use Rattle.am_model.specs.declared.record.Reply.{Reply}
 use Rattle.am_model.specs.Records.{entry}
 use Rattle.am_model.specs.Insert.{same_alert, names_for}
@@ -52,6 +52,7 @@ module _ (config : Config) (s : State) where
   kept_after (Begin now) kept e were = subst (λ known. AreKept config known kept) (sym (known_others config s (Begin now) refl refl refl).0) were
   kept_after (Finish now number outcomes) kept e were = subst (λ known. AreKept config known kept) (sym (known_others config s (Finish now number outcomes) refl refl refl).0) were
   kept_after (Maintain now) kept e were = were
+  kept_after (RemoveEmptyGroups now) kept e were = were
   kept_after (Forget now) kept e were = absurd (cc)
   kept_after (Load now row) kept e were = were
   kept_after (Note now number integration outcome) kept e were = subst (λ known. AreKept config known kept) (sym (known_others config s (Note now number integration outcome) refl refl refl).0) were

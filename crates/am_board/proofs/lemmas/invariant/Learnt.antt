@@ -7,7 +7,7 @@ use Rattle.am_mute.specs.SourceIndex.{SourceIndex}
 use Rattle.am_mute.specs.Sources.{AreLearnt, HasKeys, HasSources, IsAt}
 use Rattle.am_model.specs.declared.config.Config.{Config}
 use Rattle.am_model.specs.declared.record.Call.{Call}
-use Rattle.am_model.specs.declared.record.Call.TheVariants.{Insert, Silence, Begin, Finish, Maintain, Forget, Load, Note}
+use Rattle.am_model.specs.declared.record.Call.TheVariants.{Insert, Silence, Begin, Finish, Maintain, RemoveEmptyGroups, Forget, Load, Note}
 use Rattle.am_model.specs.Insert.{same_alert}
 use Rattle.am_model.specs.Lists.{upsert}
 use Rattle.am_model.specs.Replay.{after_call}
@@ -66,6 +66,7 @@ module _ (config : Config) (s : State) where
   learnt_after (Begin now) index e learnt = subst (λ known. AreLearnt config.rules known index) (sym (known_others config s (Begin now) refl refl refl).0) learnt
   learnt_after (Finish now number outcomes) index e learnt = subst (λ known. AreLearnt config.rules known index) (sym (known_others config s (Finish now number outcomes) refl refl refl).0) learnt
   learnt_after (Maintain now) index e learnt = learnt
+  learnt_after (RemoveEmptyGroups now) index e learnt = learnt
   learnt_after (Forget now) index e learnt = absurd (cc)
   learnt_after (Load now row) index e learnt = learnt
   learnt_after (Note now number integration outcome) index e learnt = subst (λ known. AreLearnt config.rules known index) (sym (known_others config s (Note now number integration outcome) refl refl refl).0) learnt

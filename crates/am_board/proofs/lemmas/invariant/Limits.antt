@@ -10,9 +10,10 @@ use Rattle.am_board.specs.declared.board.Board.TheInside.{Inside}
 use Rattle.am_model.specs.declared.fault.Fault.{Fault}
 use Rattle.am_model.specs.declared.fault.Fault.TheVariants.{NoMemory, HistoryFull, TooManyAlerts, TooManyGroups, TooManySilences, TooManyOpen}
 use Rattle.am_model.specs.declared.record.Call.{Call}
-use Rattle.am_model.specs.declared.record.Call.TheVariants.{Insert, Begin, Maintain, Forget, Load}
+use Rattle.am_model.specs.declared.record.Call.TheVariants.{Insert, Begin, Maintain, RemoveEmptyGroups, Forget, Load}
 use Rattle.am_model.specs.declared.fault.LoadFault.{LoadFault}
 use Rattle.am_model.specs.declared.fault.LoadFault.TheVariants as load
+use Rattle.am_model.specs.declared.record.EmptyGroupsRemoved.{EmptyGroupsRemoved}
 use Rattle.am_model.specs.declared.record.Forgotten.{Forgotten}
 use Rattle.am_model.specs.declared.record.Inserted.{Inserted}
 use Rattle.am_model.specs.declared.record.Loaded.{Loaded}
@@ -28,7 +29,7 @@ use Rattle.am_model.specs.declared.config.Integration.{Integration}
 use Rattle.am_model.specs.declared.config.Limits.{Limits}
 use Rattle.am_board.specs.Board.{IsSound, whole}
 use Rattle.am_model.specs.Begin.{taken, notified_of, flush_notifying, after_notifying, after_taking}
-use Rattle.am_model.specs.Causes.{is_alert_too_many, is_silence_too_many, insert_cause, silence_cause, begin_cause, maintain_cause, forget_cause, load_cause, row_cause, is_full, notifies_some, opens_by}
+use Rattle.am_model.specs.Causes.{is_alert_too_many, is_silence_too_many, insert_cause, silence_cause, begin_cause, maintain_cause, removal_cause, forget_cause, load_cause, row_cause, is_full, notifies_some, opens_by}
 use Rattle.am_board.specs.History.{BoardData, records_at, state_at, reply_of}
 use Rattle.am_model.specs.Records.{call_of_silence, entry}
 use Rattle.am_board.specs.Refinement.{state_of}
@@ -37,7 +38,7 @@ use Rattle.am_model.specs.Replay.{replay, after_call}
 use Rattle.am_model.specs.Maintenance.{same_silence}
 use Rattle.am_model.specs.State.{GroupState, State, time}
 use Rattle.am_board.specs.Step.{AppliesCall, IsAnswer, IsCaused}
-use Rattle.am_board.proofs.lemmas.invariant.Agreeing.{insert_cause-agrees, silence_cause-agrees, maintain_cause-agrees, forget_cause-agrees, load_cause-agrees, begin_cause-agrees}
+use Rattle.am_board.proofs.lemmas.invariant.Agreeing.{insert_cause-agrees, silence_cause-agrees, maintain_cause-agrees, removal_cause-agrees, forget_cause-agrees, load_cause-agrees, begin_cause-agrees}
 use Rattle.am_model.proofs.legal.FewGroups.{few_inserted}
 use Rattle.am_model.proofs.legal.FewKnown.{fits-upsert, neither_cause}
 use Rattle.am_model.proofs.legal.NeverWait.{flushes_never_wait}
@@ -85,6 +86,13 @@ module _ (b : Inside) (sound : IsSound b) (pass now : ℕ) (new : kept.State) wh
       keeps_within b sound pass (Maintain now) (replies.Maintained x) new accepts (omega arith)
       (room_of b.config (vec_len b.state.history) (state_of b.state) 1 (Some HistoryFull) None none (λ h. absurd (cc))).0
       (few_after b sound (Maintain now) refl refl)
+
+  pub removal_within : (x : EmptyGroupsRemoved) → removal_cause b.config (vec_len b.state.history) (state_of b.state) ≡ None
+      → AppliesCall b.config b.id (entry pass (RemoveEmptyGroups now) (replies.EmptyGroupsRemoved x)) b.state new → IsWithin b.config (after_call b.config (state_of b.state) (RemoveEmptyGroups now)) new
+  removal_within x none accepts =
+      keeps_within b sound pass (RemoveEmptyGroups now) (replies.EmptyGroupsRemoved x) new accepts (omega arith)
+      (room_of b.config (vec_len b.state.history) (state_of b.state) 1 (Some HistoryFull) None none (λ h. absurd (cc))).0
+      (few_after b sound (RemoveEmptyGroups now) refl refl)
 
   pub forget_within : (x : Forgotten) → forget_cause b.config (vec_len b.state.history) (state_of b.state) ≡ None
       → AppliesCall b.config b.id (entry pass (Forget now) (replies.Forgotten x)) b.state new → IsWithin b.config (after_call b.config (state_of b.state) (Forget now)) new
@@ -153,6 +161,11 @@ module _ (b : Inside) (sound : IsSound b) (now : BoardData) (view_is : seen b b.
   maintain_caused =
       subst (λ (d : BoardData). maintain_cause b.config (vec_len b.state.history) (state_of b.state) ≡ maintain_cause d.config (records_at d) (state_at d)) view_is
       (maintain_cause-agrees (state_of b.state) replayed sound.agrees b.config (vec_len b.state.history) ∙ ap (λ n. maintain_cause b.config n replayed) (kept_counted b sound))
+
+  pub removal_caused : removal_cause b.config (vec_len b.state.history) (state_of b.state) ≡ removal_cause now.config (records_at now) (state_at now)
+  removal_caused =
+      subst (λ (d : BoardData). removal_cause b.config (vec_len b.state.history) (state_of b.state) ≡ removal_cause d.config (records_at d) (state_at d)) view_is
+      (removal_cause-agrees (state_of b.state) replayed sound.agrees b.config (vec_len b.state.history) ∙ ap (λ n. removal_cause b.config n replayed) (kept_counted b sound))
 
   pub forget_caused : forget_cause b.config (vec_len b.state.history) (state_of b.state) ≡ forget_cause now.config (records_at now) (state_at now)
   forget_caused =

@@ -52,6 +52,12 @@ returns-in-Maintain-clause-answered c = rw c.in-Maintain.is (both _ _ _ c.mainta
 pub returns-in-Maintain-clause-refused : goal.returns-in-Maintain-clause-refused
 returns-in-Maintain-clause-refused c = rw c.in-Maintain.is c.maintain.ensures.refused
 
+pub returns-in-RemoveEmptyGroups-clause-answered : goal.returns-in-RemoveEmptyGroups-clause-answered
+returns-in-RemoveEmptyGroups-clause-answered c = rw c.in-RemoveEmptyGroups.is (both _ _ _ c.remove_empty_groups.ensures.answered c.remove_empty_groups.ensures.tickets)
+
+pub returns-in-RemoveEmptyGroups-clause-refused : goal.returns-in-RemoveEmptyGroups-clause-refused
+returns-in-RemoveEmptyGroups-clause-refused c = rw c.in-RemoveEmptyGroups.is c.remove_empty_groups.ensures.refused
+
 pub returns-in-Forget-clause-answered : goal.returns-in-Forget-clause-answered
 returns-in-Forget-clause-answered c = rw c.in-Forget.is (both _ _ _ c.forget.ensures.answered c.forget.ensures.tickets)
 

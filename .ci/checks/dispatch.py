@@ -146,6 +146,7 @@ CALLS: dict[str, Json] = {
     "insert": {"now": 0, "labels": {"a": "b"}}, "silence": {"now": 0, "id": 1, "matchers": ['a="b"'], "ends": 1},
     "begin": {"now": 0}, "report": {"ticket": 1, "integration": 0, "outcome": "delivered"},
     "note": {"now": 0, "ticket": 1, "integration": 0}, "finish": {"now": 0, "ticket": 1}, "maintain": {"now": 0}, "forget": {"now": 0},
+    "remove_empty_groups": {"now": 0},
     "take_history": {}, "outlook": {"now": 0}, "next_due": {}, "rows": {}, "groups": {}, "summary": {}, "tickets": {},
 }
 
@@ -302,7 +303,8 @@ def limits(told: Report, programs: Programs) -> None:
         summary(board, 129, 64)
         full(board, [(alert(66), "/insert", "HistoryFull"), ('{"begin":{"now":30000}}', "/begin", "HistoryFull"),
                      ('{"silence":{"now":0,"id":1,"matchers":["a=b"],"ends":1}}', "/silence", "HistoryFull"),
-                     ('{"maintain":{"now":30000}}', "/maintain", "HistoryFull")])
+                     ('{"maintain":{"now":30000}}', "/maintain", "HistoryFull"),
+                     ('{"remove_empty_groups":{"now":30000}}', "/remove_empty_groups", "HistoryFull")])
         finish_all(board, range(1, 65))
         full(board, [(alert(66), "/insert", "HistoryFull")])
         summary(board, 193, 0)

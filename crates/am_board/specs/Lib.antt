@@ -10,6 +10,8 @@ pub mod GroupNameCache
 pub mod Dedup
 -- the keys of the set of due times, and what the set has while it is complete
 pub mod Due
+-- how many of the stored groups have no alerts
+pub mod Empty
 -- the laws of the order of those keys
 pub mod DueOrder
 -- the numbers of faults

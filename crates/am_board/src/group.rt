@@ -6,6 +6,7 @@ ghost use Rattle.am_board.specs.Group.{Fits, IsReserved, label_sets};
 ghost use Rattle.am_board.specs.Inserting.{stamped_alert};
 ghost use Rattle.am_board.specs.Members.{index_of};
 ghost use Rattle.am_model.specs.Insert.{same_member, wait_of, group_with};
+ghost use Rattle.am_model.specs.Maintenance.{has_no_alerts};
 ghost use Rattle.am_board.specs.Refinement.{member_state, group_state};
 ghost use Rattle.am_model.specs.declared.config.Config.{Config};
 
@@ -48,6 +49,7 @@ impl Group {
         ensures name { self.new.name ≡ self.old.name }
         ensures opened { self.new.is_open ≡ self.old.is_open }
         ensures room { self.old.members.room ≤ self.new.members.room + 1 }
+        ensures alerts { has_no_alerts (group_state self.new) ≡ false }
         ensures state { (config : Config) → wait ≡ wait_of config self.old.name
             → group_state self.new ≡ group_with config t (member_state member) (group_state self.old) }
     {

@@ -1,10 +1,10 @@
-//! All groups: a table by name, and the set of due times. `insert`, `begin`, `finish` and
-//! `maintain` change it.
+//! All groups: a table by name, the set of due times, and how many have no alerts. `insert`,
+//! `begin`, `finish` and `maintain` change it.
 //!
 //! Contracts see the list of groups in the order in which they were made. A call changes one group
 //! at an index (`Changes` in specs/Group.antt), never its name. Invariant: each group is under its
 //! name, which no other group has. While the set of due times is complete, it has the key of each
-//! group without an open flush.
+//! group without an open flush. The count is that of the groups without alerts.
 //!
 //! A group says itself whether a flush of it is open, so a begin needs no look at the flushes.
 //! `marks_of` (specs/Marks.antt) lists what groups say. A begin that opens a flush sets a group's
@@ -27,19 +27,22 @@ use std::marker::Model;
 pub(crate) struct Groups {
     groups: IndexMap<GroupName, Group, Seed>,
     due: DueSet,
+    /// How many groups have no alerts.
+    empty: usize,
 }
 
 impl Model for Groups {
     ghost use Rattle.std.specs.Map.{values_of};
     ghost use Rattle.indexmap.specs.IndexMap.{spare};
     ghost use Rattle.am_board.specs.Due.{IsTied};
+    ghost use Rattle.am_board.specs.Empty.{IsCounted};
     ghost use Rattle.am_board.specs.GroupList.{GroupList};
 
     ghost Value = { GroupList };
 
     ghost view = { λ g. record { items = values_of g.groups.entries; room = spare g.groups } };
 
-    ghost invariant = { λ g. IsTied g.due g.groups.entries };
+    ghost invariant = { λ g. IsTied g.due g.groups.entries × IsCounted g.empty g.groups.entries };
 }
 
 impl Groups {
@@ -50,6 +53,7 @@ impl Groups {
         Groups {
             groups: IndexMap::with_hasher(alloc, seed),
             due: DueSet::new(alloc),
+            empty: 0,
         }
     }
 

@@ -63,9 +63,8 @@ pub(crate) fn remove_empty(
 
     let t = state.time(now);
     state.clock = t;
-    let removed = EmptyGroupsRemoved {
-        groups: state.groups.drop_empty(),
-    };
+    let groups = state.groups.drop_empty();
+    let removed = EmptyGroupsRemoved { groups };
     let call = Call::RemoveEmptyGroups { now };
     let reply = Reply::EmptyGroupsRemoved(removed);
     state.history.push_reserved(Record { pass, call, reply });

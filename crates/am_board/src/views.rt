@@ -1,6 +1,6 @@
 //! What a board has, as values that callers can read and compare: counts, log rows and groups.
 ghost use Rattle.std.specs.Prelude.{◌≡◌, ◌+◌, ◌*◌, ◌≤◌, ◌++◌, [], ◌∷◌, All, IfOk, OnOk, length, map, sum_by, vec_len};
-ghost use Rattle.std.specs.List.{IsDistinct};
+ghost use Rattle.std.specs.List.{IsDistinct, list_any};
 ghost use Rattle.std.specs.Option.{option_copied};
 ghost use Rattle.am_model.specs.declared.config.TheConstants.{MAX_GROUPS, MAX_FLUSHES, MAX_HISTORY};
 ghost use Rattle.am_board.specs.History.{state_at};
@@ -9,6 +9,7 @@ ghost use Rattle.am_board.specs.Refinement.{state_of, group_state};
 ghost use Rattle.am_board.specs.LogRows.{row_under, log_rows};
 ghost use Rattle.am_board.specs.Step.{MAX_CALLS};
 ghost use Rattle.am_model.specs.Laws.{IsConsistent};
+ghost use Rattle.am_model.specs.Maintenance.{has_no_alerts};
 ghost use Rattle.am_model.specs.Views.{row_views, group_view, group_views, summary, summary_at, summary_data, glance, glance_at};
 
 use crate::board::Board;
@@ -36,6 +37,15 @@ impl Board {
             × (result.flushes ≤ MAX_FLUSHES) }
     {
         glance_of(self.handed, &self.state)
+    }
+
+    /// Returns whether some group has no alerts: `remove_empty_groups` would remove it.
+    ///
+    /// Never allocates; reads one number.
+    pub fn has_empty_groups(&self) -> bool
+        ensures { result ≡ list_any has_no_alerts (state_at self.now).groups }
+    {
+        self.state.groups.has_empty()
     }
 
     /// Returns the numbers of calls, groups, alerts, open flushes and log rows. Never allocates.

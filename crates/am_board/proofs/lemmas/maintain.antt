@@ -1,2 +1,3 @@
 pub mod Maintenance
 pub mod Deserted
+pub mod Empties

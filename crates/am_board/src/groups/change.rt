@@ -1,8 +1,8 @@
 //! Changes of groups: finds one by its name, adds one, changes one at its index, removes the empty
 //! ones.
 ghost use Rattle.std.specs.Prelude.{◌≡◌, ℕ, ◌+◌, ◌<◌, ◌≤◌, ◌∷◌, [], ◌++◌, None, count_by, filter, length, map, not, position, slice_index_or};
-ghost use Rattle.std.specs.Prelude.{false, true, All, IfSome, OnOk};
-ghost use Rattle.std.specs.List.{IsDistinct};
+ghost use Rattle.std.specs.Prelude.{false, true, All, IfSome, OnOk, if◌then◌else◌};
+ghost use Rattle.std.specs.List.{IsDistinct, list_any};
 ghost use Rattle.am_alerts.specs.RoutingTree.{RoutingTree};
 ghost use Rattle.am_model.specs.Begin.{count_resolved, without_resolved};
 ghost use Rattle.am_model.specs.Finish.{is_leaving};
@@ -38,10 +38,11 @@ impl Groups {
         self.groups.get_index_of(name)
     }
 
-    /// Adds a group under its name, which no other has. Memory is reserved.
+    /// Adds a group with alerts under its name, which no other has. Memory is reserved.
     pub(crate) fn add(&mut self, name: GroupName, group: Group)
         requires name { name ≡ group.name }
         requires missing { position (λ g. same_name name g.name) self.old.items ≡ None }
+        requires alerts { has_no_alerts (group_state group) ≡ false }
         requires room { 0 < self.old.room }
         ensures items { self.new.items ≡ self.old.items ++ group ∷ [] }
         ensures room { self.old.room ≤ self.new.room + 1 }
@@ -87,10 +88,13 @@ impl Groups {
         requires room { (d : Group) → Fits 1 (slice_index_or self.old.items i d) }
         ensures { Changes (Gets (member_state member) wait t) i self.old self.new }
     {
+        let groups = self.groups.len();
         let group = &mut self.groups[i];
         let before = group.due;
+        let was_empty = is_without_alerts(group);
         group.insert(labels, member, wait, t);
         self.due.change(&group.name, before, group.due);
+        self.empty = recounted(self.empty, groups, was_empty, false);
     }
 
     /// Where the alert of these labels is in the group of this name, if it is there.
@@ -156,11 +160,15 @@ impl Groups {
         ensures marks { marks_of self.new.items ≡ marks_of self.old.items }
         ensures count { (d : Group) → result ≡ count_resolved t (group_state (slice_index_or self.old.items i d)) }
     {
+        let groups = self.groups.len();
         let group = &mut self.groups[i];
         let before = group.due;
+        let was_empty = is_without_alerts(group);
         mark_begun(group, due);
         self.due.change(&group.name, before, due);
-        take_resolved(group, t)
+        let removed = take_resolved(group, t);
+        self.empty = recounted(self.empty, groups, was_empty, is_without_alerts(group));
+        removed
     }
 
     /// Marks the group at an index, which has this name, as one without an open flush. Takes no
@@ -189,7 +197,19 @@ impl Groups {
         ensures count { (d : Group) → result
             ≡ count_by (is_leaving (map stamped leaving.now)) (map member_state (slice_index_or self.old.items i d).members.items) }
     {
-        take_leaving(&mut self.groups[i], leaving)
+        let groups = self.groups.len();
+        let group = &mut self.groups[i];
+        let was_empty = is_without_alerts(group);
+        let removed = take_leaving(group, leaving);
+        self.empty = recounted(self.empty, groups, was_empty, is_without_alerts(group));
+        removed
+    }
+
+    /// Whether some group has no alerts. It looks at no group.
+    pub(crate) fn has_empty(&self) -> bool
+        ensures { result ≡ list_any has_no_alerts (map group_state self.now.items) }
+    {
+        self.empty > 0
     }
 
     /// Removes the groups without alerts, and answers how many.
@@ -207,7 +227,23 @@ impl Groups {
         );
         let gone = before - self.groups.len();
         self.due.tidy(self.groups.values().as_slice(), gone);
+        self.empty = 0;
         gone
+    }
+}
+
+/// Counts the groups without alerts, of so many, after one of them changed whether it has none.
+fn recounted(empty: usize, groups: usize, was_empty: bool, is_empty: bool) -> usize
+    requires more { was_empty ≡ false → empty < groups }
+    requires fewer { was_empty ≡ true → 0 < empty }
+    ensures { result + (if was_empty then 1 else 0) ≡ empty + (if is_empty then 1 else 0) }
+{
+    if was_empty == is_empty {
+        empty
+    } else if is_empty {
+        empty + 1
+    } else {
+        empty - 1
     }
 }
 

@@ -17,6 +17,7 @@ use Rattle.am_model.specs.Maintenance.{has_no_alerts}
 use Rattle.am_board.proofs.lemmas.invariant.DueKeys.{HasKeyOf}
 use Rattle.am_board.proofs.lemmas.invariant.Keyed.{values-filter, length-values, AreKeyed-filter}
 use Rattle.am_board.proofs.lemmas.maintain.Maintenance.{map-without, length-without, All-map_filter}
+use Rattle.am_board.proofs.lemmas.maintain.Empties.{empties, empties-gone}
 use Rattle.am_board.proofs.groups.Groups.drop_empty.Goals as goal
 use Rattle.am_board.proofs.groups.Groups.drop_empty.Goals.{After-retain}
 
@@ -29,21 +30,23 @@ left c = ap values_of (stay c) ∙ values-filter (λ (g : Group). not (has_no_al
 keyed : (c : After-retain) → AreKeyed name_of c.retain.new.self.entries
 keyed c =
     subst (AreKeyed name_of) (sym (stay c))
-    (AreKeyed-filter same_name name_of (λ e. not (has_no_alerts (group_state e.1))) c.self.inside.groups.entries c.self.invariant.keyed)
+    (AreKeyed-filter same_name name_of (λ e. not (has_no_alerts (group_state e.1))) c.self.inside.groups.entries c.self.invariant.0.keyed)
 
 -- the groups that are left have the keys that they had
 pub tidy-requires : goal.tidy-requires
 tidy-requires c =
     subst (AreDue c.self.inside.due) (sym (c.as_slice.ensures ∙ (c.values.ensures.rest ∙ left ((goal.at.tidy-requires c).After-retain))))
-    (All-filter (λ g. not (has_no_alerts (group_state g))) (HasKeyOf c.self.inside.due) (values_of c.self.inside.groups.entries) c.self.invariant.due)
+    (All-filter (λ g. not (has_no_alerts (group_state g))) (HasKeyOf c.self.inside.due) (values_of c.self.inside.groups.entries) c.self.invariant.0.due)
 
 pub invariant_of-self : goal.invariant_of-self
-invariant_of-self c =
-    record {
-      keyed = keyed ((goal.at.invariant_of-self c).After-retain);
-      distinct = c.retain.ensures.unique;
-      due = subst (AreDue c.tidy.new.self) (c.as_slice.ensures ∙ c.values.ensures.rest) c.tidy.ensures;
-    }
+invariant_of-self c = (
+  record {
+    keyed = keyed ((goal.at.invariant_of-self c).After-retain);
+    distinct = c.retain.ensures.unique;
+    due = subst (AreDue c.tidy.new.self) (c.as_slice.ensures ∙ c.values.ensures.rest) c.tidy.ensures;
+  },
+  sym (ap empties (left ((goal.at.invariant_of-self c).After-retain)) ∙ empties-gone (values_of c.self.inside.groups.entries)),
+)
 
 pub returns-clause-groups : goal.returns-clause-groups
 returns-clause-groups c =

@@ -9,5 +9,5 @@ use Rattle.am_board.proofs.groups.Groups.find.Goals as goal
 pub returns-clause-index : goal.returns-clause-index
 returns-clause-index c =
     c.get_index_of.ensures.index
-    ∙ index_of-keys same_name name_of c.args.name.now c.self.inside.groups.entries c.self.invariant.keyed
+    ∙ index_of-keys same_name name_of c.args.name.now c.self.inside.groups.entries c.self.invariant.0.keyed
     ∙ ap (λ (k : GroupList). position (λ (g : Group). same_name c.args.name.now g.name) k.items) c.self.view_is

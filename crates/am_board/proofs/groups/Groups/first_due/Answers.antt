@@ -20,7 +20,7 @@ returned due es tied fs marked = tell_open fs (values_of es) (subst (IsDistinct 
 pub returns-in-Some-clause-first : goal.returns-in-Some-clause-first
 returns-in-Some-clause-first c fs marked =
     subst (λ (k : GroupList). IsFirst k.items c.in-Some.first (first_of fs c.args.t (map group_state k.items))) c.self.view_is
-    (c.in-Some.ensures.first fs (returned c.self.inside.due c.self.inside.groups.entries c.self.invariant fs (subst (λ (k : GroupList). AreMarked fs k.items) (sym c.self.view_is) marked)))
+    (c.in-Some.ensures.first fs (returned c.self.inside.due c.self.inside.groups.entries c.self.invariant.0 fs (subst (λ (k : GroupList). AreMarked fs k.items) (sym c.self.view_is) marked)))
 
 pub returns-in-None-clause-first : goal.returns-in-None-clause-first
 returns-in-None-clause-first c fs marked =
@@ -28,4 +28,4 @@ returns-in-None-clause-first c fs marked =
     let whole = c.as_slice.ensures ∙ c.values.ensures.rest in
     subst (λ (k : GroupList). IsFirst k.items c.first_by_walk.result (first_of fs c.args.t (map group_state k.items))) c.self.view_is
     (subst (λ (gs : List Group). IsFirst gs c.first_by_walk.result (first_of fs c.args.t (map group_state gs))) whole
-    (c.first_by_walk.ensures.first fs (subst (TellOpen fs) (sym whole) (returned c.self.inside.due es c.self.invariant fs (subst (λ (k : GroupList). AreMarked fs k.items) (sym c.self.view_is) marked)))))
+    (c.first_by_walk.ensures.first fs (subst (TellOpen fs) (sym whole) (returned c.self.inside.due es c.self.invariant.0 fs (subst (λ (k : GroupList). AreMarked fs k.items) (sym c.self.view_is) marked)))))

@@ -8,6 +8,7 @@ use Rattle.am_board.proofs.lemmas.invariant.Keyed.{value_at, values-set}
 use Rattle.am_board.specs.Group.{Gets, label_sets}
 use Rattle.am_board.specs.GroupList.{GroupList}
 use Rattle.am_board.specs.Inserting.{stamped_alert}
+use Rattle.am_board.proofs.lemmas.maintain.Empties.{bare-labels, counted_same}
 use Rattle.am_board.proofs.groups.Groups.replace.Goals as goal
 
 pub invariant_of-self : goal.invariant_of-self
@@ -15,10 +16,12 @@ invariant_of-self c =
     let es = c.self.inside.groups.entries in
     let i = c.args.spot.group in
     let was = c.index_mut-group.result.now in
-    let group = c.replace.new.self in
-    tied_change c.self.inside.due c.change.new.self es i was group group.name group.due c.self.invariant c.index_mut-group.ensures.value
-    c.replace.ensures.name c.replace.ensures.name refl
-    (λ closed. c.change.ensures.has (had_at c.self.inside.due es i was group.name c.self.invariant c.index_mut-group.ensures.value c.replace.ensures.name (sym c.replace.ensures.opened ∙ closed))) c.change.ensures.keeps
+    let group = c.replace.new.self in (
+      tied_change c.self.inside.due c.change.new.self es i was group group.name group.due c.self.invariant.0 c.index_mut-group.ensures.value
+          c.replace.ensures.name c.replace.ensures.name refl
+          (λ closed. c.change.ensures.has (had_at c.self.inside.due es i was group.name c.self.invariant.0 c.index_mut-group.ensures.value c.replace.ensures.name (sym c.replace.ensures.opened ∙ closed))) c.change.ensures.keeps,
+      counted_same c.self.inside.empty c.self.inside.groups.entries c.args.spot.group c.index_mut-group.result.now c.replace.new.self c.self.invariant.1 c.index_mut-group.ensures.value (bare-labels c.replace.new.self c.index_mut-group.result.now c.replace.ensures.labels),
+    )
 
 pub returns-clause-group : goal.returns-clause-group
 returns-clause-group c =

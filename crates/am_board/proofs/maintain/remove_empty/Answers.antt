@@ -23,17 +23,17 @@ returns c =
     let full = not_full c.args.config.now old 1 counted (omega arith) in (
       ap (λ b. if b then Some HistoryFull else None) full,
       λ id. record {
-        returned = λ i. Some (EmptyGroupsRemoved (record { groups = sym c.drop_empty.ensures.count i }));
+        returned = λ i. Some (EmptyGroupsRemoved (record { groups = sym c.drop_empty-groups.ensures.count i }));
         state = record {
           rows = IsPermutation-refl (log_rows old.log);
-          rest = with_groups (state_of old) c.time-t.result _ _ _ c.time-t.ensures c.drop_empty.ensures.groups;
+          rest = with_groups (state_of old) c.time-t.result _ _ _ c.time-t.ensures c.drop_empty-groups.ensures.groups;
         };
-        routed = c.drop_empty.ensures.routed c.args.config.now.routes c.requires.good.routed;
+        routed = c.drop_empty-groups.ensures.routed c.args.config.now.routes c.requires.good.routed;
         prepared = c.requires.good.prepared;
         marked = λ name.
-            ap (λ gs. is_marked (marks_of gs) name) c.drop_empty.ensures.kept
+            ap (λ gs. is_marked (marks_of gs) name) c.drop_empty-groups.ensures.kept
             ∙ (marked_without old.groups.items (deserted_closed c.args.config.now old c.requires.good) name ∙ c.requires.good.marked name);
-        history = c.push_reserved.ensures.items ∙ ap (λ h. h ++ entry c.args.pass (RemoveEmptyGroups c.args.now) (EmptyGroupsRemoved (record { groups = c.drop_empty.result })) ∷ []) c.in_ok-reserve.ensures.items;
+        history = c.push_reserved.ensures.items ∙ ap (λ h. h ++ entry c.args.pass (RemoveEmptyGroups c.args.now) (EmptyGroupsRemoved (record { groups = c.drop_empty-groups.result })) ∷ []) c.in_ok-reserve.ensures.items;
         records = omega arith;
         room = omega (arith, c.in_ok-reserve.ensures.ok, c.in_ok-reserve.ensures.len, c.push_reserved.ensures.len, c.push_reserved.ensures.capacity, c.len.ensures);
       },

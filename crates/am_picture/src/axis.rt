@@ -70,6 +70,7 @@ fn time_of(call: &Call) -> u64 {
         | Call::Begin { now }
         | Call::Finish { now, .. }
         | Call::Maintain { now }
+        | Call::RemoveEmptyGroups { now }
         | Call::Forget { now }
         | Call::Load { now, .. }
         | Call::Note { now, .. } => *now,

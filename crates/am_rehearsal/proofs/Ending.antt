@@ -160,6 +160,7 @@ notices_in (reply.Quiet group removed) = 0
 notices_in (reply.Flush group opened) = length opened.notices
 notices_in (reply.Finished finished) = 0
 notices_in (reply.Maintained maintained) = 0
+notices_in (reply.EmptyGroupsRemoved removed) = 0
 notices_in (reply.Forgotten forgotten) = 0
 notices_in (reply.Loaded loaded) = 0
 notices_in reply.Noted = 0
@@ -305,6 +306,7 @@ module _ (r : Setting) (c d : Scene) (whole : c.board.handed ≡ []) where
     replied (reply.Silenced silenced) returned room is = absurd is
     replied (reply.Finished finished) returned room is = absurd is
     replied (reply.Maintained maintained) returned room is = absurd is
+    replied (reply.EmptyGroupsRemoved removed) returned room is = absurd is
     replied (reply.Forgotten forgotten) returned room is = absurd is
     replied (reply.Loaded loaded) returned room is = absurd is
     replied reply.Noted returned room is = absurd is

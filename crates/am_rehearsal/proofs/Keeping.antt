@@ -135,6 +135,7 @@ module _ (r : Setting) where
     replied at (reply.Silenced silenced) is = absurd is
     replied at (reply.Finished finished) is = absurd is
     replied at (reply.Maintained maintained) is = absurd is
+    replied at (reply.EmptyGroupsRemoved removed) is = absurd is
     replied at (reply.Forgotten forgotten) is = absurd is
     replied at (reply.Loaded loaded) is = absurd is
     replied at reply.Noted is = absurd is

@@ -78,6 +78,7 @@ module _ (r : Setting) where
     replied_once at (reply.Silenced silenced) a b = absurd a
     replied_once at (reply.Finished finished) a b = absurd a
     replied_once at (reply.Maintained maintained) a b = absurd a
+    replied_once at (reply.EmptyGroupsRemoved removed) a b = absurd a
     replied_once at (reply.Forgotten forgotten) a b = absurd a
     replied_once at (reply.Loaded loaded) a b = absurd a
     replied_once at reply.Noted a b = absurd a

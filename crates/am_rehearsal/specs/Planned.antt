@@ -20,6 +20,7 @@ input_of (call.Silence now id matchers start end) = Some (call.Silence now id ma
 input_of (call.Begin now) = None
 input_of (call.Finish now number outcomes) = None
 input_of (call.Maintain now) = None
+input_of (call.RemoveEmptyGroups now) = None
 input_of (call.Forget now) = None
 input_of (call.Load now row) = Some (call.Load now row)
 input_of (call.Note now number integration outcome) = None

@@ -5,7 +5,7 @@ use Rattle.am_model.specs.declared.preview.Preview.{Preview}
 use Rattle.am_model.specs.declared.record.Record.{Record}
 use Rattle.am_model.specs.declared.record.Reply.{Reply}
 use Rattle.am_model.specs.declared.record.Reply.TheVariants.{Inserted, Silenced, NothingDue, Quiet, Flush}
-use Rattle.am_model.specs.declared.record.Reply.TheVariants.{Finished, Maintained, Forgotten, Loaded, Noted}
+use Rattle.am_model.specs.declared.record.Reply.TheVariants.{Finished, Maintained, EmptyGroupsRemoved, Forgotten, Loaded, Noted}
 use Rattle.am_model.specs.look_back.Preview.{preview}
 use Rattle.am_model.specs.Records.{now_of}
 use Rattle.am_terms.specs.declared.event.PreviewedBegin.{PreviewedBegin}
@@ -19,6 +19,7 @@ takes_group (Quiet group removed) = true
 takes_group (Flush group opened) = true
 takes_group (Finished finished) = false
 takes_group (Maintained maintained) = false
+takes_group (EmptyGroupsRemoved removed) = false
 takes_group (Forgotten forgotten) = false
 takes_group (Loaded loaded) = false
 takes_group Noted = false

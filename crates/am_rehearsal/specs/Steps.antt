@@ -148,6 +148,7 @@ IsReplied r c at d (reply.Inserted inserted) = ⊥
 IsReplied r c at d (reply.Silenced silenced) = ⊥
 IsReplied r c at d (reply.Finished finished) = ⊥
 IsReplied r c at d (reply.Maintained maintained) = ⊥
+IsReplied r c at d (reply.EmptyGroupsRemoved removed) = ⊥
 IsReplied r c at d (reply.Forgotten forgotten) = ⊥
 IsReplied r c at d (reply.Loaded loaded) = ⊥
 IsReplied r c at d reply.Noted = ⊥

@@ -5,7 +5,7 @@ use Rattle.std.proofs.lemmas.Bool.{and_parts}
 use Rattle.am_model.specs.declared.config.Config.{Config}
 use Rattle.am_model.specs.declared.group.GroupName.{GroupName}
 use Rattle.am_model.specs.declared.record.Call.{Call}
-use Rattle.am_model.specs.declared.record.Call.TheVariants.{Insert, Silence, Begin, Finish, Maintain, Forget, Load, Note}
+use Rattle.am_model.specs.declared.record.Call.TheVariants.{Insert, Silence, Begin, Finish, Maintain, RemoveEmptyGroups, Forget, Load, Note}
 use Rattle.am_model.specs.declared.record.Reply.{Reply}
 use Rattle.am_model.specs.declared.record.Reply.TheVariants as reply_is
 use Rattle.am_model.specs.declared.views.RowView.{RowView}
@@ -33,6 +33,7 @@ flush-expiry config t i begun name past (reply_is.Flush group opened) is =
     sym (ap (λ (g : GroupName). Some (expiry_at config g t)) (same_name-is name group is))
 flush-expiry config t i begun name past (reply_is.Finished finished) is = let h : false ≡ true = is in cc
 flush-expiry config t i begun name past (reply_is.Maintained maintained) is = let h : false ≡ true = is in cc
+flush-expiry config t i begun name past (reply_is.EmptyGroupsRemoved removed) is = let h : false ≡ true = is in cc
 flush-expiry config t i begun name past (reply_is.Forgotten forgotten) is = let h : false ≡ true = is in cc
 flush-expiry config t i begun name past (reply_is.Loaded loaded) is = let h : false ≡ true = is in cc
 flush-expiry config t i begun name past reply_is.Noted is = let h : false ≡ true = is in cc
@@ -51,6 +52,7 @@ logs-names name i past (Begin now) is = let h : false ≡ true = is in cc
 logs-names name i past (Finish now number outcomes) is =
     (and_parts (begins_group name (begin_of number past)) _ is).0
 logs-names name i past (Maintain now) is = let h : false ≡ true = is in cc
+logs-names name i past (RemoveEmptyGroups now) is = let h : false ≡ true = is in cc
 logs-names name i past (Forget now) is = let h : false ≡ true = is in cc
 logs-names name i past (Load now row) is = let h : false ≡ true = is in cc
 logs-names name i past (Note now number j outcome) is = (and_parts (begins_group name (begin_of number past)) _ is).0
@@ -67,6 +69,7 @@ was_there t (Maintain now) (Some row) x at = by (has_expired t row) at
     by : (expired : Bool) → (if expired then None else Some row) ≡ Some x → Some row ≡ Some x
     by true e = let h : None ≡ Some x = e in cc
     by false e = e
+was_there t (RemoveEmptyGroups now) row x at = at
 was_there t (Forget now) row x at = at
 was_there t (Load now loaded) row x at = at
 was_there t (Note now number i outcome) row x at = at

@@ -11,7 +11,7 @@ use Rattle.am_alerts.specs.declared.limits.TheConstants.{MAX_TIME}
 use Rattle.am_retry.specs.declared.outcome.Outcome.{Outcome}
 use Rattle.am_model.specs.declared.group.GroupName.{GroupName}
 use Rattle.am_model.specs.declared.record.Call.{Call}
-use Rattle.am_model.specs.declared.record.Call.TheVariants.{Insert, Silence, Begin, Finish, Maintain, Forget, Load, Note}
+use Rattle.am_model.specs.declared.record.Call.TheVariants.{Insert, Silence, Begin, Finish, Maintain, RemoveEmptyGroups, Forget, Load, Note}
 use Rattle.am_model.specs.declared.record.Record.{Record}
 use Rattle.am_model.specs.look_back.Entry.{notified_and_succeeded, begins_group, logs}
 use Rattle.am_model.specs.look_back.Past.{Past, begin_of, is_flush, is_flush_of, is_note, time_at, was_noted}
@@ -140,6 +140,7 @@ logs_by-is name integration past (Silence now id matchers start end) = refl
 logs_by-is name integration past (Begin now) = refl
 logs_by-is name integration past (Finish now number outcomes) = finish_logs-is past number outcomes name integration past
 logs_by-is name integration past (Maintain now) = refl
+logs_by-is name integration past (RemoveEmptyGroups now) = refl
 logs_by-is name integration past (Forget now) = refl
 logs_by-is name integration past (Load now row) = refl
 logs_by-is name integration past (Note now number i outcome) =

@@ -6,7 +6,7 @@ use Rattle.am_model.specs.declared.group.GroupName.{GroupName}
 use Rattle.am_model.specs.declared.record.Record.{Record}
 use Rattle.am_model.specs.declared.record.Reply.{Reply}
 use Rattle.am_model.specs.declared.record.Reply.TheVariants.{Inserted, Silenced, NothingDue, Quiet, Flush}
-use Rattle.am_model.specs.declared.record.Reply.TheVariants.{Finished, Maintained, Forgotten, Loaded, Noted}
+use Rattle.am_model.specs.declared.record.Reply.TheVariants.{Finished, Maintained, EmptyGroupsRemoved, Forgotten, Loaded, Noted}
 use Rattle.am_model.specs.Configured.{route_of, integrations_named}
 use Rattle.am_model.specs.look_back.Past.{Past, time_at, past_of}
 use Rattle.am_timeline.specs.declared.logbook.log.LastEntry.{LastEntry}
@@ -29,6 +29,7 @@ flush_group (Quiet group removed) = None
 flush_group (Flush group opened) = Some group
 flush_group (Finished finished) = None
 flush_group (Maintained maintained) = None
+flush_group (EmptyGroupsRemoved removed) = None
 flush_group (Forgotten forgotten) = None
 flush_group (Loaded loaded) = None
 flush_group Noted = None

@@ -7,7 +7,7 @@ use Rattle.std.specs.Option.{option_map_or}
 use Rattle.am_retry.specs.declared.outcome.Outcome.{Outcome}
 use Rattle.am_model.specs.declared.group.GroupName.{GroupName}
 use Rattle.am_model.specs.declared.record.Call.{Call}
-use Rattle.am_model.specs.declared.record.Call.TheVariants.{Insert, Silence, Begin, Finish, Maintain, Forget, Load, Note}
+use Rattle.am_model.specs.declared.record.Call.TheVariants.{Insert, Silence, Begin, Finish, Maintain, RemoveEmptyGroups, Forget, Load, Note}
 use Rattle.am_model.specs.declared.record.Record.{Record}
 use Rattle.am_model.specs.Finish.{is_delivered}
 use Rattle.am_model.specs.look_back.Past.{Past, is_flush, is_flush_of, time_at, notices_in, was_noted}
@@ -49,6 +49,7 @@ logs_by flush noted name integration (Begin now) = false
 logs_by flush noted name integration (Finish now number outcomes) =
     option_map_or (finish_logs (noted number) outcomes name integration) (flush number) false
 logs_by flush noted name integration (Maintain now) = false
+logs_by flush noted name integration (RemoveEmptyGroups now) = false
 logs_by flush noted name integration (Forget now) = false
 logs_by flush noted name integration (Load now row) = false
 logs_by flush noted name integration (Note now number i outcome) =

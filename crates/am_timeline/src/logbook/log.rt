@@ -118,6 +118,7 @@ fn now_of(call: &Call) -> u64
         | Call::Begin { now }
         | Call::Finish { now, .. }
         | Call::Maintain { now }
+        | Call::RemoveEmptyGroups { now }
         | Call::Forget { now }
         | Call::Load { now, .. }
         | Call::Note { now, .. } => *now,

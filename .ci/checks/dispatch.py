@@ -242,12 +242,12 @@ def alert(number: int, more: Json = None) -> str:
     return json.dumps({"insert": {"now": 0, "labels": {"a": f"{number:04}", **(more or {})}}})
 
 
-def opened(program: Program, groups: int, **limits: int) -> Board:
+def opened(program: Program, made: int, **limits: int) -> Board:
     """A board with so many groups, each with an alert that is due."""
     board = Board(program)
     board.ask(json.dumps({"config": {"receivers": [{"name": "team", "integrations": [{"kind": "hook"}]}],
                                      "route": {"receiver": "team", "group_by": ["a"]}, "limits": limits}}))
-    for number in range(1, groups + 1):
+    for number in range(1, made + 1):
         is_same(board.reply(alert(number))["inserted"], {"stamp": number, "groups": 1, "made": 1}, f"alert {number}")
     return board
 

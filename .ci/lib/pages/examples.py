@@ -67,13 +67,14 @@ def page() -> str:
     """The page."""
     parts = [HEAD]
     for title, about, patterns in PARTS:
-        parts.append("\n".join([f"## {title}\n", about + "\n", "| Example | It shows |", "|---|---|", *map(row, files_of(patterns))]) + "\n")
+        head = [f"## {title}\n", about + "\n", "| Example | It shows |", "|---|---|"]
+        parts.append("\n".join([*head, *map(row, files_of(patterns))]) + "\n")
     return MADE + "\n" + "\n".join(parts)
 
 
 def faults() -> list[str]:
     """What is wrong with the heads."""
-    found = []
+    found: list[str] = []
     for file in [it for _, _, patterns in PARTS for it in files_of(patterns)]:
         name, sentence = file.relative_to(ROOT), says(file)
         found += [f"{name}: no sentence at its head"] * (not sentence)

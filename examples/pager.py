@@ -81,7 +81,7 @@ def begin(board: Board) -> None:
 
 def wake(board: Board, upkeep: int) -> int:
     """When there is something to do: at the next flush, and for upkeep at the latest."""
-    due = board.call("next_due")["next_due"]["at"]
+    due: int | None = board.call("next_due")["next_due"]["at"]
     return upkeep if due is None else min(due, upkeep)
 
 

@@ -450,7 +450,8 @@ def pager(told: Report, programs: Programs) -> None:
     run_cases(told, [pages_by_mail])
 
 
-PARTS = {"worked": worked, "words": words, "odd": odd, "restart": restart, "limits": limits, "pipes": pipes, "memory": memory, "pager": pager}
+PARTS = {"worked": worked, "words": words, "odd": odd, "restart": restart, "limits": limits, "pipes": pipes, "memory": memory,
+         "pager": pager}
 
 if __name__ == "__main__":
     signal.signal(signal.SIGPIPE, signal.SIG_IGN)

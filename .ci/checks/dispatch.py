@@ -3,7 +3,7 @@
 line, or ends the program with its status.
 
 Lines and answers are those of crates/am_dispatch/stdin and stdout. What is open and logged is asked before and after each rejected
-line, and is the same. The program of docs/dispatch.md pages by mail, with a mail server that this check plays.
+line, and is the same. examples/pager.py pages by mail, with a mail server that this check plays.
 """
 import json
 import re
@@ -243,12 +243,12 @@ def alert(number: int, more: Json = None) -> str:
     return json.dumps({"insert": {"now": 0, "labels": {"a": f"{number:04}", **(more or {})}}})
 
 
-def opened(program: Program, groups: int, **limits: int) -> Board:
+def opened(program: Program, made: int, **limits: int) -> Board:
     """A board with so many groups, each with an alert that is due."""
     board = Board(program)
     board.ask(json.dumps({"config": {"receivers": [{"name": "team", "integrations": [{"kind": "hook"}]}],
                                      "route": {"receiver": "team", "group_by": ["a"]}, "limits": limits}}))
-    for number in range(1, groups + 1):
+    for number in range(1, made + 1):
         is_same(board.reply(alert(number))["inserted"], {"stamp": number, "groups": 1, "made": 1}, f"alert {number}")
     return board
 
@@ -384,7 +384,7 @@ def memory(told: Report, programs: Programs) -> None:
         run_cases(told, [many_patterns, value_too_large])
 
 
-# The program of the page.
+# The example program.
 
 class Mail(socketserver.StreamRequestHandler):
     """As much of a mail server as takes a mail."""
@@ -408,32 +408,32 @@ class Mail(socketserver.StreamRequestHandler):
                 return
 
 
-# Lines that the program of the page rejects.
+# Lines that the example program rejects.
 BAD = [b"not JSON", b"[1]", b'{"labels":{}}',
        b'{"now":0,"labels":{"a":"b"}}', b'{"name":1}', b'{"labels":{"a":NaN}}', b"\xff", b"[" * 9_000]
 
 
-def program_of_the_page(program: Program, port: int) -> str:
-    """The program of docs/dispatch.md, with this board, this mail server, short waits and a small history."""
-    found = re.search(r"```python\n(.*?)```", (ROOT / "docs/dispatch.md").read_text(), re.DOTALL)
-    source = found[1] if found else ""
-    for old, new in [("crates/am_dispatch/out/am_dispatch", str(program.path)), ('SMTP("localhost",', f'SMTP("127.0.0.1", {port},'),
-                     ('"group_wait": "30s"}', '"group_wait": "1s"}, "limits": {"history": 12}'), ("10_000", "4"), ("900_000", "300")]:
-        is_same(source.count(old), 1, f"how often the program of docs/dispatch.md has {old}")
+def hurried(port: int) -> str:
+    """The text of examples/pager.py, with this mail server, short waits and a small history."""
+    source = (ROOT / "examples/pager.py").read_text()
+    for old, new in [('SMTP("localhost",', f'SMTP("127.0.0.1", {port},'), ("10_000, 900_000", "4, 300"),
+                     ('"group_wait": "30s"}', '"group_wait": "1s"}, "limits": {"history": 12}')]:
+        is_same(source.count(old), 1, f"how often examples/pager.py has {old}")
         source = source.replace(old, new)
     return source
 
 
-def page(told: Report, programs: Programs) -> None:
-    """The program of docs/dispatch.md."""
+def pager(told: Report, programs: Programs) -> None:
+    """examples/pager.py."""
+    program = programs["am_dispatch"]
+
     def pages_by_mail() -> None:
-        """the program of docs/dispatch.md pages by mail, after bad lines, and takes its history before it is full"""
+        """examples/pager.py pages by mail, after bad lines, and takes its history before it is full"""
         with socketserver.ThreadingTCPServer(("127.0.0.1", 0), Mail) as server, tempfile.TemporaryDirectory() as folder:
             threading.Thread(target=server.serve_forever, daemon=True).start()
-            source = program_of_the_page(programs["am_dispatch"], int(server.server_address[1]))
-            (Path(folder) / "page.py").write_text(source)
-            with subprocess.Popen([sys.executable, "page.py"], cwd=folder, stdin=subprocess.PIPE, stdout=subprocess.PIPE,
-                                  stderr=subprocess.PIPE) as pager:
+            (Path(folder) / "pager.py").write_text(hurried(int(server.server_address[1])))
+            with subprocess.Popen([sys.executable, "pager.py", str(program.path)], cwd=folder, stdin=subprocess.PIPE,
+                                  stdout=subprocess.PIPE, stderr=subprocess.PIPE) as pager:
                 assert pager.stdin and pager.stderr
                 good = [json.dumps({"labels": {"alertname": "DiskFull", "host": f"db-{it}"}}).encode() for it in range(20)]
                 pager.stdin.write(b"\n".join(BAD + good) + b"\n")
@@ -452,7 +452,8 @@ def page(told: Report, programs: Programs) -> None:
     run_cases(told, [pages_by_mail])
 
 
-PARTS = {"worked": worked, "words": words, "odd": odd, "restart": restart, "limits": limits, "pipes": pipes, "memory": memory, "page": page}
+PARTS = {"worked": worked, "words": words, "odd": odd, "restart": restart, "limits": limits, "pipes": pipes, "memory": memory,
+         "pager": pager}
 
 if __name__ == "__main__":
     signal.signal(signal.SIGPIPE, signal.SIG_IGN)

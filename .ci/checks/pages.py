@@ -1,8 +1,9 @@
 #!/usr/bin/env python3
 """Checks the pages: README.md and the others at the top, docs/*.md, and the claims in docs/claims.
 
-    .ci/checks/pages.py [PART ..]         claims, layers, prose, quotes, words; all without a part
+    .ci/checks/pages.py [PART ..]         claims, examples, layers, prose, quotes, words; all without a part
     .ci/checks/pages.py claims --write    makes docs/claims/*.md of docs/claims/*.toml and the sources
+    .ci/checks/pages.py examples --write  makes examples/README.md of the heads of the examples
     .ci/checks/pages.py layers --write    makes the diagram of layers in docs/architecture.md
     .ci/checks/pages.py words --write     takes lower numbers of words to avoid over into .ci/data/words.toml
     .ci/checks/pages.py prose --measure   prints how long each page is
@@ -12,11 +13,12 @@ from collections.abc import Callable
 from pathlib import Path
 
 sys.path.insert(0, str(Path(__file__).resolve().parents[1]))
-from lib.pages import claims, layers, prose, quotes, words
+from lib.pages import claims, examples, layers, prose, quotes, words
 
 WRITE = "--write" in sys.argv
 PARTS: dict[str, Callable[[], bool]] = {
     "claims": lambda: claims.check(WRITE),
+    "examples": lambda: examples.check(WRITE),
     "layers": lambda: layers.check(WRITE),
     "prose": prose.check,
     "quotes": quotes.check,

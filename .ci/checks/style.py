@@ -20,8 +20,11 @@ from lib import report
 from lib.program import ROOT
 from lib.report import Programs, Report
 
-# Where all Python has its types; and where programs are that may be shell.
-PYTHON = (".ci/lib", ".ci/checks", ".ci/gate")
+# Where Python is: folders of modules, and programs. The example of docs/live.md and its tools are left out.
+PYTHON = (".ci/lib", ".ci/checks", ".ci/gate", "tools/programs.py", "tools/completions.py", "examples/pager.py")
+SCRIPTS = ("rehearse", ".ci/first-answer", "tools/am-dispatch", "tools/am-run", "tools/amtool", "tools/measure", "tools/package",
+           "tools/peer-bench", "tools/picture", "tools/replay")
+# Where programs for a shell are.
 PROGRAMS = ("*", ".ci/*", "tools/*")
 TOOLS = ("mypy", "flake8", "shellcheck")
 # How many lines of a tool are shown.
@@ -56,12 +59,12 @@ def run(told: Report, name: str, *words: str) -> None:
 
 def types(told: Report, _: Programs) -> None:
     """mypy."""
-    run(told, "types", "mypy", "--cache-dir", os.devnull, *PYTHON)
+    run(told, "types", "mypy", "--cache-dir", os.devnull, "--scripts-are-modules", *PYTHON, *SCRIPTS)
 
 
 def python(told: Report, _: Programs) -> None:
     """flake8."""
-    run(told, "python", "flake8", *PYTHON)
+    run(told, "python", "flake8", *PYTHON, *SCRIPTS)
 
 
 def is_shell(file: Path) -> bool:

@@ -31,8 +31,8 @@ AFTER = [
     "checks/am_run.py examples", "checks/am_run.py statuses", "checks/am_run.py lengths", "checks/formats.py routes",
     "checks/formats.py hours", "checks/rehearse.py commands", "checks/formats.py yaml", "checks/rejects.py",
     "checks/rehearse.py notices", "checks/rehearse.py dispatchers", "checks/rehearse.py statuses", "checks/rehearse.py schema",
-    "checks/hostile.py", "checks/dispatch.py", "checks/live.py", "checks/live_rehearsals.py", "programs", "package", "steps",
-    "checks/pages.py quotes",
+    "checks/hostile.py", "checks/dispatch.py", "checks/live.py", "checks/live_rehearsals.py", "checks/programs.py", "checks/package.py",
+    "checks/steps.py", "checks/pages.py quotes",
 ]
 # Whether the kit keeps what it proved; one that doesn't has no word for that, and proves all each time.
 KEEPS = "--anew" in subprocess.run(["rt", "help"], capture_output=True, text=True, check=False).stderr

@@ -86,10 +86,10 @@ class Run:
                     time.sleep(2)
                     continue
                 for done in wait(running, timeout=None if self.beside.has_ended else 5, return_when=FIRST_COMPLETED).done:
-                    del running[done]
+                    crate = running.pop(done)
                     for well, line in done.result():
                         lines.append((well, line))
-                        print(line if well else f"FAILED {line}", flush=True)
+                        print(line if well else f"FAILED {line}\nagain: .ci/wrong-bodies --show {crate}", flush=True)
         return lines
 
     def list(self) -> int:

@@ -92,7 +92,10 @@ def edits_of(folder: str) -> list[Edit]:
         # (the proof of a cycle is one for all its functions, so two of them can't be told apart)
         edit.turned = next((cycle for cycle, name in cycles if name == edit.function.split("::")[-1]), edit.function)
         path, text = known.get(edit.function, ("", ""))
-        edit.copies = all(pair[0] == path and text.count(pair[1]) == 1 for pair in edit.pairs)
+        # (a copy of one that calls itself would call the other, and the files of the cycle's proof wouldn't be its own)
+        *places, name = edit.function.split("::")
+        calls_itself = os.path.isdir("/".join([os.path.dirname(folder), "proofs", *places, f"+{name}"]))
+        edit.copies = not calls_itself and all(pair[0] == path and text.count(pair[1]) == 1 for pair in edit.pairs)
     return edits
 
 

@@ -68,9 +68,9 @@ def verdict_on(crate: str, function: str, said: list[str]) -> tuple[int | None, 
 
 
 def folders_of(edit: Edit) -> tuple[str, str]:
-    """The folders of the proof that an edit's function has: one of a cycle has the cycle's beside it."""
-    places = edit.tried.split("::")
-    return "/".join(["./proofs", *places, ""]), "/".join(["./proofs", *places[:-1], f"+{edit.turned}", ""])
+    """The folders of the proof that an edit's function has: one that calls itself, or is in a cycle, has another next to its own."""
+    places, cycle = edit.tried.split("::"), edit.turned.split("::")[-1]
+    return "/".join(["./proofs", *places, ""]), "/".join(["./proofs", *places[:-1], f"+{cycle}", ""])
 
 
 def refusal_of(crate: str, edit: Edit, said: list[str]) -> tuple[bool, str]:

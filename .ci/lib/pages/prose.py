@@ -3,13 +3,14 @@
 README.md, the other pages at the top and docs/*.md have no sentence above 25 words and no paragraph above 100, outside blocks of code
 and tables, where a code span counts as one word. No row of a table has more than 300 characters. A page has at most 1,800 words outside
 blocks of code, or what BUDGETS says. No word that writers agreed to avoid (`words`), and no link to a file or a heading that isn't there.
+What a line `**Defined** in .. **Shown** by ..` names is there.
 """
 import re
 from collections.abc import Iterator
 from pathlib import Path
 
 from lib.pages import report
-from lib.pages.contracts import ROOT
+from lib.pages.contracts import ROOT, spec_of, spread
 from lib.pages.words import AVOID
 
 # In words: what a sentence and a paragraph have at most, and the pages with a longer sentence.
@@ -106,6 +107,23 @@ def link_fault(page: Path, text: str, target: str) -> str | None:
     return f"no heading {target}" if anchor and anchor not in anchors(file.read_text() if path else text) else None
 
 
+def places_of(name: str) -> list[Path]:
+    """The files that a code span of a line `**Defined** ..` names: a definition, an example, or a program of the gate with its part."""
+    if re.fullmatch(r"am_\w+/\S+", name.replace(", ", ",")):
+        return [spec_of(it) for it in spread(name)]
+    return [ROOT / it for it in spread(name.split()[0])] if "/" in name else [*(ROOT / "examples").rglob(name)]
+
+
+def named_faults(text: str) -> Found:
+    """What lines that say where a rule is defined and shown name, and isn't there."""
+    found: Found = []
+    for number, line in enumerate(text.splitlines(), 1):
+        for name in re.findall(r"`([^`]+)`", line) if line.startswith("**Defined** in") else []:
+            places = [] if name == "outlook" else places_of(name)
+            found += [(number, f"no {name}")] * (name != "outlook" and not (places and all(it.exists() for it in places)))
+    return found
+
+
 def faults_of(page: Path, text: str) -> Found:
     """The faults of a page, by line."""
     longest = SENTENCES.get(page.stem, SENTENCE)
@@ -120,7 +138,7 @@ def faults_of(page: Path, text: str) -> Found:
     for number, line in enumerate(plain(without_blocks(text)).splitlines(), 1):
         found += [(number, f"avoid \"{it[0]}\"") for it in AVOID.finditer(LINK.sub(r"\1", line))]
         found += [(number, fault) for _, target in LINK.findall(line) if (fault := link_fault(page, text, target))]
-    return sorted(found)
+    return sorted(found + named_faults(text))
 
 
 def self_test() -> None:
@@ -134,7 +152,8 @@ def self_test() -> None:
     bad = {good + words + "word.\n": "a sentence of 26 words", "\n\n" + (words + ". ") * 5: "a paragraph of 125 words",
            "\n- A.\n" * 1801: "1801 words, and at most 1800 are planned", "So\nhe Told\n": 'avoid "Told"', "[a](#two)": "no heading #two",
            "[`a`](none.md)": "no file none.md", "[a](../../x)": "no file ../../x",
-           "[a](story.md#no-such)": "no heading story.md#no-such",
+           "[a](story.md#no-such)": "no heading story.md#no-such", "**Defined** in `am_model/{Begin, None}`.": "no am_model/{Begin, None}",
+           "**Defined** in `am_model/Begin`. **Shown** by `none.yml`.": "no none.yml",
            row.replace("|\n", "word |\n"): "a row of 303 characters"}
     assert not faults_of(page, good), faults_of(page, good)
     for text, fault in bad.items():

@@ -1,5 +1,5 @@
 -- Keys in a heap: which are there as keys come and go.
-use Rattle.std.proofs.Common.{◌≡◌, Bool, true, false, ◌||◌, Option, Some, None, List, ◌∷◌, get_or, slice_get, sym, ap, ◌∙◌}
+use Rattle.std.proofs.Common.{◌≡◌, true, false, ◌||◌, Option, Some, None, List, ◌∷◌, get_or, slice_get, sym, ap, ◌∙◌}
 use Rattle.std.specs.Prelude.{IfNone, IfSome, IsPermutation}
 use Rattle.std.specs.Ordering.{is_eq}
 use Rattle.std.proofs.lemmas.List.{get_or_default}

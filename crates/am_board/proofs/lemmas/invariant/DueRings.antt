@@ -12,7 +12,6 @@ use Rattle.std.proofs.lemmas.Option.{slice_get-get_or}
 use Rattle.am_model.specs.State.{same_name}
 use Rattle.am_model.specs.declared.group.GroupName.{GroupName}
 use Rattle.am_model.proofs.states.Alike.{same_name-is}
-use Rattle.am_board.proofs.lemmas.invariant.Keyed.{value_at}
 use Rattle.am_board.specs.DueOrder.{has_key, key_at, key_cmp, key_cmp_total, AreRising}
 use Rattle.am_board.specs.declared.due.DueKey.{DueKey}
 

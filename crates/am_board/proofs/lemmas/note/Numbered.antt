@@ -1,5 +1,5 @@
 -- The open flush of a number is the only one.
-use Rattle.std.proofs.Common.{◌≡◌, ℕ, zero, suc, ◌<◌, ◌==◌, Bool, true, false, true≢false, Option, Some, None, List, [], ◌∷◌, length, map, get_or, refl, sym, ap, ◌∙◌, arith}
+use Rattle.std.proofs.Common.{◌≡◌, ℕ, zero, suc, ◌<◌, ◌==◌, Bool, true, true≢false, Some, None, List, [], ◌∷◌, length, map, get_or, refl, sym, ap, ◌∙◌, arith}
 use Rattle.std.specs.Cmp.{nat_eq_equiv, on_equiv}
 use Rattle.std.specs.List.{IsDistinct, position}
 use Rattle.std.proofs.lemmas.List.Quantifiers.{position-Some}

@@ -1,4 +1,4 @@
-use Rattle.std.proofs.Common.{◌≡◌, ℕ, ◌<◌, Bool, true, false, true≢false, not, ◌&&◌, ◌||◌, nat_le, List, ◌++◌, length, map, get_or, refl, sym, ap, subst, ◌∙◌}
+use Rattle.std.proofs.Common.{◌≡◌, ℕ, ◌<◌, Bool, true, false, not, ◌||◌, nat_le, List, ◌++◌, length, get_or, refl, sym, ap, subst, ◌∙◌}
 use Rattle.std.specs.Prelude.{IsTrue}
 use Rattle.std.specs.List.{IsDistinct}
 use Rattle.std.specs.Map.{keys_of, values_of}
@@ -7,7 +7,7 @@ use Rattle.std.proofs.lemmas.Bool.{and_parts}
 use Rattle.std.proofs.lemmas.List.Folds.{list_any-append}
 use Rattle.am_model.specs.State.{FlushState, is_flushing, same_name}
 use Rattle.am_model.specs.declared.group.GroupName.{GroupName}
-use Rattle.am_board.specs.Beginning.{may_take, first_of, IsFirst, IsFirstOfKeys}
+use Rattle.am_board.specs.Beginning.{may_take, IsFirstOfKeys}
 use Rattle.am_board.specs.Due.{AreDue, key_of}
 use Rattle.am_board.specs.DueOrder.{has_key, key_cmp}
 use Rattle.am_board.specs.Group.{names_of}

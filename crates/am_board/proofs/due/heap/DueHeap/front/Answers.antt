@@ -1,4 +1,4 @@
-use Rattle.std.proofs.Common.{List, subst, arith}
+use Rattle.std.proofs.Common.{List, subst}
 use Rattle.std.specs.BinaryHeap.{heap_items}
 use Rattle.am_board.specs.DueOrder.{IsFront}
 use Rattle.am_board.specs.declared.due.DueKey.{DueKey}

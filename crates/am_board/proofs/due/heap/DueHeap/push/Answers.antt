@@ -1,4 +1,4 @@
-use Rattle.std.proofs.Common.{◌≡◌, List, sym, subst, ap, ◌∙◌}
+use Rattle.std.proofs.Common.{List, ap, ◌∙◌}
 use Rattle.std.specs.BinaryHeap.{heap_items}
 use Rattle.am_board.specs.DueOrder.{has_key}
 use Rattle.am_board.specs.declared.due.DueKey.{DueKey}

@@ -52,7 +52,7 @@ func run(args []string) int {
 	if p.coordinator.Reload() != nil { // (it logs why)
 		return 1
 	}
-	p.dispatcher.start(p.alertGC)
+	p.dispatcher.start(p.maintenance, p.alertGC)
 	return p.serve()
 }
 

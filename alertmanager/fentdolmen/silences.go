@@ -131,7 +131,7 @@ func (d *dispatcher) silence(s *session, it *silencepb.Silence) {
 		matchers = append(matchers, matcher{m.Name, operators[m.Type], m.Pattern})
 	}
 	c := silenceCall(id, matchers, d.clock.board(it.StartsAt, offset), d.clock.board(it.EndsAt, offset))
-	err := d.culprits.check(c)
+	_, err := d.culprits.check(c.name, func() string { return c.subjects()[0] })
 	var t *batch
 	if err == nil {
 		t = s.board.submit(c)
@@ -182,10 +182,10 @@ func (d *dispatcher) syncSilences(s *session) {
 
 // followClock passes all silences on again after the wall clock was set: they end when their ends are there by the new one. And the saved
 // log gets the times of the new one.
-func (d *dispatcher) followClock() {
-	offset, s := d.clock.offset(), d.session()
+func (d *dispatcher) followClock(s *session) {
+	offset := d.clock.offset()
 	jump := offset - d.followed
-	if s == nil || jump == 0 {
+	if jump == 0 {
 		return
 	}
 	d.followed = offset

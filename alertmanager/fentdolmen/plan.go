@@ -50,7 +50,7 @@ func nameRoutes(root *dispatch.Route, answered []string) (routeNames, error) {
 		count++
 	})
 	if count != len(answered) || count != len(out.routes) {
-		return out, fmt.Errorf("the board names %d of %d routes", len(out.routes), count)
+		return out, fmt.Errorf("the board answers %d names for %d routes: %q", len(answered), count, answered)
 	}
 	return out, nil
 }

@@ -14,14 +14,17 @@ import (
 //   - `names`, `groups`: after three alerts no other is accepted until forget or maintain was called
 //   - `removes`: as `groups`, and it knows a call that removes empty groups alone
 //   - `silences`: before forget no silence is accepted
-//   - `huge`: no alert with a label x is accepted
 //   - `poison`, `silent`: it ends at an alert of this name, at a silence
 //   - `full`: it begins no flush until its history was taken
 //   - `ends`, `hangs`, `form`, `untold`: summary is answered by a fault of the protocol
 //   - `unnamed`: it doesn't name the routes
+//   - `mute`: it answers nothing after its configuration
+//   - `counts`, `old`: its summary counts calls, and `old` doesn't know the one that removes empty groups alone
 type fakeBoard struct {
 	how string
 	had map[string]bool
+	// calls counts them by name.
+	calls map[string]int
 }
 
 var fakeAnswers = map[string]string{"silence": "silenced", "report": "reported", "note": "noted", "finish": "finished", "maintain": "maintained",
@@ -46,44 +49,40 @@ func (f *fakeBoard) run() {
 // answer returns the answer to a call, and false if the board ends instead.
 func (f *fakeBoard) answer(name string, args json.RawMessage) (string, bool) {
 	usual := fmt.Sprintf(`{%q:{}}`, fakeAnswers[name])
+	f.calls[name]++
+	if f.how == "mute" && name != "alertmanager" && name != "remove_empty_groups" {
+		time.Sleep(time.Minute)
+	}
 	switch name {
 	case "alertmanager":
 		return f.open(args), true
 	case "inserts":
 		return f.inserts(args)
+	case "groups":
+		return `{"groups":[]}`, true
 	case "summary":
 		return f.summary(usual)
 	case "silence":
-		if f.how == "silences" && !f.had["forget"] {
+		if f.how == "silences" && f.calls["forget"] == 0 {
 			return fault("TooManySilences"), true
 		}
 		return `{"silenced":{"replaced":false}}`, f.how != "silent"
 	case "begin":
-		if f.how == "full" && !f.had["taken"] {
+		if f.how == "full" && f.calls["take_history"] == 0 {
 			return fault("HistoryFull"), true
 		}
 	case "remove_empty_groups":
-		if f.how != "removes" {
+		if f.how != "removes" && f.how != "counts" {
 			return fault("unknown"), true
 		}
-		f.had = map[string]bool{"removed": true}
+		f.had = map[string]bool{}
 		return `{"groups_removed":{"groups":0}}`, true
-	case "take_history":
-		f.had["taken"] = true
-	case "forget":
-		f.forget("names", "forget")
-	case "maintain":
-		f.forget("groups", "maintain")
+	case "forget", "maintain":
+		if name == map[string]string{"names": "forget", "groups": "maintain"}[f.how] {
+			f.had = map[string]bool{}
+		}
 	}
 	return usual, true
-}
-
-// forget forgets all alerts if the board is of this kind, and notes that the call was made.
-func (f *fakeBoard) forget(how, call string) {
-	if f.how == how {
-		f.had = map[string]bool{}
-	}
-	f.had[call] = true
 }
 
 // fault is a refusal of this kind.
@@ -111,6 +110,9 @@ func (f *fakeBoard) summary(usual string) (string, bool) {
 		return `{"groups":[]}`, true
 	case "untold":
 		return fault("untold"), true
+	case "counts", "old":
+		// (the program makes the call for groups once to learn whether it is known)
+		return fmt.Sprintf(`{"summary":{"groups":%d,"entries":%d,"alerts":%d}}`, f.calls["remove_empty_groups"]-1, f.calls["maintain"], f.calls["forget"]), true
 	}
 	return usual, f.how != "ends"
 }
@@ -121,15 +123,13 @@ func (f *fakeBoard) inserts(args json.RawMessage) (string, bool) {
 	json.Unmarshal(args, &items)
 	var answers []string
 	for _, it := range items {
-		labels := "labels " + string(it.Labels)
+		labels := string(it.Labels)
 		switch {
 		case f.how == "poison" && bytes.Contains(it.Labels, []byte("poison")):
 			return "", false
-		case f.how == "huge" && bytes.Contains(it.Labels, []byte(`"x"`)):
-			answers = append(answers, fault("value"))
-		case !f.had[labels] && f.alerts() >= 3 && f.how == "names":
+		case !f.had[labels] && len(f.had) >= 3 && f.how == "names":
 			answers = append(answers, fault("TooManyNames"))
-		case !f.had[labels] && f.alerts() >= 3 && (f.how == "groups" || f.how == "removes"):
+		case !f.had[labels] && len(f.had) >= 3 && (f.how == "groups" || f.how == "removes"):
 			answers = append(answers, fault("TooManyGroups"))
 		default:
 			f.had[labels] = true
@@ -137,14 +137,4 @@ func (f *fakeBoard) inserts(args json.RawMessage) (string, bool) {
 		}
 	}
 	return `{"inserts":[` + strings.Join(answers, ",") + `]}`, true
-}
-
-// alerts counts the label sets that it has.
-func (f *fakeBoard) alerts() (count int) {
-	for it := range f.had {
-		if strings.HasPrefix(it, "labels ") {
-			count++
-		}
-	}
-	return count
 }

@@ -2,6 +2,7 @@ package main
 
 import (
 	"fmt"
+	"strings"
 	"testing"
 	"time"
 
@@ -36,8 +37,10 @@ func TestAtALimitWhatIsOverIsRemoved(t *testing.T) {
 			if len(d.refused) != 2 {
 				t.Errorf("%d alerts wait", len(d.refused))
 			}
-			d.try(d.session(), map[string]call{"names": forgetCall(), "groups": maintainCall(), "removes": removeGroupsCall()}[how])
-			d.retryRefused(d.session())
+			if how == "names" {
+				d.forget(d.session())
+			}
+			d.lookAgain(d.session())
 			if len(d.refused) != 0 {
 				t.Error("they aren't tried again")
 			}
@@ -46,15 +49,23 @@ func TestAtALimitWhatIsOverIsRemoved(t *testing.T) {
 }
 
 func TestOneRejectedAlertRejectsNoOther(t *testing.T) {
-	d := testDispatcher(t, fake(t, "huge"), oneReceiver)
-	if err := (dispatched{d.alerts, d}).Put(alert("alertname=1"), alert("alertname=2,x=1"), alert("alertname=3")); err == nil {
-		t.Error("no error")
-	}
-	if got := testutil.ToFloat64(d.metrics.refused.WithLabelValues("insert", "value")); got != 1 {
-		t.Errorf("%v refusals are counted", got)
-	}
-	if len(d.refused) != 1 {
-		t.Errorf("%d alerts wait", len(d.refused))
+	large := "alertname=2,x=" + strings.Repeat("x", mostBytes)
+	for how, rejected := range map[string]string{"the board": "alertname=2,y=" + strings.Repeat("y", 5000), "the program": large} {
+		t.Run(how, func(t *testing.T) {
+			d := testDispatcher(t, realBoard(t), oneReceiver)
+			if err := (dispatched{d.alerts, d}).Put(alert("alertname=1"), alert(rejected), alert("alertname=3")); err == nil {
+				t.Error("no error")
+			}
+			if got := d.summary().Alerts; got != 2 {
+				t.Errorf("the board has %d alerts", got)
+			}
+			if got := testutil.ToFloat64(d.metrics.refused.WithLabelValues("insert", "value")); got != 1 {
+				t.Errorf("%v refusals are counted", got)
+			}
+			if len(d.refused) != 1 {
+				t.Errorf("%d alerts wait", len(d.refused))
+			}
+		})
 	}
 }
 

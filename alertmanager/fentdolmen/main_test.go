@@ -23,7 +23,7 @@ import (
 // TestMain makes this program the board of some tests: FAKE_BOARD names what it does.
 func TestMain(m *testing.M) {
 	if how := os.Getenv("FAKE_BOARD"); how != "" {
-		(&fakeBoard{how: how, had: map[string]bool{}}).run()
+		(&fakeBoard{how, map[string]bool{}, map[string]int{}}).run()
 		os.Exit(0)
 	}
 	os.Exit(m.Run())

@@ -1,4 +1,4 @@
-// The board's history: it is taken in time, and kept in a file if one is named, to audit it with tools/replay.
+// The board's history: it is taken in time, and kept in a file if one is named, to audit it with examples/live/replay.
 package main
 
 import (

@@ -4,7 +4,7 @@
     examples/live/live.py --config.file alertmanager.yml [--web.listen-address HOST:PORT] [--storage.path FOLDER]
 
 The board decides who is notified, and when. This program has what the board leaves out: HTTP, the clock, the ids of silences,
-annotations, the merging of alerts that overlap, attempts and their waits. docs/embedding-live.md has its limits.
+annotations, the merging of alerts that overlap, attempts and their waits. docs/live-example.md has its limits.
 """
 import argparse
 import contextlib

@@ -151,19 +151,3 @@ func TestRowsOfPeers(t *testing.T) {
 		t.Error("a row of our own came from no peer")
 	}
 }
-
-func TestTheHistoryEndsWithAWholeLine(t *testing.T) {
-	path := filepath.Join(t.TempDir(), "history")
-	long := strings.Repeat("x", 200_000)
-	for _, torn := range []string{"", "torn", long} {
-		os.WriteFile(path, []byte("{}\n"+long+"\n"+torn), 0o666)
-		h, err := openHistory(path, log.NewNopLogger(), func() {})
-		if err != nil {
-			t.Fatal(err)
-		}
-		h.add([]byte("next\n"))
-		if text := textOf(path); text != "{}\n"+long+"\nnext\n" {
-			t.Errorf("%d bytes", len(text))
-		}
-	}
-}

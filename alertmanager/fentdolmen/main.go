@@ -136,6 +136,8 @@ func (p *program) buildDispatcher() error {
 	if err != nil {
 		return err
 	}
+	go history.run()
+	p.closing(history.close)
 	p.dispatcher = newDispatcher(p.options, p.metrics, notify.NewMetrics(p.reg), p.silences, book, history, clock, p.logger)
 	p.closing(p.dispatcher.close)
 	p.metrics.watch(p.reg, p.dispatcher, file)

@@ -52,10 +52,13 @@ func TestARequestThatTheAPIPanicsAtIsAnswered(t *testing.T) {
 	}
 }
 
-// spaces is a body without an end.
+// spaces is a body of twice the greatest length.
 type spaces struct{ read int }
 
 func (s *spaces) Read(p []byte) (int, error) {
+	if s.read > 2*mostBody {
+		return 0, io.EOF
+	}
 	for i := range p {
 		p[i] = ' '
 	}

@@ -95,7 +95,7 @@ func (c call) subjects() []string {
 	return out
 }
 
-// between is what is between the first `begin` and the last `end`, which a text of JSON can't have in it.
+// between is the part from the first `begin` to the last `end`. No text of JSON has these in it: its quotes are escaped.
 func between(text []byte, begin, end string) string {
 	from, to := bytes.Index(text, []byte(begin)), bytes.LastIndex(text, []byte(end))
 	if from < 0 || to < from {

@@ -38,7 +38,7 @@ func TestWhatALineIsAbout(t *testing.T) {
 	for name, value := range odd {
 		item := insertItem(alert("alertname="+value+name).Labels, 5, 6, nil)
 		c := insertsCall(item, item)
-		if got := c.subjects(); len(got) != 2 || got[0] != string(appendLabels(nil, alert("alertname="+value+name).Labels)) {
+		if got := c.subjects(); len(got) != 2 || got[0] != `"labels":`+string(appendLabels(nil, alert("alertname="+value+name).Labels)) {
 			t.Errorf("%q", got)
 		}
 		if line := c.appendLine(nil, 7); !bytes.Equal(line, []byte(`{"inserts":[`+string(item)+","+string(item)+"]}\n")) {
@@ -46,7 +46,7 @@ func TestWhatALineIsAbout(t *testing.T) {
 		}
 	}
 	silence := silenceCall(3, []matcher{{"a", "=", `,"starts":`}}, 1, 2)
-	if got := silence.subjects(); len(got) != 1 || got[0] != `[["a","=",",\"starts\":"]]` {
+	if got := silence.subjects(); len(got) != 1 || got[0] != `"matchers":[["a","=",",\"starts\":"]]` {
 		t.Errorf("%q", got)
 	}
 	if got := beginCall().subjects(); len(got) != 0 {

@@ -1,8 +1,8 @@
 #!/usr/bin/env python3
-"""tools/live.py does what the real Alertmanager did, and tools/replay audits what it kept.
+"""examples/live/live.py does what the real Alertmanager did, and examples/live/replay audits what it kept.
 
-- `stories`: each story of .ci/live-stories is played by a clock that doesn't wait, and compared with what Alertmanager 0.25 did
-  (.ci/live-timelines, from tools/live-compare --store), to the half second. A story with a known difference has to have it.
+- `stories`: each story of .ci/data/live/stories is played by a clock that doesn't wait, and compared with what Alertmanager 0.25 did
+  (.ci/data/live/timelines, from tools/live-compare --store), to the half second. A story with a known difference has to have it.
 - `histories`: the history of a story is replayed, and replayed with one reply changed, which has to be found.
 - `boards`: what goes over to another board, and what goes by time.
 - `real`: one story is played in real time over HTTP, with reloads and a restart; and configurations that can't be followed are
@@ -30,19 +30,18 @@ from typing import Any
 from unittest import mock
 
 sys.path.insert(0, str(Path(__file__).resolve().parent.parent))
-from lib import report
+from lib import live_stories, report
+from lib.live_stories import STORIES, TIMELINES
 from lib.program import ROOT, Program
 from lib.report import Programs, Report, is_same
 from lib.rows import Json
 
 sys.dont_write_bytecode = True
-sys.path.insert(0, str(ROOT / "tools"))
+sys.path.insert(0, str(ROOT / "examples/live"))
 import live
 import live_carry
 import live_format
-import live_stories
 
-STORIES, TIMELINES = ROOT / ".ci/live-stories", ROOT / ".ci/live-timelines"
 CONFIG: Json = {
     "route": {"receiver": "team", "group_by": ["alertname"], "group_wait": "300ms", "group_interval": "1s", "repeat_interval": "1h"},
     "receivers": [{"name": "team", "webhook_configs": [{"url": "http://127.0.0.1:1/"}]}],
@@ -88,12 +87,12 @@ def sees_differences() -> None:
 # Histories.
 
 def replay(program: Program, text: str) -> tuple[int, str]:
-    """The status of tools/replay on a history, and what it prints."""
+    """The status of examples/live/replay on a history, and what it prints."""
     with tempfile.NamedTemporaryFile("w", suffix=".jsonl") as file:
         file.write(text)
         file.flush()
-        ran = subprocess.run([ROOT / "tools/replay", "--board", program.path, file.name], capture_output=True, text=True, timeout=300,
-                             check=False)
+        ran = subprocess.run([ROOT / "examples/live/replay", "--board", program.path, file.name], capture_output=True, text=True,
+                             timeout=300, check=False)
     return ran.returncode, ran.stdout + ran.stderr
 
 
@@ -218,7 +217,7 @@ class Process:
         self.file = folder / "am.json"
         self.file.write_text(json.dumps(config))
         words: list[str | Path] = [
-            sys.executable, ROOT / "tools/live.py", f"--config.file={folder}/am.json", f"--storage.path={folder}/data",
+            sys.executable, ROOT / "examples/live/live.py", f"--config.file={folder}/am.json", f"--storage.path={folder}/data",
             f"--web.listen-address=127.0.0.1:{self.port}", "--board", program.path]
         self.child = subprocess.Popen(words, stdout=subprocess.DEVNULL, stderr=subprocess.PIPE, text=True)
 

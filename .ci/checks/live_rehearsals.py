@@ -1,8 +1,8 @@
 #!/usr/bin/env python3
 """A rehearsal sends what the real Alertmanager sent.
 
-- `rehearsals`: each story of .ci/live-stories that a rehearsal can have is played as one, and compared with what Alertmanager 0.25
-  did (.ci/live-timelines, from tools/live-compare --store), to the half second. A known difference has to occur.
+- `rehearsals`: each story of .ci/data/live/stories that a rehearsal can have is played as one, and compared with what Alertmanager 0.25
+  did (.ci/data/live/timelines, from tools/live-compare --store), to the half second. A known difference has to occur.
 """
 import collections
 import json
@@ -14,20 +14,12 @@ from pathlib import Path
 from typing import Any
 
 sys.path.insert(0, str(Path(__file__).resolve().parent.parent))
-from lib import report
-from lib.program import ROOT, Program
+from lib import live_stories, report
+from lib.live_stories import STORIES, TIMELINES, Sent, Step
+from lib.program import Program
 from lib.report import Programs, Report
 from lib.rows import Json
 
-sys.path.insert(0, str(ROOT / "tools"))
-sys.dont_write_bytecode = True
-import live_stories
-
-STORIES, TIMELINES = ROOT / ".ci/live-stories", ROOT / ".ci/live-timelines"
-# A step of a story: its second, its verb, and what it asks for.
-Step = tuple[float, str, str]
-# What a webhook was sent: when, and a line on it.
-Sent = tuple[float, str]
 # An attempt of a rehearsal: when, the webhook, the group with what it was sent, and the alerts.
 Attempt = tuple[float, str, str, list[str]]
 

@@ -23,7 +23,7 @@ from lib.report import Programs, Report
 # Where Python is: folders of modules, and programs. The example of docs/live.md and its tools are left out.
 PYTHON = (".ci/lib", ".ci/checks", ".ci/gate", "tools/programs.py", "tools/completions.py", "examples/pager.py")
 SCRIPTS = ("rehearse", ".ci/first-answer", "tools/am-dispatch", "tools/am-run", "tools/amtool", "tools/measure", "tools/package",
-           "tools/peer-bench", "tools/picture", "tools/replay")
+           "tools/peer-bench", "tools/picture", "examples/live/replay")
 # Where programs for a shell are.
 PROGRAMS = ("*", ".ci/*", "tools/*")
 TOOLS = ("mypy", "flake8", "shellcheck")

@@ -2,8 +2,6 @@
 package main
 
 import (
-	"bytes"
-	"sync"
 	"time"
 
 	"github.com/go-kit/log/level"
@@ -60,67 +58,40 @@ func (d *dispatcher) PostDelete(*types.Alert)           {}
 
 // insert queues alerts, with `putting` held.
 func (d *dispatcher) insert(s *session, alerts []*types.Alert) inserts {
-	out, calls := inserts{}, make([]call, 0, len(alerts))
+	var out inserts
+	var lines insertLines
 	for _, a := range alerts {
-		c, err := d.insertOf(a)
+		item, isSuspect, err := d.insertOf(a)
 		if err != nil {
 			out.kept, out.errs = append(out.kept, a), append(out.errs, err)
 			continue
 		}
-		out.alerts, calls = append(out.alerts, a), append(calls, c)
+		out.alerts = append(out.alerts, a)
+		lines.add(item, isSuspect)
 	}
 	d.mtx.Lock()
 	for _, a := range out.alerts {
 		d.known[a.Fingerprint()] = a
 	}
 	d.mtx.Unlock()
-	out.batch = s.board.submit(calls...)
+	out.batch = s.board.submit(lines.calls...)
 	return out
 }
 
-// insertOf is the call for an alert: an error if the board can't have it, or if boards ended at it.
-func (d *dispatcher) insertOf(a *types.Alert) (call, error) {
+// insertOf is the insert of an alert, and whether it has to be in a line of its own: an error if the board can't have it.
+func (d *dispatcher) insertOf(a *types.Alert) (item []byte, isSuspect bool, err error) {
 	if err := tooLarge(a.Labels); err != nil {
-		return call{}, err
+		return nil, false, err
 	}
-	offset, starts := d.clock.offset(), int64(0)
+	offset := d.clock.offset()
 	var ends *int64
-	starts = d.clock.board(a.StartsAt, offset)
 	if !a.EndsAt.IsZero() {
 		end := d.clock.board(a.EndsAt, offset)
 		ends = &end
 	}
-	c := insertCall(a.Labels, starts, ends)
-	return c, d.culprits.check(c)
-}
-
-// culprits counts the boards that ended at the same insert or silence. After the second one it is kept from the next ones, so that no
-// request can end all of them.
-type culprits struct {
-	mtx    sync.Mutex
-	counts map[string]int
-}
-
-// add counts a board that ended at this subject, if it has one.
-func (c *culprits) add(subject string) {
-	c.mtx.Lock()
-	defer c.mtx.Unlock()
-	if c.counts == nil {
-		c.counts = map[string]int{}
-	}
-	if subject != "" {
-		c.counts[subject]++
-	}
-}
-
-// check is the refusal of a call at which two boards ended.
-func (c *culprits) check(it call) error {
-	c.mtx.Lock()
-	defer c.mtx.Unlock()
-	if len(c.counts) == 0 || c.counts[it.subject()] < 2 {
-		return nil
-	}
-	return &refusal{it.name, "/" + it.name, "culprit", "two boards ended at it"}
+	item = insertItem(a.Labels, d.clock.now(), d.clock.board(a.StartsAt, offset), ends)
+	isSuspect, err = d.culprits.check("insert", func() string { return subjectOf(item) })
+	return item, isSuspect, err
 }
 
 // settle waits for the answers to inserts. What was rejected at a limit is tried once more, after what is over was removed.
@@ -150,10 +121,14 @@ func (d *dispatcher) rejected(s *session, queued inserts) (left []*types.Alert, 
 		add(a, queued.errs[i])
 	}
 	answers, _ := queued.wait() // (if the board is gone, the next one gets these alerts from the provider)
+	first := 0
 	for i, line := range answers {
-		if bytes.HasPrefix(line, errorField) {
-			add(queued.alerts[i], s.board.decode(queued.calls[i], line, nil))
+		for j, err := range s.board.refusals(queued.calls[i], line) {
+			if err != nil {
+				add(queued.alerts[first+j], err)
+			}
 		}
+		first += len(queued.calls[i].items)
 	}
 	if all.Len() > 0 {
 		err = &all
@@ -209,43 +184,6 @@ func (d *dispatcher) retryRefused(s *session) {
 			return
 		}
 	}
-}
-
-// room says when the board was last asked to remove what is over.
-type room struct {
-	mtx  sync.Mutex
-	last map[string]time.Time
-}
-
-// makeRoom does what can help against these refusals, at most every ten seconds. It returns whether anything was done.
-func (d *dispatcher) makeRoom(s *session, kinds map[string]bool) bool {
-	done := false
-	for kind, remedy := range map[string]func(){
-		tooManyNames:    func() { d.try(s, forgetCall()) },
-		tooManySilences: func() { d.try(s, forgetCall()) },
-		tooManyGroups:   func() { d.try(s, maintainCall()) },
-		historyFull:     func() { d.takeHistory(s) },
-	} {
-		if kinds[kind] && d.room.isTime(kind) {
-			remedy()
-			done = true
-		}
-	}
-	return done
-}
-
-// isTime returns whether the last removal for this kind of refusal was long enough ago, and counts the present one.
-func (r *room) isTime(kind string) bool {
-	r.mtx.Lock()
-	defer r.mtx.Unlock()
-	if time.Since(r.last[kind]) < 10*time.Second {
-		return false
-	}
-	if r.last == nil {
-		r.last = map[string]time.Time{}
-	}
-	r.last[kind] = time.Now()
-	return true
 }
 
 // forgetKnown lets the annotations go of resolved alerts that are in no group.

@@ -39,8 +39,8 @@ type board struct {
 	calls   int
 	closing bool
 	err     error
-	// culprit is the subject of the call that waited for its answer when the board ended.
-	culprit string
+	// culprits are the subjects of the call that waited for its answer when the board ended.
+	culprits []string
 
 	// broken is called once, if the process ends by itself or doesn't keep to the protocol.
 	broken func(*board, error)
@@ -216,7 +216,7 @@ func (b *board) fail(err error) {
 		b.err = err
 		b.waiting = nil
 		if len(waiting) > 0 {
-			b.culprit = waiting[0].calls[len(waiting[0].answers)].subject()
+			b.culprits = waiting[0].calls[len(waiting[0].answers)].subjects()
 		}
 		for _, t := range waiting {
 			t.err = err

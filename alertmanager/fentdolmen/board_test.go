@@ -51,7 +51,7 @@ func TestAnswersComeInOrder(t *testing.T) {
 	var batches []*batch
 	for i := 0; i < 20; i++ {
 		labels := model.LabelSet{"alertname": model.LabelValue(fmt.Sprint(i))}
-		batches = append(batches, b.submit(insertCall(labels, 0, nil), insertCall(nil, 0, nil), summaryCall()))
+		batches = append(batches, b.submit(insertsCall(insertItem(labels, 0, 0, nil)), insertsCall(insertItem(nil, 0, 0, nil)), summaryCall()))
 	}
 	for i, t1 := range batches {
 		answers, err := t1.wait()
@@ -59,8 +59,11 @@ func TestAnswersComeInOrder(t *testing.T) {
 			t.Fatal(err)
 		}
 		var r *refusal
-		if err := t1.calls[1].decode(answers[1], nil); !errors.As(err, &r) || r.Call != "insert" {
-			t.Errorf("without labels: %v", err)
+		if b.refusals(t1.calls[0], answers[0]) != nil {
+			t.Errorf("%s", answers[0])
+		}
+		if errs := b.refusals(t1.calls[1], answers[1]); len(errs) != 1 || !errors.As(errs[0], &r) || r.Call != "insert" {
+			t.Errorf("without labels: %v", errs)
 		}
 		var got summary
 		if err := t1.calls[2].decode(answers[2], &got); err != nil || got.Alerts != int64(i+1) {

@@ -16,33 +16,9 @@ type call struct {
 	name    string
 	timed   bool
 	args    []byte
-	answers []string // the fields with which an answer can begin, besides `error`
+	items   [][]byte // of `inserts` alone, in place of args: the arguments of each insert
+	answers []string // the fields with which an answer can begin, besides `error`; nil if the answer doesn't matter
 }
-
-// refusal is an answer `error`: the call changed nothing.
-type refusal struct {
-	Call    string `json:"-"`
-	Pointer string `json:"pointer"`
-	Kind    string `json:"kind"`
-	Message string `json:"message"`
-}
-
-// Error says which call was rejected, where and why.
-func (r *refusal) Error() string {
-	return fmt.Sprintf("the board rejects %s: %s at %q: %s", r.Call, r.Kind, r.Pointer, r.Message)
-}
-
-// The kinds of refusals that the dispatcher acts on.
-const (
-	tooManyNames    = "TooManyNames"
-	tooManyGroups   = "TooManyGroups"
-	tooManySilences = "TooManySilences"
-	tooManyOpen     = "TooManyOpen"
-	historyFull     = "HistoryFull"
-	noMemory        = "memory"
-	// untold: the call was made, and its answer is lost. What the dispatcher knows of the board is no longer true.
-	untold = "untold"
-)
 
 var (
 	errorField = []byte(`{"error":`)
@@ -57,10 +33,13 @@ func beginCall() call {
 	return call{name: "begin", timed: true, answers: []string{"flush", "quiet", "nothing_due"}}
 }
 func maintainCall() call { return call{name: "maintain", timed: true, answers: []string{"maintained"}} }
-func forgetCall() call   { return call{name: "forget", timed: true, answers: []string{"forgotten"}} }
-func groupsCall() call   { return call{name: "groups", answers: []string{"groups"}} }
-func summaryCall() call  { return call{name: "summary", answers: []string{"summary"}} }
-func takeCall() call     { return call{name: "take_history", answers: []string{"taken"}} }
+
+// removeGroupsCall removes the groups without alerts and nothing else. Not every board has it.
+func removeGroupsCall() call { return call{name: "remove_empty_groups", timed: true} }
+func forgetCall() call       { return call{name: "forget", timed: true, answers: []string{"forgotten"}} }
+func groupsCall() call       { return call{name: "groups", answers: []string{"groups"}} }
+func summaryCall() call      { return call{name: "summary", answers: []string{"summary"}} }
+func takeCall() call         { return call{name: "take_history", answers: []string{"taken"}} }
 
 // configCall opens the board. Its value is the whole object of an alertmanager.yml.
 func configCall(value map[string]interface{}) (call, error) {
@@ -69,32 +48,6 @@ func configCall(value map[string]interface{}) (call, error) {
 		return call{}, err
 	}
 	return call{name: "alertmanager", args: args[1 : len(args)-1], answers: []string{"opened"}}, nil
-}
-
-// mostLabels and mostBytes bound what is sent of an alert: the board rejects more, but it would read all of it first.
-const mostLabels, mostBytes = 64, 1 << 20
-
-// tooLarge is the refusal of an alert that isn't sent, nil of another one.
-func tooLarge(labels model.LabelSet) error {
-	bytes := 0
-	for name, value := range labels {
-		bytes += len(name) + len(value)
-	}
-	if len(labels) <= mostLabels && bytes <= mostBytes {
-		return nil
-	}
-	return &refusal{"insert", "/insert/labels", "value", fmt.Sprintf("%d labels of %d bytes, and there can be %d of %d", len(labels), bytes, mostLabels, mostBytes)}
-}
-
-// insertCall inserts an alert, with times of the board.
-func insertCall(labels model.LabelSet, starts int64, ends *int64) call {
-	args := make([]byte, 0, 64*(len(labels)+1))
-	args = append(appendLabels(append(args, `"labels":`...), labels), `,"starts":`...)
-	args = strconv.AppendInt(args, starts, 10)
-	if ends != nil {
-		args = strconv.AppendInt(append(args, `,"ends":`...), *ends, 10)
-	}
-	return call{name: "insert", timed: true, args: args, answers: []string{"inserted"}}
 }
 
 // matcher is a name, an operator and a value.
@@ -130,22 +83,34 @@ func loadCall(r row) (call, error) {
 	return call{name: "load", timed: true, args: append([]byte(`"row":`), value...), answers: []string{"loaded"}}, err
 }
 
-// subject is what an insert or a silence is about, without its number and its times. Of another call it is empty.
-func (c call) subject() string {
-	end := bytes.LastIndex(c.args, []byte(`,"starts":`))
-	begin := bytes.Index(c.args, []byte(`"matchers":`))
-	switch {
-	case c.name == "insert" && end >= 0:
-		return string(c.args[:end])
-	case c.name == "silence" && begin >= 0 && begin < end:
-		return string(c.args[begin:end])
+// subjects is what a silence or inserts are about, without numbers and times. Other calls have none.
+func (c call) subjects() []string {
+	if c.name == "silence" {
+		return []string{between(c.args, `"matchers":`, `,"starts":`)}
 	}
-	return ""
+	out := make([]string, 0, len(c.items))
+	for _, it := range c.items {
+		out = append(out, subjectOf(it))
+	}
+	return out
+}
+
+// between is the part from the first `begin` to the last `end`. No text of JSON has these in it: its quotes are escaped.
+func between(text []byte, begin, end string) string {
+	from, to := bytes.Index(text, []byte(begin)), bytes.LastIndex(text, []byte(end))
+	if from < 0 || to < from {
+		return ""
+	}
+	return string(text[from:to])
 }
 
 // appendLine appends the line of a call.
 func (c call) appendLine(out []byte, now int64) []byte {
-	out = append(append(append(out, `{"`...), c.name...), `":{`...)
+	out = append(append(append(out, `{"`...), c.name...), `":`...)
+	if c.items != nil {
+		return append(append(appendItems(out, c.items), '}'), '\n')
+	}
+	out = append(out, '{')
 	if c.timed {
 		out = strconv.AppendInt(append(out, `"now":`...), now, 10)
 		if len(c.args) > 0 {
@@ -157,7 +122,7 @@ func (c call) appendLine(out []byte, now int64) []byte {
 
 // fits tells whether a line can be an answer to the call.
 func (c call) fits(line []byte) bool {
-	if bytes.HasPrefix(line, errorField) {
+	if bytes.HasPrefix(line, errorField) || c.answers == nil {
 		return true
 	}
 	for _, it := range c.answers {
@@ -220,67 +185,4 @@ func appendText(out []byte, text string) []byte {
 		}
 	}
 	return append(append(append(out, '"'), text...), '"')
-}
-
-// The board's views.
-
-type groupID struct {
-	Route  string         `json:"route"`
-	Labels model.LabelSet `json:"labels"`
-}
-
-type boardAlert struct {
-	Labels model.LabelSet `json:"labels"`
-	Starts int64          `json:"starts"`
-	Ends   *int64         `json:"ends"`
-}
-
-// notice is what an integration is to be sent. With nothing in it the success is that there is nothing to send.
-type notice struct {
-	Integration int          `json:"integration"`
-	Kind        string       `json:"kind"`
-	Firing      []boardAlert `json:"firing"`
-	Resolved    []boardAlert `json:"resolved"`
-}
-
-// empty returns whether there is nothing to send.
-func (n notice) empty() bool { return len(n.Firing)+len(n.Resolved) == 0 }
-
-type flush struct {
-	Ticket   int64    `json:"ticket"`
-	Group    groupID  `json:"group"`
-	Receiver string   `json:"receiver"`
-	Deadline int64    `json:"deadline"`
-	Notices  []notice `json:"notices"`
-}
-
-// row is one of the notification log in the board's terms and times.
-type row struct {
-	Group       groupID          `json:"group"`
-	Receiver    string           `json:"receiver"`
-	Integration int              `json:"integration"`
-	Kind        string           `json:"kind"`
-	Moment      int64            `json:"moment"`
-	Expiry      int64            `json:"expiry"`
-	Firing      []model.LabelSet `json:"firing"`
-	Resolved    []model.LabelSet `json:"resolved"`
-}
-
-type boardGroup struct {
-	Group   groupID      `json:"group"`
-	Due     int64        `json:"due"`
-	Flushed bool         `json:"flushed"`
-	Alerts  []boardAlert `json:"alerts"`
-}
-
-type nextDue struct {
-	At *int64 `json:"at"`
-}
-
-type summary struct {
-	Calls   int64 `json:"calls"`
-	Groups  int64 `json:"groups"`
-	Alerts  int64 `json:"alerts"`
-	Flushes int64 `json:"flushes"`
-	Entries int64 `json:"entries"`
 }

@@ -21,7 +21,10 @@ import (
 // session is a board with its configuration, and what is being sent for it. A reload, and a board that ended, begin another one.
 type session struct {
 	*plan
+	routeNames
 	board *board
+	// removesGroups: the board has a call that removes empty groups and nothing else.
+	removesGroups bool
 	// mark updates the states that the API shows.
 	mark    func(model.LabelSet)
 	ctx     context.Context
@@ -61,8 +64,8 @@ type dispatcher struct {
 	room     room
 	culprits culprits
 
-	followed int64 // of upkeep alone: the clock\'s offset that the silences and the saved log have
-	isFull   bool  // of run alone: as many flushes are open as the board can have
+	followed int64 // of upkeep alone: the clock's offset that the silences and the saved log have
+	isHeldUp bool  // of run alone: the board rejected the last begin
 	wake     chan struct{}
 	isLong   chan struct{}
 	stop     chan struct{}
@@ -122,10 +125,10 @@ func (d *dispatcher) try(s *session, c call) string {
 }
 
 // start runs the flushes and the upkeep until close.
-func (d *dispatcher) start(forgetEvery time.Duration) {
+func (d *dispatcher) start(maintainEvery, forgetEvery time.Duration) {
 	d.running.Add(3)
 	go d.run()
-	go d.upkeep(forgetEvery)
+	go d.upkeep(maintainEvery, forgetEvery)
 	go d.takeHistories()
 }
 
@@ -193,86 +196,30 @@ func (d *dispatcher) begin(s *session) bool {
 	line := answers[0]
 	switch {
 	case bytes.HasPrefix(line, flushField):
-		d.isFull = false
+		d.isHeldUp = false
 		s.sending.Add(1)
 		go d.send(s, c, line)
 		return true
 	case bytes.HasPrefix(line, quietField):
 		return true
 	case bytes.HasPrefix(line, errorField):
-		// At a limit the group stays due: the next flush that ends wakes the loop up.
-		err := s.board.decode(c, line, nil)
-		if kind := d.count(err); kind == historyFull {
-			d.takeHistory(s)
-		}
-		if !d.isFull {
-			level.Warn(d.logger).Log("msg", "flushes wait", "err", err)
-		}
-		d.isFull = true
+		return d.beginRejected(s, s.board.decode(c, line, nil))
 	}
 	return false
 }
 
-// upkeep removes what is over from the board. As in Alertmanager, empty groups go every 30 seconds.
-func (d *dispatcher) upkeep(forgetEvery time.Duration) {
-	defer d.running.Done()
-	second, groups, forget := time.NewTicker(time.Second), time.NewTicker(30*time.Second), time.NewTicker(forgetEvery)
-	defer second.Stop()
-	defer groups.Stop()
-	defer forget.Stop()
-	for {
-		select {
-		case <-second.C:
-			d.followClock()
-		case <-groups.C:
-			if s := d.session(); s != nil {
-				d.try(s, maintainCall())
-				d.retryRefused(s)
-				if d.mirror.catchUp() {
-					d.syncSilences(s)
-				}
-			}
-		case <-forget.C:
-			if s := d.session(); s != nil {
-				d.try(s, forgetCall())
-				d.forgetKnown(s)
-				d.mirror.forget(time.Now())
-			}
-		case <-d.stop:
-			return
-		}
+// beginRejected makes room for the history, which makes another try worth while. Without memory the group stays due.
+func (d *dispatcher) beginRejected(s *session, err error) bool {
+	kind, wasHeldUp := d.count(err), d.isHeldUp
+	d.isHeldUp = true
+	if !wasHeldUp {
+		level.Error(d.logger).Log("msg", "flushes wait", "err", err)
 	}
-}
-
-// takeHistories takes the history of the board whenever it has grown by so many calls.
-func (d *dispatcher) takeHistories() {
-	defer d.running.Done()
-	for {
-		select {
-		case <-d.isLong:
-			if s := d.session(); s != nil {
-				d.takeHistory(s)
-			}
-		case <-d.stop:
-			return
-		}
+	if kind != historyFull || wasHeldUp {
+		return false
 	}
-}
-
-// takeHistory moves the history of a board to the file, as the board prints it, or drops it.
-func (d *dispatcher) takeHistory(s *session) {
-	c := takeCall()
-	answers, err := s.board.submit(c).wait()
-	if err != nil {
-		return
-	}
-	if bytes.HasPrefix(answers[0], errorField) {
-		err := s.board.decode(c, answers[0], nil)
-		d.count(err)
-		level.Error(d.logger).Log("msg", "history not taken", "err", err)
-		return
-	}
-	d.history.add(answers[0])
+	d.takeHistory(s)
+	return true
 }
 
 // close ends what is being sent, and the board.

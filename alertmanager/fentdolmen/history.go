@@ -1,12 +1,12 @@
-// The board's history: it is taken in time, and kept in a file if one is named, to audit it with tools/replay.
+// The board's history: it is taken in time, and kept in a file if one is named, to audit it with examples/live/replay.
 package main
 
 import (
 	"bytes"
-	"fmt"
 	"io"
 	"os"
 	"sync"
+	"time"
 
 	"github.com/go-kit/log"
 	"github.com/go-kit/log/level"
@@ -15,24 +15,28 @@ import (
 // mostUnwritten is how many bytes of a history wait in memory while the disk is full.
 const mostUnwritten = 64 << 20
 
-// historyFile appends lines to a file, or drops them if it has no name. It is safe for several goroutines.
+// historyFile appends lines to a file, or drops them if it has no name. One goroutine writes, so that a disk that is stuck holds up
+// nobody who adds.
 type historyFile struct {
 	path   string
 	logger log.Logger
 	faults func()
 
+	file *os.File // of run alone, as is good: its length up to its last whole line
+	good int64
+
 	mtx       sync.Mutex
-	file      *os.File
-	good      int64
 	unwritten [][]byte
-	size      int
+	size      int // of what waits, in bytes, also of what run has taken
 	// lost: lines of this board's history were dropped, so no further ones are of use.
-	lost bool
+	lost              bool
+	wake, stop, ended chan struct{}
 }
 
 // openHistory opens the file to append to it. Without a path all is dropped.
 func openHistory(path string, logger log.Logger, faults func()) (*historyFile, error) {
-	h := &historyFile{path: path, logger: log.With(logger, "file", path), faults: faults}
+	h := &historyFile{path: path, logger: log.With(logger, "file", path), faults: faults,
+		wake: make(chan struct{}, 1), stop: make(chan struct{}), ended: make(chan struct{})}
 	if path == "" {
 		return h, nil
 	}
@@ -72,14 +76,12 @@ func (h *historyFile) begin(value object) {
 		return
 	}
 	h.mtx.Lock()
-	if h.lost {
-		h.lost, h.unwritten, h.size = false, nil, 0
-	}
+	h.lost = false
 	h.mtx.Unlock()
 	h.add(c.appendLine(nil, 0))
 }
 
-// add adds a line as the board printed it.
+// add adds a line as the board printed it. It never waits for the disk.
 func (h *historyFile) add(line []byte) {
 	if h.path == "" {
 		return
@@ -89,33 +91,77 @@ func (h *historyFile) add(line []byte) {
 	if h.lost {
 		return
 	}
+	if h.size+len(line) > mostUnwritten {
+		h.lost = true
+		level.Error(h.logger).Log("msg", "history not written: the rest of this board's is dropped", "bytes", h.size)
+		return
+	}
 	h.unwritten, h.size = append(h.unwritten, line), h.size+len(line)
-	if err := h.write(); err != nil {
-		h.faults()
-		h.lost = h.size > mostUnwritten
-		if h.lost {
-			h.unwritten, h.size = nil, 0
-			err = fmt.Errorf("%w; the rest of this board's history is dropped", err)
-		}
-		level.Error(h.logger).Log("msg", "history not written", "err", err)
+	select {
+	case h.wake <- struct{}{}:
+	default:
 	}
 }
 
-// write writes what waits. After a fault the rest waits on, and a part of a line is cut off the next time.
-func (h *historyFile) write() error {
+// take returns what was added since the last time.
+func (h *historyFile) take() [][]byte {
+	h.mtx.Lock()
+	defer h.mtx.Unlock()
+	lines := h.unwritten
+	h.unwritten = nil
+	return lines
+}
+
+// run writes until close, and again some time after a fault.
+func (h *historyFile) run() {
+	defer close(h.ended)
+	var lines [][]byte
+	var again <-chan time.Time
+	for isLast := false; !isLast; {
+		select {
+		case <-h.wake:
+		case <-again:
+		case <-h.stop:
+			isLast = true
+		}
+		lines, again = append(lines, h.take()...), nil
+		var err error
+		if lines, err = h.write(lines); err != nil {
+			h.faults()
+			level.Error(h.logger).Log("msg", "history not written", "err", err)
+			again = time.After(retryMost)
+		}
+	}
+}
+
+// close writes what is left. A disk that is stuck isn't waited for.
+func (h *historyFile) close() {
+	close(h.stop)
+	select {
+	case <-h.ended:
+	case <-time.After(retryMost):
+	}
+}
+
+// write writes lines, and returns those that are left after a fault: a part of a line is cut off the next time.
+func (h *historyFile) write(lines [][]byte) ([][]byte, error) {
+	if len(lines) == 0 {
+		return nil, nil
+	}
 	if err := h.file.Truncate(h.good); err != nil {
-		return err
+		return lines, err
 	}
 	if _, err := h.file.Seek(h.good, io.SeekStart); err != nil {
-		return err
+		return lines, err
 	}
-	for len(h.unwritten) > 0 {
-		line := h.unwritten[0]
+	for i, line := range lines {
 		if _, err := h.file.Write(line); err != nil {
-			return err
+			return lines[i:], err
 		}
 		h.good += int64(len(line))
-		h.unwritten, h.size = h.unwritten[1:], h.size-len(line)
+		h.mtx.Lock()
+		h.size -= len(line)
+		h.mtx.Unlock()
 	}
-	return nil
+	return nil, nil
 }

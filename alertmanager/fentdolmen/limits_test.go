@@ -2,6 +2,7 @@ package main
 
 import (
 	"fmt"
+	"strings"
 	"testing"
 	"time"
 
@@ -12,7 +13,7 @@ import (
 )
 
 func TestAtALimitWhatIsOverIsRemoved(t *testing.T) {
-	for how, kind := range map[string]string{"names": tooManyNames, "groups": tooManyGroups} {
+	for how, kind := range map[string]string{"names": tooManyNames, "groups": tooManyGroups, "removes": tooManyGroups} {
 		t.Run(how, func(t *testing.T) {
 			d := testDispatcher(t, fake(t, how), oneReceiver)
 			put := dispatched{d.alerts, d}
@@ -36,8 +37,10 @@ func TestAtALimitWhatIsOverIsRemoved(t *testing.T) {
 			if len(d.refused) != 2 {
 				t.Errorf("%d alerts wait", len(d.refused))
 			}
-			d.try(d.session(), map[string]call{"names": forgetCall(), "groups": maintainCall()}[how])
-			d.retryRefused(d.session())
+			if how == "names" {
+				d.forget(d.session())
+			}
+			d.lookAgain(d.session())
 			if len(d.refused) != 0 {
 				t.Error("they aren't tried again")
 			}
@@ -46,15 +49,23 @@ func TestAtALimitWhatIsOverIsRemoved(t *testing.T) {
 }
 
 func TestOneRejectedAlertRejectsNoOther(t *testing.T) {
-	d := testDispatcher(t, fake(t, "huge"), oneReceiver)
-	if err := (dispatched{d.alerts, d}).Put(alert("alertname=1"), alert("alertname=2,x=1"), alert("alertname=3")); err == nil {
-		t.Error("no error")
-	}
-	if got := testutil.ToFloat64(d.metrics.refused.WithLabelValues("insert", "value")); got != 1 {
-		t.Errorf("%v refusals are counted", got)
-	}
-	if len(d.refused) != 1 {
-		t.Errorf("%d alerts wait", len(d.refused))
+	large := "alertname=2,x=" + strings.Repeat("x", mostBytes)
+	for how, rejected := range map[string]string{"the board": "alertname=2,y=" + strings.Repeat("y", 5000), "the program": large} {
+		t.Run(how, func(t *testing.T) {
+			d := testDispatcher(t, realBoard(t), oneReceiver)
+			if err := (dispatched{d.alerts, d}).Put(alert("alertname=1"), alert(rejected), alert("alertname=3")); err == nil {
+				t.Error("no error")
+			}
+			if got := d.summary().Alerts; got != 2 {
+				t.Errorf("the board has %d alerts", got)
+			}
+			if got := testutil.ToFloat64(d.metrics.refused.WithLabelValues("insert", "value")); got != 1 {
+				t.Errorf("%v refusals are counted", got)
+			}
+			if len(d.refused) != 1 {
+				t.Errorf("%d alerts wait", len(d.refused))
+			}
+		})
 	}
 }
 
@@ -94,6 +105,61 @@ func TestAnAlertThatEndsBoardsEndsTwo(t *testing.T) {
 	}
 	if err := put.Put(alert("alertname=3")); err != nil || testutil.ToFloat64(d.metrics.restarts) != 2 {
 		t.Error("the third board isn't there: ", err)
+	}
+}
+
+// TestALineThatEndsBoards: each alert of a line at which a board ended is tried alone, and the one at fault is found.
+func TestALineThatEndsBoards(t *testing.T) {
+	d := testDispatcher(t, fake(t, "poison"), oneReceiver)
+	put := dispatched{d.alerts, d}
+	var all []*types.Alert
+	for i := 0; i < 20; i++ {
+		all = append(all, alert(fmt.Sprint("alertname=", i)))
+	}
+	put.Put(append(all, alert("alertname=poison"))...)
+	waitFor(t, func() bool { return testutil.ToFloat64(d.metrics.restarts) == 2 && d.isDown() == nil })
+	if err := put.Put(all...); err != nil {
+		t.Error("an alert of the same line is rejected: ", err)
+	}
+	if put.Put(alert("alertname=poison")) == nil || testutil.ToFloat64(d.metrics.restarts) != 2 {
+		t.Error("the alert at fault isn't kept from the third board")
+	}
+}
+
+func TestSuspicionsEnd(t *testing.T) {
+	var c culprits
+	about := func(subject string) func() string { return func() string { return subject } }
+	c.add([]string{"a", "b"}, time.Now())
+	if isSuspect, err := c.check("insert", about("a")); !isSuspect || err != nil {
+		t.Error("a board ended at it: ", err)
+	}
+	c.add([]string{"a"}, time.Now())
+	if _, err := c.check("insert", about("a")); err == nil {
+		t.Error("two boards ended at it")
+	}
+	if isSuspect, err := c.check("insert", about("c")); isSuspect || err != nil {
+		t.Error("it is suspected of nothing: ", err)
+	}
+	c.known["a"] = suspicion{2, time.Now().Add(-suspectedFor - time.Minute)}
+	if isSuspect, err := c.check("insert", about("a")); isSuspect || err != nil {
+		t.Error("it isn't tried again: ", err)
+	}
+	if c.add(nil, time.Now()); len(c.known) != 1 {
+		t.Errorf("%d suspicions are left", len(c.known))
+	}
+}
+
+// TestAFullHistoryIsTaken: a flush that the board can't begin for its history is begun after that was taken.
+func TestAFullHistoryIsTaken(t *testing.T) {
+	d := testDispatcher(t, fake(t, "full"), oneReceiver)
+	if !d.begin(d.session()) {
+		t.Error("the flush isn't tried again at once")
+	}
+	if d.begin(d.session()) { // (nothing is due)
+		t.Error("it goes on without an end")
+	}
+	if got := testutil.ToFloat64(d.metrics.refused.WithLabelValues("begin", historyFull)); got != 1 {
+		t.Errorf("%v refusals are counted", got)
 	}
 }
 

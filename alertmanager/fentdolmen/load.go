@@ -3,6 +3,7 @@ package main
 
 import (
 	"context"
+	"errors"
 	"time"
 
 	"github.com/go-kit/log/level"
@@ -27,18 +28,12 @@ func (d *dispatcher) replace(old *session, p *plan, mark func(model.LabelSet)) e
 	if err != nil {
 		return err
 	}
-	c, err := configCall(p.value)
-	if err == nil {
-		err = b.ask(c, nil)
-	}
+	next, err := configured(b, p, mark)
 	if err != nil {
 		d.count(err)
 		b.close()
 		return err
 	}
-	next := &session{plan: p, board: b, mark: mark}
-	next.ctx, next.cancel = context.WithCancel(context.Background())
-
 	d.flushing.Lock()
 	defer d.flushing.Unlock()
 	if old != nil {
@@ -46,7 +41,10 @@ func (d *dispatcher) replace(old *session, p *plan, mark func(model.LabelSet)) e
 	}
 	d.history.begin(p.value)
 	d.mirror.reset()
+	// Most rows come before alerts have to wait. Those that peers send meanwhile are in the logbook, and come after.
+	later := d.loadRows(next, 0)
 	inserts, err := d.fill(next)
+	d.loadRows(next, later)
 	d.syncSilences(next)
 	for _, it := range inserts {
 		d.settle(next, it)
@@ -55,11 +53,42 @@ func (d *dispatcher) replace(old *session, p *plan, mark func(model.LabelSet)) e
 	return err
 }
 
-// fill gives the new board the log and the alerts, and makes its session the present one.
+// configured gives a new board its configuration, and makes a session of it.
+func configured(b *board, p *plan, mark func(model.LabelSet)) (*session, error) {
+	c, err := configCall(p.value)
+	if err != nil {
+		return nil, err
+	}
+	var answer opened
+	if err := b.ask(c, &answer); err != nil {
+		return nil, err
+	}
+	names, err := nameRoutes(p.root, answer.Routes)
+	if err != nil {
+		return nil, err
+	}
+	s := &session{plan: p, routeNames: names, board: b, mark: mark}
+	if s.removesGroups, err = hasCall(b, removeGroupsCall()); err != nil {
+		return nil, err
+	}
+	s.ctx, s.cancel = context.WithCancel(context.Background())
+	return s, nil
+}
+
+// hasCall returns whether the board knows a call, by making it: one that it doesn't know is rejected, and changes nothing.
+func hasCall(b *board, c call) (bool, error) {
+	err := b.ask(c, nil)
+	var r *refusal
+	if errors.As(err, &r) && r.Kind == unknown {
+		return false, nil
+	}
+	return err == nil, err
+}
+
+// fill gives the new board the alerts, and makes its session the present one.
 func (d *dispatcher) fill(s *session) ([]inserts, error) {
 	d.putting.Lock()
 	defer d.putting.Unlock()
-	d.loadRows(s)
 	all := d.alerts.GetPending()
 	defer all.Close()
 	d.mtx.Lock()
@@ -77,19 +106,11 @@ func (d *dispatcher) fill(s *session) ([]inserts, error) {
 	return append(out, d.insert(s, some)), all.Err()
 }
 
-// loadRows gives the new board the rows of the log that have a place in its configuration. The others stay in the logbook.
-func (d *dispatcher) loadRows(s *session) {
-	kept, _ := decodeRows(d.book.lines())
-	now, offset, loaded := d.clock.now(), d.clock.offset(), 0
-	var calls []call
-	for _, k := range kept {
-		rows := s.place(k, now, offset)
-		for _, r := range rows {
-			if c, err := loadCall(r); err == nil && r.Expiry > now {
-				calls = append(calls, c)
-			}
-		}
-	}
+// loadRows gives the new board the rows since this number that have a place in its configuration. The others stay in the logbook. It
+// returns the number for the next time.
+func (d *dispatcher) loadRows(s *session, since int64) int64 {
+	lines, next := d.book.lines(since)
+	calls, loaded := d.loadCalls(s, lines), 0
 	for len(calls) > 0 {
 		some := calls
 		if len(some) > most {
@@ -98,9 +119,24 @@ func (d *dispatcher) loadRows(s *session) {
 		calls = calls[len(some):]
 		loaded += d.checkAll(s, s.board.submit(some...), "row of the log not taken over")
 	}
-	if len(kept) > 0 {
-		level.Info(d.logger).Log("msg", "notification log taken over", "rows", len(kept), "loaded", loaded)
+	if len(lines) > 0 {
+		level.Info(d.logger).Log("msg", "notification log taken over", "rows", len(lines), "loaded", loaded)
 	}
+	return next
+}
+
+// loadCalls is the calls that load these lines of the logbook.
+func (d *dispatcher) loadCalls(s *session, lines [][]byte) (calls []call) {
+	kept, _ := decodeRows(lines)
+	now, offset := d.clock.now(), d.clock.offset()
+	for _, k := range kept {
+		for _, r := range s.place(k, now, offset) {
+			if c, err := loadCall(r); err == nil && r.Expiry > now {
+				calls = append(calls, c)
+			}
+		}
+	}
+	return calls
 }
 
 // checkAll waits for a batch, logs what the board rejected, and returns how much it didn't.
@@ -138,7 +174,7 @@ func (d *dispatcher) broken(b *board, fault error) {
 	}
 	level.Error(d.logger).Log("msg", "the board is gone: a new one goes on from the notification log", "err", fault)
 	d.metrics.restarts.Inc()
-	d.culprits.add(b.culprit)
+	d.culprits.add(b.culprits, time.Now())
 	d.mtx.Lock()
 	d.down = fault
 	d.mtx.Unlock()

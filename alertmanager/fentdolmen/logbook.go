@@ -7,17 +7,19 @@ import (
 )
 
 // entry is a row as a line of the file. heard is when it came from a peer, in the board's time. offset is the clock's, by which a row of
-// our own got its times.
+// our own got its times. number counts the rows that came.
 type entry struct {
 	line           []byte
 	moment, expiry int64
 	heard, offset  int64
+	number         int64
 }
 
 // logbook has the last row of each group and integration.
 type logbook struct {
 	mtx  sync.Mutex
 	rows map[string]entry
+	last int64 // the number of the last row
 	// added are the lines since the file was last written to; wake has room for one word that there are some. moved: older lines changed.
 	added   [][]byte
 	isMoved bool
@@ -33,7 +35,7 @@ func newLogbook() *logbook {
 func (l *logbook) put(k keptRow, offset int64) []byte {
 	line := lineOf(k)
 	l.mtx.Lock()
-	l.set(k, entry{line, k.Moment, k.Expiry, 0, offset})
+	l.set(k, entry{line: line, moment: k.Moment, expiry: k.Expiry, offset: offset})
 	l.mtx.Unlock()
 	l.poke()
 	return line
@@ -46,7 +48,7 @@ func (l *logbook) merge(k keptRow, now int64) bool {
 	old, ok := l.rows[k.id()]
 	isNew := !ok || old.moment < k.Moment
 	if isNew {
-		l.set(k, entry{line, k.Moment, k.Expiry, now, 0})
+		l.set(k, entry{line: line, moment: k.Moment, expiry: k.Expiry, heard: now})
 	}
 	l.mtx.Unlock()
 	l.poke()
@@ -64,6 +66,8 @@ func lineOf(k keptRow) []byte {
 
 // set puts an entry, with the lock held.
 func (l *logbook) set(k keptRow, it entry) {
+	l.last++
+	it.number = l.last
 	l.rows[k.id()] = it
 	l.added = append(l.added, it.line)
 }
@@ -100,7 +104,7 @@ func (l *logbook) move(offset int64) {
 		var k keptRow
 		if by := it.offset - offset; json.Unmarshal(it.line, &k) == nil {
 			k.Moment, k.Expiry = k.Moment+by, k.Expiry+by
-			moved[id] = entry{lineOf(k), k.Moment, k.Expiry, 0, offset}
+			moved[id] = entry{line: lineOf(k), moment: k.Moment, expiry: k.Expiry, offset: offset, number: it.number}
 		}
 	}
 	l.mtx.Lock()
@@ -130,15 +134,17 @@ func (l *logbook) whole(now int64) [][]byte {
 	return lines
 }
 
-// lines returns the lines of all rows.
-func (l *logbook) lines() [][]byte {
+// lines returns the lines of all rows from this number on, and the number for the next time.
+func (l *logbook) lines(since int64) ([][]byte, int64) {
 	l.mtx.Lock()
 	defer l.mtx.Unlock()
-	lines := make([][]byte, 0, len(l.rows))
+	var lines [][]byte
 	for _, it := range l.rows {
-		lines = append(lines, it.line)
+		if it.number >= since {
+			lines = append(lines, it.line)
+		}
 	}
-	return lines
+	return lines, l.last + 1
 }
 
 // heardSince returns the row of an id if a peer sent it since then.

@@ -60,7 +60,7 @@ func openLogFile(path string, book *logbook, now func() int64, logger log.Logger
 		level.Error(f.logger).Log("msg", "lines of the notification log aren't rows: dropped", "lines", bad-1)
 	}
 	for _, k := range rows {
-		book.rows[k.id()] = entry{lineOf(k), k.Moment, k.Expiry, 0, 0}
+		book.rows[k.id()] = entry{line: lineOf(k), moment: k.Moment, expiry: k.Expiry}
 	}
 	if f.file, err = os.OpenFile(path, os.O_CREATE|os.O_RDWR, 0o666); err == nil {
 		err = f.cut()

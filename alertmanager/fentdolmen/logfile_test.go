@@ -16,8 +16,8 @@ func kept(name string, moment, expiry int64) keptRow {
 		Moment: moment, Expiry: expiry, Firing: []model.LabelSet{{"alertname": model.LabelValue(name)}}, Resolved: []model.LabelSet{}}
 }
 
-// opened is a logbook of this file, whose writer doesn't run yet.
-func opened(t *testing.T, path string) (*logFile, *int) {
+// openedFile is a logbook of this file, whose writer doesn't run yet.
+func openedFile(t *testing.T, path string) (*logFile, *int) {
 	faults := new(int)
 	f, err := openLogFile(path, newLogbook(), func() int64 { return 1000 }, log.NewNopLogger(), func() { *faults++ })
 	if err != nil {
@@ -47,14 +47,14 @@ func TestTornLinesAreDropped(t *testing.T) {
 	whole := string(lineOf(kept("A", 1, 5000))) + string(lineOf(kept("B", 2, 5000)))
 	for cut := 0; cut <= len(whole); cut += 7 {
 		os.WriteFile(path, []byte(whole[:cut]), 0o666)
-		f, faults := opened(t, path)
+		f, faults := openedFile(t, path)
 		if rows, lines := len(f.book.rows), strings.Count(whole[:cut], "\n"); rows != lines || *faults != 0 {
 			t.Fatalf("%d rows of %d bytes with %d lines", rows, cut, lines)
 		}
 		f.book.put(kept("C", 3, 5000), 0)
 		f.append()
 		f.file.Close()
-		if again, _ := opened(t, path); len(again.book.rows) != strings.Count(whole[:cut], "\n")+1 {
+		if again, _ := openedFile(t, path); len(again.book.rows) != strings.Count(whole[:cut], "\n")+1 {
 			t.Fatalf("a row behind a torn line is lost: %q", textOf(path))
 		}
 	}
@@ -63,7 +63,7 @@ func TestTornLinesAreDropped(t *testing.T) {
 func TestLinesThatArentRowsAreDropped(t *testing.T) {
 	path := filepath.Join(t.TempDir(), "log")
 	os.WriteFile(path, []byte("\x00\x00\n[]\n{}\n"+string(lineOf(kept("A", 1, 5000)))+"null\n"), 0o666)
-	if f, _ := opened(t, path); len(f.book.rows) != 1 {
+	if f, _ := openedFile(t, path); len(f.book.rows) != 1 {
 		t.Errorf("%d rows", len(f.book.rows))
 	}
 }
@@ -72,7 +72,7 @@ func TestTheLastLineCounts(t *testing.T) {
 	path := filepath.Join(t.TempDir(), "log")
 	// (the wall clock was set back between them)
 	os.WriteFile(path, append(lineOf(kept("A", 9, 5000)), lineOf(kept("A", 3, 4000))...), 0o666)
-	f, _ := opened(t, path)
+	f, _ := openedFile(t, path)
 	if it := f.book.rows[kept("A", 0, 0).id()]; len(f.book.rows) != 1 || it.moment != 3 {
 		t.Errorf("%v", f.book.rows)
 	}
@@ -80,7 +80,7 @@ func TestTheLastLineCounts(t *testing.T) {
 
 func TestRowsAreWrittenAndTheFileIsShortened(t *testing.T) {
 	path := filepath.Join(t.TempDir(), "log")
-	f, _ := opened(t, path)
+	f, _ := openedFile(t, path)
 	go f.run()
 	f.book.put(kept("over", 1, 900), 0)
 	f.book.put(kept("A", 1, 5000), 0)
@@ -100,7 +100,7 @@ func TestAFaultOfTheDiskIsSeenAndMended(t *testing.T) {
 	folder := filepath.Join(t.TempDir(), "data")
 	path := filepath.Join(folder, "log")
 	os.Mkdir(folder, 0o777)
-	f, faults := opened(t, path)
+	f, faults := openedFile(t, path)
 	f.file.Close() // (each write fails from now on)
 	os.RemoveAll(folder)
 	go f.run()
@@ -149,21 +149,5 @@ func TestRowsOfPeers(t *testing.T) {
 	l.put(kept("A", 3, 5000), 0)
 	if _, ok := l.heardSince(id, 1); ok {
 		t.Error("a row of our own came from no peer")
-	}
-}
-
-func TestTheHistoryEndsWithAWholeLine(t *testing.T) {
-	path := filepath.Join(t.TempDir(), "history")
-	long := strings.Repeat("x", 200_000)
-	for _, torn := range []string{"", "torn", long} {
-		os.WriteFile(path, []byte("{}\n"+long+"\n"+torn), 0o666)
-		h, err := openHistory(path, log.NewNopLogger(), func() {})
-		if err != nil {
-			t.Fatal(err)
-		}
-		h.add([]byte("next\n"))
-		if text := textOf(path); text != "{}\n"+long+"\nnext\n" {
-			t.Errorf("%d bytes", len(text))
-		}
 	}
 }

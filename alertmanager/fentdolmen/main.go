@@ -52,7 +52,7 @@ func run(args []string) int {
 	if p.coordinator.Reload() != nil { // (it logs why)
 		return 1
 	}
-	p.dispatcher.start(p.alertGC)
+	p.dispatcher.start(p.maintenance, p.alertGC)
 	return p.serve()
 }
 
@@ -136,6 +136,8 @@ func (p *program) buildDispatcher() error {
 	if err != nil {
 		return err
 	}
+	go history.run()
+	p.closing(history.close)
 	p.dispatcher = newDispatcher(p.options, p.metrics, notify.NewMetrics(p.reg), p.silences, book, history, clock, p.logger)
 	p.closing(p.dispatcher.close)
 	p.metrics.watch(p.reg, p.dispatcher, file)

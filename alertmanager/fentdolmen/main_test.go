@@ -1,11 +1,7 @@
 package main
 
 import (
-	"bufio"
-	"bytes"
 	"context"
-	"encoding/json"
-	"fmt"
 	"os"
 	"strings"
 	"testing"
@@ -27,60 +23,11 @@ import (
 // TestMain makes this program the board of some tests: FAKE_BOARD names what it does.
 func TestMain(m *testing.M) {
 	if how := os.Getenv("FAKE_BOARD"); how != "" {
-		fakeBoard(how)
+		(&fakeBoard{how, map[string]bool{}, map[string]int{}}).run()
 		os.Exit(0)
 	}
 	os.Exit(m.Run())
 }
-
-// fakeBoard answers lines as am-dispatch does, but for one thing:
-//   - `names`, `groups`: after three alerts no other is accepted until forget or maintain was called
-//   - `silences`: before forget no silence is accepted
-//   - `huge`: no alert with a label x is accepted
-//   - `poison`, `silent`: it ends at an alert of this name, at a silence
-//   - `ends`, `hangs`, `form`, `untold`: summary is answered by a fault of the protocol
-func fakeBoard(how string) {
-	in, had := bufio.NewScanner(os.Stdin), map[string]bool{}
-	for in.Scan() {
-		var line map[string]map[string]json.RawMessage
-		json.Unmarshal(in.Bytes(), &line)
-		for name, args := range line {
-			answer, isNew := fmt.Sprintf(`{%q:{}}`, fakeAnswers[name]), !had[string(args["labels"])]
-			switch {
-			case name == "insert" && how == "huge" && bytes.Contains(args["labels"], []byte(`"x"`)):
-				answer = `{"error":{"pointer":"/insert/labels","kind":"value","message":"too long"}}`
-			case name == "insert" && how == "poison" && bytes.Contains(args["labels"], []byte("poison")):
-				return
-			case name == "insert" && isNew && len(had) >= 3 && (how == "names" || how == "groups"):
-				answer = map[string]string{"names": `{"error":{"pointer":"/insert","kind":"TooManyNames","message":"no more"}}`,
-					"groups": `{"error":{"pointer":"/insert","kind":"TooManyGroups","message":"no more"}}`}[how]
-			case name == "insert":
-				had[string(args["labels"])] = true
-			case name == "silence" && how == "silences":
-				if answer = `{"error":{"pointer":"/silence","kind":"TooManySilences","message":"no more"}}`; had["forget"] {
-					answer = `{"silenced":{"replaced":false}}`
-				}
-			case name == "forget" && how == "silences":
-				had["forget"] = true
-			case name == "forget" && how == "names", name == "maintain" && how == "groups":
-				had = map[string]bool{}
-			case name == "summary" && how == "ends", name == "silence" && how == "silent":
-				return
-			case name == "summary" && how == "hangs":
-				time.Sleep(time.Minute)
-			case name == "summary" && how == "form":
-				answer = `{"groups":[]}`
-			case name == "summary" && how == "untold":
-				answer = `{"error":{"pointer":"","kind":"untold","message":"lost"}}`
-			}
-			fmt.Println(answer)
-		}
-	}
-}
-
-var fakeAnswers = map[string]string{"alertmanager": "opened", "insert": "inserted", "silence": "silenced", "report": "reported", "note": "noted",
-	"finish": "finished", "maintain": "maintained", "forget": "forgotten", "load": "loaded", "take_history": "taken", "next_due": "next_due",
-	"summary": "summary"}
 
 // fake has the next boards be this program.
 func fake(t *testing.T, how string) string {

@@ -95,7 +95,7 @@ func (o *options) texts() []textOption {
 		{"cluster.advertise-address", "", "The address that peers are given.", &o.advertise},
 		{"cluster.tls-config", "", "A file with the settings of TLS between peers.", &o.tls},
 		{"board", usualBoard(), "The program am_dispatch.", &o.board},
-		{"board.history", "", "A file for the history of the board, for tools/replay. Empty: none.", &o.history},
+		{"board.history", "", "A file for the history of the board, for examples/live/replay. Empty: none.", &o.history},
 	}
 }
 

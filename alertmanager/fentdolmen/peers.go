@@ -51,7 +51,10 @@ func (p *peers) broadcast(line []byte) {
 type gossiped struct{ d *dispatcher }
 
 // MarshalBinary is the whole log, for a peer that joins.
-func (g gossiped) MarshalBinary() ([]byte, error) { return bytes.Join(g.d.book.lines(), nil), nil }
+func (g gossiped) MarshalBinary() ([]byte, error) {
+	lines, _ := g.d.book.lines(0)
+	return bytes.Join(lines, nil), nil
+}
 
 // Merge takes rows of a peer over: the later one of each is kept.
 func (g gossiped) Merge(message []byte) error {
@@ -80,7 +83,7 @@ func (d *dispatcher) isSentByPeer(f *sending, n notice) bool {
 	if d.cluster.peer == nil {
 		return false
 	}
-	k, ok := f.plan.keep(row{Group: f.Group, Integration: n.Integration}, 0)
+	k, ok := f.session.keep(row{Group: f.Group, Integration: n.Integration}, 0)
 	if !ok {
 		return false
 	}

@@ -1,4 +1,4 @@
-// A configuration for the board: its value, the board's names, and the way back to Alertmanager's.
+// A configuration for the board: its value, and the board's names of receivers and routes.
 package main
 
 import (
@@ -21,9 +21,6 @@ type object = map[string]interface{}
 // plan is a configuration with all that the dispatcher needs of it. It never changes.
 type plan struct {
 	root *dispatch.Route
-	// routes are by the board's names. names are those names by Alertmanager's route key and receiver: several routes can share these.
-	routes map[string]*dispatch.Route
-	names  map[routeID][]string
 	// integrations are by receiver, in the order of positions. receivers are the board's names for Alertmanager's.
 	integrations map[string][]notify.Integration
 	receivers    map[string]string
@@ -32,7 +29,31 @@ type plan struct {
 	value object
 }
 
+// routeNames are the board's names of routes, there and back. Several routes can share Alertmanager's key and receiver.
+type routeNames struct {
+	routes map[string]*dispatch.Route
+	names  map[routeID][]string
+}
+
 type routeID struct{ key, receiver string }
+
+// nameRoutes takes the names that a board answered when it was opened: the root first, and each route before those below it.
+func nameRoutes(root *dispatch.Route, answered []string) (routeNames, error) {
+	out := routeNames{map[string]*dispatch.Route{}, map[routeID][]string{}}
+	count := 0
+	root.Walk(func(r *dispatch.Route) {
+		if count < len(answered) {
+			name, id := answered[count], routeID{r.Key(), r.RouteOpts.Receiver}
+			out.routes[name] = r
+			out.names[id] = append(out.names[id], name)
+		}
+		count++
+	})
+	if count != len(answered) || count != len(out.routes) {
+		return out, fmt.Errorf("the board answers %d names for %d routes: %q", len(answered), count, answered)
+	}
+	return out, nil
+}
 
 // usedReceivers are the receivers that a route names: no other is built.
 func usedReceivers(root *dispatch.Route) map[string]bool {
@@ -44,8 +65,8 @@ func usedReceivers(root *dispatch.Route) map[string]bool {
 // newPlan makes the plan of a configuration, whose receivers have these integrations.
 func newPlan(conf *config.Config, integrations map[string][]notify.Integration) *plan {
 	p := &plan{
-		root: dispatch.NewRoute(conf.Route, nil), routes: map[string]*dispatch.Route{}, names: map[routeID][]string{},
-		integrations: integrations, receivers: map[string]string{}, intervals: map[string][]timeinterval.TimeInterval{},
+		root: dispatch.NewRoute(conf.Route, nil), integrations: integrations,
+		receivers: map[string]string{}, intervals: map[string][]timeinterval.TimeInterval{},
 	}
 	for _, it := range conf.MuteTimeIntervals {
 		p.intervals[it.Name] = it.TimeIntervals
@@ -54,11 +75,11 @@ func newPlan(conf *config.Config, integrations map[string][]notify.Integration) 
 		p.intervals[it.Name] = it.TimeIntervals
 	}
 	receivers := p.boardReceivers(conf)
-	p.value = object{"receivers": receivers, "route": p.boardRoute(p.root, "", p.uses()), "inhibit_rules": boardRules(conf)}
+	p.value = object{"receivers": receivers, "route": p.boardRoute(p.root), "inhibit_rules": boardRules(conf)}
 	return p
 }
 
-// boardReceivers names the receivers. A name of its own for each makes the names of routes predictable.
+// boardReceivers names the receivers for the board: it rejects longer names, and makes those of routes from them.
 func (p *plan) boardReceivers(conf *config.Config) []object {
 	var out []object
 	for _, r := range conf.Receivers {
@@ -66,7 +87,7 @@ func (p *plan) boardReceivers(conf *config.Config) []object {
 		if !isUsed {
 			continue
 		}
-		name := fmt.Sprintf("r%d_%s", len(out), plain(r.Name))
+		name := fmt.Sprintf("r%d_%.40s", len(out), plain(r.Name))
 		p.receivers[r.Name] = name
 		value := object{"name": name}
 		for i := range list {
@@ -79,7 +100,7 @@ func (p *plan) boardReceivers(conf *config.Config) []object {
 	return out
 }
 
-// plain replaces all but letters and digits of ASCII by `_`: the board takes such a name into those of routes as it is.
+// plain replaces all but letters and digits of ASCII by `_`.
 func plain(s string) string {
 	return strings.Map(func(r rune) rune {
 		if r >= '0' && r <= '9' || r >= 'a' && r <= 'z' || r >= 'A' && r <= 'Z' {
@@ -89,31 +110,9 @@ func plain(s string) string {
 	}, s)
 }
 
-// uses counts the routes below the root by receiver.
-func (p *plan) uses() map[string]int {
-	uses := map[string]int{}
-	p.root.Walk(func(r *dispatch.Route) {
-		if r != p.root {
-			uses[r.RouteOpts.Receiver]++
-		}
-	})
-	return uses
-}
-
-// boardRoute is the value of a route. The board names the root `root`, the only route of a receiver by the receiver, and each other
-// one by its receiver and its positions from the root down.
-func (p *plan) boardRoute(r *dispatch.Route, path string, uses map[string]int) object {
+// boardRoute is the value of a route.
+func (p *plan) boardRoute(r *dispatch.Route) object {
 	opts := r.RouteOpts
-	name := p.receivers[opts.Receiver]
-	if r == p.root {
-		name = "root"
-	} else if uses[opts.Receiver] > 1 {
-		name += "_at" + path
-	}
-	p.routes[name] = r
-	id := routeID{r.Key(), opts.Receiver}
-	p.names[id] = append(p.names[id], name)
-
 	value := object{
 		"receiver": p.receivers[opts.Receiver], "group_by": groupBy(opts),
 		"group_wait":      model.Duration(opts.GroupWait).String(),
@@ -124,8 +123,8 @@ func (p *plan) boardRoute(r *dispatch.Route, path string, uses map[string]int) o
 		value["matchers"], value["continue"] = texts(r.Matchers), r.Continue
 	}
 	var below []object
-	for i, child := range r.Routes {
-		below = append(below, p.boardRoute(child, fmt.Sprintf("%s_%d", path, i), uses))
+	for _, child := range r.Routes {
+		below = append(below, p.boardRoute(child))
 	}
 	if below != nil {
 		value["routes"] = below
@@ -168,69 +167,4 @@ func boardRules(conf *config.Config) []object {
 		out = append(out, object{"source_matchers": texts(r.SourceMatchers), "target_matchers": texts(r.TargetMatchers), "equal": sorted(r.Equal)})
 	}
 	return out
-}
-
-// keptRow is a row of the notification log in Alertmanager's terms and times of the wall clock: it depends neither on the names of a
-// configuration nor on this run.
-type keptRow struct {
-	RouteKey    string           `json:"routeKey"`
-	Labels      model.LabelSet   `json:"groupLabels"`
-	Receiver    string           `json:"receiver"`
-	Integration string           `json:"integration"`
-	Index       int              `json:"index"`
-	Moment      int64            `json:"moment"`
-	Expiry      int64            `json:"expiry"`
-	Firing      []model.LabelSet `json:"firing"`
-	Resolved    []model.LabelSet `json:"resolved"`
-}
-
-// id is by what Alertmanager's log finds an entry.
-func (k keptRow) id() string {
-	out := appendText(nil, k.RouteKey)
-	out = appendText(append(out, ' '), k.Receiver)
-	out = append(out, fmt.Sprintf(" %s/%d ", k.Integration, k.Index)...)
-	return string(appendLabels(out, k.Labels))
-}
-
-// keep is a row of the board in Alertmanager's terms.
-func (p *plan) keep(r row, offset int64) (keptRow, bool) {
-	route, ok := p.routes[r.Group.Route]
-	if !ok || r.Integration >= len(p.integrations[route.RouteOpts.Receiver]) {
-		return keptRow{}, false
-	}
-	receiver := route.RouteOpts.Receiver
-	i := p.integrations[receiver][r.Integration]
-	return keptRow{route.Key(), r.Group.Labels, receiver, i.Name(), i.Index(), r.Moment - offset, r.Expiry - offset, r.Firing, r.Resolved}, true
-}
-
-// place is the rows of the board for a kept one: one for each route of its key and receiver, which share it in Alertmanager's log. A
-// time after `now`, from before the wall clock was set back, becomes `now`.
-func (p *plan) place(k keptRow, now, offset int64) []row {
-	moment, expiry := k.Moment+offset, k.Expiry+offset
-	if late := moment - now; late > 0 {
-		moment, expiry = now, expiry-late
-	}
-	if moment < 0 {
-		moment = 0
-	}
-	var out []row
-	for position, i := range p.integrations[k.Receiver] {
-		if i.Name() != k.Integration || i.Index() != k.Index {
-			continue
-		}
-		for _, name := range p.names[routeID{k.RouteKey, k.Receiver}] {
-			out = append(out, row{groupID{name, k.Labels}, p.receivers[k.Receiver], position, k.Integration, moment, expiry,
-				append([]model.LabelSet{}, k.Firing...), append([]model.LabelSet{}, k.Resolved...)})
-		}
-	}
-	return out
-}
-
-// expiry is when a row of this time can be forgotten, as in Alertmanager: after two repeats, but within the retention.
-func expiry(r *dispatch.Route, moment int64) int64 {
-	const retention = 120 * 3600 * 1000
-	if twice := 2 * r.RouteOpts.RepeatInterval.Milliseconds(); twice < retention {
-		return moment + twice
-	}
-	return moment + retention
 }

@@ -83,7 +83,7 @@ func names(set map[string]bool) (out []string) {
 }
 
 func TestRowsThereAndBack(t *testing.T) {
-	p := planOf(t, manyRoutes)
+	p := testDispatcher(t, fake(t, "usual"), manyRoutes).session()
 	labels := model.LabelSet{"alertname": "A"}
 	for name, route := range p.routes {
 		receiver := route.RouteOpts.Receiver
@@ -110,9 +110,9 @@ func TestRowsThereAndBack(t *testing.T) {
 
 // TestRoutesOfOneKeyShareRows: so it is in Alertmanager, where two routes of one receiver with equal matchers have one entry.
 func TestRoutesOfOneKeyShareRows(t *testing.T) {
-	p := planOf(t, "route: {receiver: team, routes: [{matchers: [a=b], continue: true}, {matchers: [a=b]}]}\n"+
-		"receivers: [{name: team, webhook_configs: [{url: 'http://127.0.0.1:9/'}]}]")
-	k, _ := p.keep(row{Group: groupID{Route: "r0_team_at_0"}, Moment: 10, Expiry: 20}, 0)
+	p := testDispatcher(t, fake(t, "usual"), "route: {receiver: team, routes: [{matchers: [a=b], continue: true}, {matchers: [a=b]}]}\n"+
+		"receivers: [{name: team, webhook_configs: [{url: 'http://127.0.0.1:9/'}]}]").session()
+	k, _ := p.keep(row{Group: groupID{Route: "route 1"}, Moment: 10, Expiry: 20}, 0)
 	if rows := p.place(k, 15, 0); len(rows) != 2 || rows[0].Group.Route == rows[1].Group.Route {
 		t.Errorf("%v", rows)
 	}
@@ -124,8 +124,8 @@ func TestRoutesOfOneKeyShareRows(t *testing.T) {
 
 // TestRowsOfTheFuture: after the wall clock was set back, a row counts from now, with as long until its expiry.
 func TestRowsOfTheFuture(t *testing.T) {
-	p := planOf(t, oneReceiver)
-	k, _ := p.keep(row{Group: groupID{Route: "root"}, Moment: 5000, Expiry: 9000}, 0)
+	p := testDispatcher(t, fake(t, "usual"), oneReceiver).session()
+	k, _ := p.keep(row{Group: groupID{Route: "route 0"}, Moment: 5000, Expiry: 9000}, 0)
 	if rows := p.place(k, 2000, 0); len(rows) != 1 || rows[0].Moment != 2000 || rows[0].Expiry != 6000 {
 		t.Errorf("%v", rows)
 	}

@@ -173,7 +173,7 @@ func (d *dispatcher) finish(f *sending) {
 func (d *dispatcher) keep(f *sending, n notice, moment int64, isOurs bool) {
 	r := row{f.Group, "", n.Integration, n.Kind, moment, expiry(f.route, moment), labelsOf(n.Firing), labelsOf(n.Resolved)}
 	offset := d.clock.offset()
-	k, ok := f.plan.keep(r, offset)
+	k, ok := f.session.keep(r, offset)
 	if !ok {
 		return
 	}

@@ -1,4 +1,4 @@
-// Silences: Alertmanager's store has them, and each change goes on to the board at once and to the disk soon after.
+// Silences: Alertmanager's store has them, and each change goes on to the board at once.
 package main
 
 import (
@@ -7,7 +7,6 @@ import (
 	"sync"
 	"time"
 
-	"github.com/go-kit/log"
 	"github.com/go-kit/log/level"
 	"github.com/matttproud/golang_protobuf_extensions/pbutil"
 
@@ -131,7 +130,7 @@ func (d *dispatcher) silence(s *session, it *silencepb.Silence) {
 		matchers = append(matchers, matcher{m.Name, operators[m.Type], m.Pattern})
 	}
 	c := silenceCall(id, matchers, d.clock.board(it.StartsAt, offset), d.clock.board(it.EndsAt, offset))
-	err := d.culprits.check(c)
+	_, err := d.culprits.check(c.name, func() string { return c.subjects()[0] })
 	var t *batch
 	if err == nil {
 		t = s.board.submit(c)
@@ -182,10 +181,10 @@ func (d *dispatcher) syncSilences(s *session) {
 
 // followClock passes all silences on again after the wall clock was set: they end when their ends are there by the new one. And the saved
 // log gets the times of the new one.
-func (d *dispatcher) followClock() {
-	offset, s := d.clock.offset(), d.session()
+func (d *dispatcher) followClock(s *session) {
+	offset := d.clock.offset()
 	jump := offset - d.followed
-	if s == nil || jump == 0 {
+	if jump == 0 {
 		return
 	}
 	d.followed = offset
@@ -221,72 +220,4 @@ func (p peerSilences) Merge(message []byte) error {
 		}
 	}
 	return nil
-}
-
-// silenceSaver writes the silences after each change. Those that come while it writes are written together.
-type silenceSaver struct {
-	silences *silence.Silences
-	path     string
-	logger   log.Logger
-	faults   func()
-	wake     chan struct{}
-	stop     chan struct{}
-	ended    chan struct{}
-}
-
-// newSilenceSaver saves to this path. faults counts failures.
-func newSilenceSaver(silences *silence.Silences, path string, logger log.Logger, faults func()) *silenceSaver {
-	return &silenceSaver{silences, path, log.With(logger, "file", path), faults, make(chan struct{}, 1), make(chan struct{}), make(chan struct{})}
-}
-
-// poke has the silences saved.
-func (s *silenceSaver) poke() {
-	select {
-	case s.wake <- struct{}{}:
-	default:
-	}
-}
-
-// run saves after each poke, and again after a failure, until close.
-func (s *silenceSaver) run() {
-	defer close(s.ended)
-	for wait := retryFirst; ; {
-		select {
-		case <-s.stop:
-			return
-		case <-s.wake:
-		}
-		if err := s.save(); err != nil {
-			s.faults()
-			level.Error(s.logger).Log("msg", "silences not saved", "err", err)
-			time.AfterFunc(wait, s.poke)
-			if wait *= 2; wait > retryMost {
-				wait = retryMost
-			}
-			continue
-		}
-		wait = retryFirst
-	}
-}
-
-// save writes all silences, in Alertmanager's format.
-func (s *silenceSaver) save() error {
-	var out bytes.Buffer
-	if _, err := s.silences.Snapshot(&out); err != nil {
-		return err
-	}
-	file, err := replaceFile(s.path, out.Bytes())
-	if file != nil {
-		file.Close()
-	}
-	return err
-}
-
-// close saves a last time.
-func (s *silenceSaver) close() {
-	close(s.stop)
-	<-s.ended
-	if err := s.save(); err != nil {
-		level.Error(s.logger).Log("msg", "silences not saved", "err", err)
-	}
 }

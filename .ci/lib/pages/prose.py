@@ -13,12 +13,12 @@ from lib.pages import report
 from lib.pages.contracts import ROOT, spec_of, spread
 from lib.pages.words import AVOID
 
-# In words: what a sentence and a paragraph have at most, and the pages with a longer sentence.
-SENTENCE, PARAGRAPH, SENTENCES = 25, 100, {"live": 26}
+# In words: what a sentence and a paragraph have at most.
+SENTENCE, PARAGRAPH = 25, 100
 # In words: what a page has at most, and those that have another budget.
-BUDGET, BUDGETS = 1800, {"README": 1200, "rules": 2400, "live": 1850, "dispatch": 1900}
-# In characters: what a row of a table has at most, and the pages with a longer one.
-ROW, ROWS = 300, {"live": 310}
+BUDGET, BUDGETS = 1800, {"README": 1200, "rules": 2400, "dispatch": 1900}
+# In characters: what a row of a table has at most.
+ROW = 300
 # The end of a sentence: behind it begins another, with a capital, a number or the name of a page.
 END = re.compile(r"[.!?][\"')\]*]*\s+(?=[\"'(\[*]*(?:[A-Z0-9]|[\w-]+\.md))")
 LINK = re.compile(r"\[([^\]]*)\]\(([^)\s]+)\)")
@@ -126,14 +126,13 @@ def named_faults(text: str) -> Found:
 
 def faults_of(page: Path, text: str) -> Found:
     """The faults of a page, by line."""
-    longest = SENTENCES.get(page.stem, SENTENCE)
-    found: Found = [(n, f"a sentence of {count(it)} words") for n, it in sentences(text) if count(it) > longest]
+    found: Found = [(n, f"a sentence of {count(it)} words") for n, it in sentences(text) if count(it) > SENTENCE]
     found += [(n, f"a paragraph of {count(it)} words") for n, it in paragraphs(text) if count(it) > PARAGRAPH]
     most, words = BUDGETS.get(page.stem, BUDGET), length(text)
     if words > most:
         found.append((len(text.splitlines()), f"{words} words, and at most {most} are planned"))
     for number, line in enumerate(without_blocks(text).splitlines(), 1):
-        if line.startswith("|") and len(line) > ROWS.get(page.stem, ROW):
+        if line.startswith("|") and len(line) > ROW:
             found.append((number, f"a row of {len(line)} characters"))
     for number, line in enumerate(plain(without_blocks(text)).splitlines(), 1):
         found += [(number, f"avoid \"{it[0]}\"") for it in AVOID.finditer(LINK.sub(r"\1", line))]

@@ -1,10 +1,10 @@
 #!/usr/bin/env python3
 """Alertmanager's API for alerts and silences, with webhooks, over am-dispatch. A worked example: nothing here is proved.
 
-    tools/live.py --config.file alertmanager.yml [--web.listen-address HOST:PORT] [--storage.path FOLDER]
+    examples/live/live.py --config.file alertmanager.yml [--web.listen-address HOST:PORT] [--storage.path FOLDER]
 
 The board decides who is notified, and when. This program has what the board leaves out: HTTP, the clock, the ids of silences,
-annotations, the merging of alerts that overlap, attempts and their waits. docs/live.md has its limits.
+annotations, the merging of alerts that overlap, attempts and their waits. docs/live-example.md has its limits.
 """
 import argparse
 import contextlib
@@ -26,6 +26,8 @@ import uuid
 from pathlib import Path
 
 sys.dont_write_bytecode = True
+# (programs.py is in tools/ of the repository, and beside this file in a package)
+sys.path.append(str(Path(__file__).resolve().parents[2] / "tools"))
 import programs
 from live_board import Board, BoardError
 from live_carry import groups_of, kept, taken_over

@@ -1,0 +1,140 @@
+package main
+
+import (
+	"bufio"
+	"bytes"
+	"encoding/json"
+	"fmt"
+	"os"
+	"strings"
+	"time"
+)
+
+// fakeBoard answers lines as am-dispatch does, but for one thing:
+//   - `names`, `groups`: after three alerts no other is accepted until forget or maintain was called
+//   - `removes`: as `groups`, and it knows a call that removes empty groups alone
+//   - `silences`: before forget no silence is accepted
+//   - `poison`, `silent`: it ends at an alert of this name, at a silence
+//   - `full`: it begins no flush until its history was taken
+//   - `ends`, `hangs`, `form`, `untold`: summary is answered by a fault of the protocol
+//   - `unnamed`: it doesn't name the routes
+//   - `mute`: it answers nothing after its configuration
+//   - `counts`, `old`: its summary counts calls, and `old` doesn't know the one that removes empty groups alone
+type fakeBoard struct {
+	how string
+	had map[string]bool
+	// calls counts them by name.
+	calls map[string]int
+}
+
+var fakeAnswers = map[string]string{"silence": "silenced", "report": "reported", "note": "noted", "finish": "finished", "maintain": "maintained",
+	"forget": "forgotten", "load": "loaded", "take_history": "taken", "next_due": "next_due", "summary": "summary", "begin": "nothing_due"}
+
+func (f *fakeBoard) run() {
+	in := bufio.NewScanner(os.Stdin)
+	in.Buffer(nil, 1<<24)
+	for in.Scan() {
+		var line map[string]json.RawMessage
+		json.Unmarshal(in.Bytes(), &line)
+		for name, args := range line {
+			answer, goesOn := f.answer(name, args)
+			if !goesOn {
+				return
+			}
+			fmt.Println(answer)
+		}
+	}
+}
+
+// answer returns the answer to a call, and false if the board ends instead.
+func (f *fakeBoard) answer(name string, args json.RawMessage) (string, bool) {
+	usual := fmt.Sprintf(`{%q:{}}`, fakeAnswers[name])
+	f.calls[name]++
+	if f.how == "mute" && name != "alertmanager" && name != "remove_empty_groups" {
+		time.Sleep(time.Minute)
+	}
+	switch name {
+	case "alertmanager":
+		return f.open(args), true
+	case "inserts":
+		return f.inserts(args)
+	case "groups":
+		return `{"groups":[]}`, true
+	case "summary":
+		return f.summary(usual)
+	case "silence":
+		if f.how == "silences" && f.calls["forget"] == 0 {
+			return fault("TooManySilences"), true
+		}
+		return `{"silenced":{"replaced":false}}`, f.how != "silent"
+	case "begin":
+		if f.how == "full" && f.calls["take_history"] == 0 {
+			return fault("HistoryFull"), true
+		}
+	case "remove_empty_groups":
+		if f.how != "removes" && f.how != "counts" {
+			return fault("unknown"), true
+		}
+		f.had = map[string]bool{}
+		return `{"groups_removed":{"groups":0}}`, true
+	case "forget", "maintain":
+		if name == map[string]string{"names": "forget", "groups": "maintain"}[f.how] {
+			f.had = map[string]bool{}
+		}
+	}
+	return usual, true
+}
+
+// fault is a refusal of this kind.
+func fault(kind string) string {
+	return fmt.Sprintf(`{"error":{"pointer":"","kind":%q,"message":"no"}}`, kind)
+}
+
+// open names the routes: `route 0` is the root.
+func (f *fakeBoard) open(args json.RawMessage) string {
+	if f.how == "unnamed" {
+		return `{"opened":{"ignored":[]}}`
+	}
+	var names []string
+	for i := 0; i < bytes.Count(args, []byte(`"repeat_interval"`)); i++ {
+		names = append(names, fmt.Sprintf(`"route %d"`, i))
+	}
+	return fmt.Sprintf(`{"opened":{"ignored":[],"routes":[%s]}}`, strings.Join(names, ","))
+}
+
+func (f *fakeBoard) summary(usual string) (string, bool) {
+	switch f.how {
+	case "hangs":
+		time.Sleep(time.Minute)
+	case "form":
+		return `{"groups":[]}`, true
+	case "untold":
+		return fault("untold"), true
+	case "counts", "old":
+		// (the program makes the call for groups once to learn whether it is known)
+		return fmt.Sprintf(`{"summary":{"groups":%d,"entries":%d,"alerts":%d}}`, f.calls["remove_empty_groups"]-1, f.calls["maintain"], f.calls["forget"]), true
+	}
+	return usual, f.how != "ends"
+}
+
+// inserts answers each insert of a line.
+func (f *fakeBoard) inserts(args json.RawMessage) (string, bool) {
+	var items []struct{ Labels json.RawMessage }
+	json.Unmarshal(args, &items)
+	var answers []string
+	for _, it := range items {
+		labels := string(it.Labels)
+		switch {
+		case f.how == "poison" && bytes.Contains(it.Labels, []byte("poison")):
+			return "", false
+		case !f.had[labels] && len(f.had) >= 3 && f.how == "names":
+			answers = append(answers, fault("TooManyNames"))
+		case !f.had[labels] && len(f.had) >= 3 && (f.how == "groups" || f.how == "removes"):
+			answers = append(answers, fault("TooManyGroups"))
+		default:
+			f.had[labels] = true
+			answers = append(answers, `{"inserted":{"stamp":1,"groups":1,"made":1}}`)
+		}
+	}
+	return `{"inserts":[` + strings.Join(answers, ",") + `]}`, true
+}

@@ -1,0 +1,106 @@
+// Inserts: the alerts of a request go to the board in a few lines.
+package main
+
+import (
+	"bytes"
+	"encoding/json"
+	"errors"
+	"fmt"
+	"strconv"
+
+	"github.com/prometheus/common/model"
+)
+
+// mostLabels and mostBytes bound what is sent of an alert: the board rejects more, but it would read all of it first.
+const mostLabels, mostBytes = 64, 1 << 20
+
+// tooLarge is the refusal of an alert that isn't sent, nil of another one.
+func tooLarge(labels model.LabelSet) error {
+	bytes := 0
+	for name, value := range labels {
+		bytes += len(name) + len(value)
+	}
+	if len(labels) <= mostLabels && bytes <= mostBytes {
+		return nil
+	}
+	return &refusal{"insert", "/insert/labels", "value", fmt.Sprintf("%d labels of %d bytes, and there can be %d of %d", len(labels), bytes, mostLabels, mostBytes)}
+}
+
+// insertItem is the arguments of an insert, with times of the board.
+func insertItem(labels model.LabelSet, now, starts int64, ends *int64) []byte {
+	out := strconv.AppendInt(append(make([]byte, 0, 64*(len(labels)+2)), `{"now":`...), now, 10)
+	out = appendLabels(append(out, `,"labels":`...), labels)
+	out = strconv.AppendInt(append(out, `,"starts":`...), starts, 10)
+	if ends != nil {
+		out = strconv.AppendInt(append(out, `,"ends":`...), *ends, 10)
+	}
+	return append(out, '}')
+}
+
+// subjectOf is the labels of an insert.
+func subjectOf(item []byte) string { return between(item, `"labels":`, `,"starts":`) }
+
+// appendItems appends an array.
+func appendItems(out []byte, items [][]byte) []byte {
+	out = append(out, '[')
+	for i, it := range items {
+		if i > 0 {
+			out = append(out, ',')
+		}
+		out = append(out, it...)
+	}
+	return append(out, ']')
+}
+
+// insertsCall is a line with these inserts.
+func insertsCall(items ...[]byte) call {
+	return call{name: "inserts", items: items, answers: []string{"inserts"}}
+}
+
+// mostItems and mostLine bound a line, so that a flush that is due doesn't wait for many alerts.
+const mostItems, mostLine = 500, 1 << 20
+
+// insertLines gathers inserts into calls.
+type insertLines struct {
+	calls []call
+	size  int // of the last one, in bytes
+	full  bool
+}
+
+// add adds an insert, in a line of its own if it has to be alone.
+func (l *insertLines) add(item []byte, isAlone bool) {
+	if len(l.calls) == 0 || l.full || isAlone || l.size+len(item) > mostLine {
+		l.calls, l.size = append(l.calls, insertsCall()), 0
+	}
+	last := &l.calls[len(l.calls)-1]
+	last.items, l.size = append(last.items, item), l.size+len(item)
+	l.full = isAlone || len(last.items) == mostItems
+}
+
+var insertedField = []byte(`{"inserted":`)
+
+// refusals returns why the board rejects inserts, by position: nil if it accepts all. If the answer can't be read the board ends, and
+// the next one gets the alerts.
+func (b *board) refusals(c call, line []byte) []error {
+	if bytes.Count(line, insertedField) == len(c.items) {
+		return nil
+	}
+	var answers []json.RawMessage
+	whole := b.decode(c, line, &answers)
+	if whole == nil && len(answers) != len(c.items) {
+		b.fail(fmt.Errorf("%d answers to %d inserts", len(answers), len(c.items)))
+		return nil
+	}
+	one, out := call{name: "insert", answers: []string{"inserted"}}, make([]error, len(c.items))
+	for i := range out {
+		err := whole
+		if err == nil {
+			err = b.decode(one, answers[i], nil)
+		}
+		var r *refusal
+		if errors.As(err, &r) && r.Kind != untold {
+			out[i] = &refusal{one.name, r.Pointer, r.Kind, r.Message}
+		}
+	}
+	return out
+}

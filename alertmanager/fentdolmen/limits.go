@@ -1,0 +1,92 @@
+// What is done at a limit of the board, and against what ends boards.
+package main
+
+import (
+	"sync"
+	"time"
+)
+
+// room says when the board was last asked to remove what is over.
+type room struct {
+	mtx  sync.Mutex
+	last map[string]time.Time
+}
+
+// makeRoom does what can help against these refusals, at most every ten seconds. It returns whether anything was done.
+func (d *dispatcher) makeRoom(s *session, kinds map[string]bool) bool {
+	done := false
+	for kind, remedy := range map[string]func(){
+		tooManyNames:    func() { d.try(s, forgetCall()) },
+		tooManySilences: func() { d.try(s, forgetCall()) },
+		tooManyGroups:   func() { d.removeGroups(s) },
+		historyFull:     func() { d.takeHistory(s) },
+	} {
+		if kinds[kind] && d.room.isTime(kind) {
+			remedy()
+			done = true
+		}
+	}
+	return done
+}
+
+// isTime returns whether the last removal for this kind of refusal was long enough ago, and counts the present one.
+func (r *room) isTime(kind string) bool {
+	r.mtx.Lock()
+	defer r.mtx.Unlock()
+	if time.Since(r.last[kind]) < 10*time.Second {
+		return false
+	}
+	if r.last == nil {
+		r.last = map[string]time.Time{}
+	}
+	r.last[kind] = time.Now()
+	return true
+}
+
+// culprits knows the inserts and silences at which boards ended. After two boards a subject is kept from the next ones, so that no
+// request can end all of them. After an hour it is tried again: a machine that stands still can end boards too.
+type culprits struct {
+	mtx   sync.Mutex
+	known map[string]suspicion
+}
+
+type suspicion struct {
+	boards int
+	last   time.Time
+}
+
+const suspectedFor = time.Hour
+
+// add counts a board that ended at a line with these subjects.
+func (c *culprits) add(subjects []string, now time.Time) {
+	c.mtx.Lock()
+	defer c.mtx.Unlock()
+	if c.known == nil {
+		c.known = map[string]suspicion{}
+	}
+	for it, s := range c.known {
+		if now.Sub(s.last) > suspectedFor {
+			delete(c.known, it)
+		}
+	}
+	for _, it := range subjects {
+		c.known[it] = suspicion{c.known[it].boards + 1, now}
+	}
+}
+
+// check returns whether a board ended at a line with this subject, and the refusal of one at which two did.
+func (c *culprits) check(name string, subject func() string) (bool, error) {
+	c.mtx.Lock()
+	defer c.mtx.Unlock()
+	if len(c.known) == 0 {
+		return false, nil
+	}
+	it, ok := c.known[subject()]
+	if !ok || time.Since(it.last) > suspectedFor {
+		return false, nil
+	}
+	if it.boards < 2 {
+		return true, nil
+	}
+	return true, &refusal{name, "/" + name, "culprit", "two boards ended at it"}
+}

@@ -1,0 +1,80 @@
+// The file of the silences, in Alertmanager's format and place.
+package main
+
+import (
+	"bytes"
+	"time"
+
+	"github.com/go-kit/log"
+	"github.com/go-kit/log/level"
+
+	"github.com/prometheus/alertmanager/silence"
+)
+
+// silenceSaver writes the silences after each change. Those that come while it writes are written together.
+type silenceSaver struct {
+	silences *silence.Silences
+	path     string
+	logger   log.Logger
+	faults   func()
+	wake     chan struct{}
+	stop     chan struct{}
+	ended    chan struct{}
+}
+
+// newSilenceSaver saves to this path. faults counts failures.
+func newSilenceSaver(silences *silence.Silences, path string, logger log.Logger, faults func()) *silenceSaver {
+	return &silenceSaver{silences, path, log.With(logger, "file", path), faults, make(chan struct{}, 1), make(chan struct{}), make(chan struct{})}
+}
+
+// poke has the silences saved.
+func (s *silenceSaver) poke() {
+	select {
+	case s.wake <- struct{}{}:
+	default:
+	}
+}
+
+// run saves after each poke, and again after a failure, until close.
+func (s *silenceSaver) run() {
+	defer close(s.ended)
+	for wait := retryFirst; ; {
+		select {
+		case <-s.stop:
+			return
+		case <-s.wake:
+		}
+		if err := s.save(); err != nil {
+			s.faults()
+			level.Error(s.logger).Log("msg", "silences not saved", "err", err)
+			time.AfterFunc(wait, s.poke)
+			if wait *= 2; wait > retryMost {
+				wait = retryMost
+			}
+			continue
+		}
+		wait = retryFirst
+	}
+}
+
+// save writes all silences, in Alertmanager's format.
+func (s *silenceSaver) save() error {
+	var out bytes.Buffer
+	if _, err := s.silences.Snapshot(&out); err != nil {
+		return err
+	}
+	file, err := replaceFile(s.path, out.Bytes())
+	if file != nil {
+		file.Close()
+	}
+	return err
+}
+
+// close saves a last time.
+func (s *silenceSaver) close() {
+	close(s.stop)
+	<-s.ended
+	if err := s.save(); err != nil {
+		level.Error(s.logger).Log("msg", "silences not saved", "err", err)
+	}
+}

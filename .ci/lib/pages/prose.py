@@ -16,7 +16,7 @@ from lib.pages.words import AVOID
 # In words: what a sentence and a paragraph have at most, and the pages with a longer sentence.
 SENTENCE, PARAGRAPH, SENTENCES = 25, 100, {"live": 26}
 # In words: what a page has at most, and those that have another budget.
-BUDGET, BUDGETS = 1800, {"README": 1200, "rules": 2400, "live": 1850, "dispatch": 1900}
+BUDGET, BUDGETS = 1800, {"README": 1200, "rules": 2350, "live": 1850}
 # In characters: what a row of a table has at most, and the pages with a longer one.
 ROW, ROWS = 300, {"live": 310}
 # The end of a sentence: behind it begins another, with a capital, a number or the name of a page.

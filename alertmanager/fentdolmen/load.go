@@ -12,8 +12,8 @@ import (
 	"github.com/prometheus/alertmanager/types"
 )
 
-// most is how many calls are queued at a time, so that what comes between doesn't wait for all.
-const most = 500
+// mostCalls is how many calls are queued at a time, so that what comes between doesn't wait for all.
+const mostCalls = 500
 
 // load begins a session with a configuration. With an error nothing has changed, and the old session goes on.
 func (d *dispatcher) load(p *plan, mark func(model.LabelSet)) error {
@@ -98,7 +98,7 @@ func (d *dispatcher) fill(s *session) ([]inserts, error) {
 	var some []*types.Alert
 	var out []inserts
 	for a := range all.Next() {
-		if some = append(some, a); len(some) == most {
+		if some = append(some, a); len(some) == mostCalls {
 			out = append(out, d.insert(s, some))
 			some = nil
 		}
@@ -113,8 +113,8 @@ func (d *dispatcher) loadRows(s *session, since int64) int64 {
 	calls, loaded := d.loadCalls(s, lines), 0
 	for len(calls) > 0 {
 		some := calls
-		if len(some) > most {
-			some = some[:most]
+		if len(some) > mostCalls {
+			some = some[:mostCalls]
 		}
 		calls = calls[len(some):]
 		loaded += d.checkAll(s, s.board.submit(some...), "row of the log not taken over")

@@ -164,8 +164,11 @@ func (d *dispatcher) isHistoryLong() {
 	}
 }
 
-// broken begins a new session with the same configuration in place of the one whose board ended.
+// broken begins a new session with the same configuration in place of the one whose board ended. A board that ended before it had a
+// session is only counted: who opened it sees to that.
 func (d *dispatcher) broken(b *board, fault error) {
+	d.metrics.restarts.Inc()
+	d.culprits.add(b.culprits, time.Now())
 	d.loading.Lock()
 	defer d.loading.Unlock()
 	s := d.session()
@@ -173,8 +176,6 @@ func (d *dispatcher) broken(b *board, fault error) {
 		return
 	}
 	level.Error(d.logger).Log("msg", "the board is gone: a new one goes on from the notification log", "err", fault)
-	d.metrics.restarts.Inc()
-	d.culprits.add(b.culprits, time.Now())
 	d.mtx.Lock()
 	d.down = fault
 	d.mtx.Unlock()

@@ -173,8 +173,8 @@ func (d *dispatcher) retryRefused(s *session) {
 	}
 	for len(alerts) > 0 {
 		some := alerts
-		if len(some) > most {
-			some = some[:most]
+		if len(some) > mostCalls {
+			some = some[:mostCalls]
 		}
 		alerts = alerts[len(some):]
 		left, _, _ := d.rejected(s, d.again(s, some))

@@ -18,6 +18,7 @@ import (
 //   - `full`: it begins no flush until its history was taken
 //   - `ends`, `hangs`, `form`, `untold`: summary is answered by a fault of the protocol
 //   - `unnamed`: it doesn't name the routes
+//   - `unopened`: it ends at its configuration
 //   - `mute`: it answers nothing after its configuration
 //   - `counts`, `old`: its summary counts calls, and `old` doesn't know the one that removes empty groups alone
 type fakeBoard struct {
@@ -55,7 +56,7 @@ func (f *fakeBoard) answer(name string, args json.RawMessage) (string, bool) {
 	}
 	switch name {
 	case "alertmanager":
-		return f.open(args), true
+		return f.open(args), f.how != "unopened"
 	case "inserts":
 		return f.inserts(args)
 	case "groups":

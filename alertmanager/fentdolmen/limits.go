@@ -43,15 +43,16 @@ func (r *room) isTime(kind string) bool {
 	return true
 }
 
-// culprits knows the inserts and silences at which boards ended. After two boards a subject is kept from the next ones, so that no
-// request can end all of them. After an hour it is tried again: a machine that stands still can end boards too.
+// culprits knows the inserts and silences at which boards ended. Those of a line with several are suspects: each is tried alone from then
+// on. After two boards that ended at one alone it is kept from the next ones, so that no request can end all of them. After an hour it is
+// tried again: a machine that stands still can end boards too.
 type culprits struct {
 	mtx   sync.Mutex
 	known map[string]suspicion
 }
 
 type suspicion struct {
-	boards int
+	boards int // that ended at it alone
 	last   time.Time
 }
 
@@ -70,11 +71,15 @@ func (c *culprits) add(subjects []string, now time.Time) {
 		}
 	}
 	for _, it := range subjects {
-		c.known[it] = suspicion{c.known[it].boards + 1, now}
+		boards := c.known[it].boards
+		if len(subjects) == 1 {
+			boards++
+		}
+		c.known[it] = suspicion{boards, now}
 	}
 }
 
-// check returns whether a board ended at a line with this subject, and the refusal of one at which two did.
+// check returns whether a subject is suspected, and the refusal of one at which two boards ended.
 func (c *culprits) check(name string, subject func() string) (bool, error) {
 	c.mtx.Lock()
 	defer c.mtx.Unlock()

@@ -90,6 +90,17 @@ func TestABoardThatEndsIsStartedAgainWithAllAlerts(t *testing.T) {
 	}
 }
 
+// TestABoardThatEndsBeforeItsSession is counted, and the configuration is rejected.
+func TestABoardThatEndsBeforeItsSession(t *testing.T) {
+	d := testDispatcher(t, fake(t, "usual"), oneReceiver)
+	first := d.session()
+	t.Setenv("FAKE_BOARD", "unopened")
+	if d.load(first.plan, first.mark) == nil || d.session() != first || d.isDown() != nil {
+		t.Error("a board that doesn't open takes over")
+	}
+	waitFor(t, func() bool { return testutil.ToFloat64(d.metrics.restarts) == 1 })
+}
+
 func TestAnAlertThatEndsBoardsEndsTwo(t *testing.T) {
 	d := testDispatcher(t, fake(t, "poison"), oneReceiver)
 	put := dispatched{d.alerts, d}
@@ -117,25 +128,28 @@ func TestALineThatEndsBoards(t *testing.T) {
 		all = append(all, alert(fmt.Sprint("alertname=", i)))
 	}
 	put.Put(append(all, alert("alertname=poison"))...)
-	waitFor(t, func() bool { return testutil.ToFloat64(d.metrics.restarts) == 2 && d.isDown() == nil })
+	waitFor(t, func() bool { return testutil.ToFloat64(d.metrics.restarts) == 3 && d.isDown() == nil })
 	if err := put.Put(all...); err != nil {
 		t.Error("an alert of the same line is rejected: ", err)
 	}
-	if put.Put(alert("alertname=poison")) == nil || testutil.ToFloat64(d.metrics.restarts) != 2 {
-		t.Error("the alert at fault isn't kept from the third board")
+	if put.Put(alert("alertname=poison")) == nil || testutil.ToFloat64(d.metrics.restarts) != 3 {
+		t.Error("the alert at fault isn't kept from the fourth board")
 	}
 }
 
 func TestSuspicionsEnd(t *testing.T) {
 	var c culprits
 	about := func(subject string) func() string { return func() string { return subject } }
-	c.add([]string{"a", "b"}, time.Now())
+	for i := 0; i < 3; i++ {
+		c.add([]string{"a", "b"}, time.Now())
+	}
+	c.add([]string{"a"}, time.Now())
 	if isSuspect, err := c.check("insert", about("a")); !isSuspect || err != nil {
-		t.Error("a board ended at it: ", err)
+		t.Error("one board ended at it alone: ", err)
 	}
 	c.add([]string{"a"}, time.Now())
 	if _, err := c.check("insert", about("a")); err == nil {
-		t.Error("two boards ended at it")
+		t.Error("two boards ended at it alone")
 	}
 	if isSuspect, err := c.check("insert", about("c")); isSuspect || err != nil {
 		t.Error("it is suspected of nothing: ", err)

@@ -12,8 +12,8 @@ import (
 	"github.com/prometheus/alertmanager/types"
 )
 
-// most is how many calls are queued at a time, so that what comes between doesn't wait for all.
-const most = 500
+// mostCalls is how many calls are queued at a time, so that what comes between doesn't wait for all.
+const mostCalls = 500
 
 // load begins a session with a configuration. With an error nothing has changed, and the old session goes on.
 func (d *dispatcher) load(p *plan, mark func(model.LabelSet)) error {
@@ -98,7 +98,7 @@ func (d *dispatcher) fill(s *session) ([]inserts, error) {
 	var some []*types.Alert
 	var out []inserts
 	for a := range all.Next() {
-		if some = append(some, a); len(some) == most {
+		if some = append(some, a); len(some) == mostCalls {
 			out = append(out, d.insert(s, some))
 			some = nil
 		}
@@ -113,8 +113,8 @@ func (d *dispatcher) loadRows(s *session, since int64) int64 {
 	calls, loaded := d.loadCalls(s, lines), 0
 	for len(calls) > 0 {
 		some := calls
-		if len(some) > most {
-			some = some[:most]
+		if len(some) > mostCalls {
+			some = some[:mostCalls]
 		}
 		calls = calls[len(some):]
 		loaded += d.checkAll(s, s.board.submit(some...), "row of the log not taken over")
@@ -164,8 +164,11 @@ func (d *dispatcher) isHistoryLong() {
 	}
 }
 
-// broken begins a new session with the same configuration in place of the one whose board ended.
+// broken begins a new session with the same configuration in place of the one whose board ended. A board that ended before it had a
+// session is only counted: who opened it sees to that.
 func (d *dispatcher) broken(b *board, fault error) {
+	d.metrics.restarts.Inc()
+	d.culprits.add(b.culprits, time.Now())
 	d.loading.Lock()
 	defer d.loading.Unlock()
 	s := d.session()
@@ -173,8 +176,6 @@ func (d *dispatcher) broken(b *board, fault error) {
 		return
 	}
 	level.Error(d.logger).Log("msg", "the board is gone: a new one goes on from the notification log", "err", fault)
-	d.metrics.restarts.Inc()
-	d.culprits.add(b.culprits, time.Now())
 	d.mtx.Lock()
 	d.down = fault
 	d.mtx.Unlock()

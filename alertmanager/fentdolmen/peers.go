@@ -80,9 +80,6 @@ func (g gossiped) Merge(message []byte) error {
 // isSentByPeer tells whether a peer has sent this since the flush began. The board decided at `begin`, and Alertmanager decides after
 // the wait for the peers.
 func (d *dispatcher) isSentByPeer(f *sending, n notice) bool {
-	if d.cluster.peer == nil {
-		return false
-	}
 	k, ok := f.session.keep(row{Group: f.Group, Integration: n.Integration}, 0)
 	if !ok {
 		return false

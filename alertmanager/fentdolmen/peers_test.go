@@ -33,6 +33,32 @@ func TestAPeersRowsReachTheBoard(t *testing.T) {
 	}
 }
 
+// TestAPeerThatSentDuringTheWait: what it sent isn't sent again, if that is all.
+func TestAPeerThatSentDuringTheWait(t *testing.T) {
+	d := testDispatcher(t, fake(t, "usual"), oneReceiver)
+	a, b := alert("alertname=A").Labels, alert("alertname=A,host=b").Labels
+	f := &sending{session: d.session(), begun: d.clock.now(), flush: flush{Group: groupID{"route 0", a}}}
+	n := notice{Kind: "webhook", Firing: []boardAlert{{Labels: a}}}
+	if d.isSentByPeer(f, n) {
+		t.Error("nobody sent it")
+	}
+	k, _ := f.session.keep(row{Group: f.Group, Moment: f.begun, Expiry: f.begun + 60000, Firing: []model.LabelSet{a}}, 0)
+	if d.book.put(k, 0); d.isSentByPeer(f, n) {
+		t.Error("a row of our own came from no peer")
+	}
+	k.Moment++
+	if err := (gossiped{d}).Merge(lineOf(k)); err != nil || !d.isSentByPeer(f, n) {
+		t.Error("a peer sent it: ", err)
+	}
+	if n.Firing = append(n.Firing, boardAlert{Labels: b}); d.isSentByPeer(f, n) {
+		t.Error("the peer hadn't this alert")
+	}
+	f.begun = d.clock.now() + 1
+	if n.Firing = n.Firing[:1]; d.isSentByPeer(f, n) {
+		t.Error("the peer sent it before the flush")
+	}
+}
+
 func TestCovers(t *testing.T) {
 	a, b := model.LabelSet{"alertname": "A"}, model.LabelSet{"alertname": "B"}
 	for _, it := range []struct {

@@ -164,3 +164,13 @@ func TestEachKindOfIntegrationHasARow(t *testing.T) {
 		t.Errorf("%d kinds, and the table has %d", lists, len(kinds))
 	}
 }
+
+// TestABoardThatDoesntNameRoutes isn't taken.
+func TestABoardThatDoesntNameRoutes(t *testing.T) {
+	d := testDispatcher(t, fake(t, "usual"), manyRoutes)
+	first := d.session()
+	t.Setenv("FAKE_BOARD", "unnamed")
+	if err := d.load(first.plan, first.mark); err == nil || d.session() != first {
+		t.Error("it is taken: ", err)
+	}
+}

@@ -33,7 +33,7 @@ type kind struct {
 	make func(settings, *template.Template, log.Logger) (notify.Notifier, error)
 }
 
-// kinds are in the order of docs/rehearse.md: it decides the positions that the board gives to the integrations of a receiver.
+// kinds are in the order of docs/story.md: it decides the positions that the board gives to the integrations of a receiver.
 var kinds = []kind{
 	kindOf("webhook", func(r *config.Receiver) []*config.WebhookConfig { return r.WebhookConfigs }, plainly(webhook.New)),
 	kindOf("email", func(r *config.Receiver) []*config.EmailConfig { return r.EmailConfigs },

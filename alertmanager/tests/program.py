@@ -68,18 +68,29 @@ class Program:
         (self.folder / "alertmanager.yml").write_text(json.dumps(config), encoding="utf-8")
 
     def start(self):
+        for _ in range(3):
+            if self.run():
+                return self
+            # (a port that was free can be in use by now)
+            if "address already in use" not in self.log()[-500:]:
+                break
+            self.port = free_port()
+        raise SystemExit(f"FAILED: it doesn't start: {self.log()[-3000:]}")
+
+    def run(self):
+        """Starts a process, and returns whether it gets ready."""
         words = [self.program, f"--config.file={self.folder}/alertmanager.yml", f"--storage.path={self.data}", "--cluster.listen-address=",
                  f"--web.listen-address=127.0.0.1:{self.port}", *[f"--board={self.board}"] * (self.board != "-"), *self.words]
         with open(self.folder / "log", "ab") as log:
             self.child = subprocess.Popen(words, stdout=log, stderr=log, env={**os.environ, **self.environment})
         atexit.register(self.child.kill)  # (a failed check leaves it running)
         for _ in range(1200):
-            if self.get("/-/ready")[0] == 200:
-                return self
             if self.child.poll() is not None:
-                break
+                return False
+            if self.get("/-/ready")[0] == 200:
+                return True
             time.sleep(0.025)
-        raise SystemExit(f"FAILED: it doesn't start: {self.log()[-3000:]}")
+        return False
 
     def log(self):
         return (self.folder / "log").read_text(errors="replace")

@@ -41,11 +41,7 @@ impl<'s> Finishes<'s> {
     /// Returns the finishes of a history. Cost: the history.
     ///
     /// Hashes start from the seed.
-    pub fn of(
-        alloc: Global,
-        seed: Seed,
-        history: &'s [Record],
-    ) -> Result<Finishes<'s>, AllocError>
+    pub fn of(alloc: Global, seed: Seed, history: &'s [Record]) -> Result<Finishes<'s>, AllocError>
         ensures { IfOk result (λ finishes. finishes ≡ history.now) }
     {
         let places = first_places(alloc, seed, history)?;

@@ -62,7 +62,11 @@ pub fn sent_of<'s>(playback: &Playback<'s>, event: &Event) -> Option<Sent<'s>>
 }
 
 /// The notice of a begin that a report is on, if there is one.
-fn sent_by<'s>(playback: &Playback<'s>, report: Report, begin: &'s PreviewedBegin) -> Option<Sent<'s>>
+fn sent_by<'s>(
+    playback: &Playback<'s>,
+    report: Report,
+    begin: &'s PreviewedBegin,
+) -> Option<Sent<'s>>
     ensures { result ≡ sent_by playback.now.history report begin.now }
 {
     let notice = notice_for(

@@ -130,7 +130,10 @@ fn add_if_delivered(
 fn is_delivered_after(finishes: &Finishes, index: usize, notice: &Notice) -> bool
     ensures { result ≡ is_delivered_in (drop (index + 1) finishes.now) notice.now }
 {
-    match outcome_of(finishes.outcomes_after(notice.ticket, index), notice.integration) {
+    match outcome_of(
+        finishes.outcomes_after(notice.ticket, index),
+        notice.integration,
+    ) {
         None => false,
         Some(outcome) => is_delivered(outcome),
     }

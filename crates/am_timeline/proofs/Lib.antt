@@ -30,3 +30,5 @@ pub mod Logged
 pub mod LastEntries
 -- a table of expired entries, with those of one more integration and of one more record
 pub mod ExpiredTable
+-- the outcomes after a record, by the place of the first finish
+pub mod Finished

@@ -8,6 +8,8 @@ pub mod Expiry
 pub mod Log
 -- a table of the entries that expired before flushes
 pub mod Entries
+-- where the flushes of a history are finished
+pub mod Finishes
 -- a rehearsal that ran, and the notices that were sent in it
 pub mod Playback
 -- what happened in a rehearsal, a line for each event

@@ -16,6 +16,7 @@ pub mod changed;
 pub mod comparison;
 pub mod escape;
 pub mod filtered;
+pub mod finishes;
 mod fold_list;
 mod frame;
 pub mod groups;

@@ -1,13 +1,16 @@
 //! `Logbook`: a history with when the log entries expired whose lack its flushes found. `am_rehearse` makes one of a rehearsal that
 //! ran, and playbacks of that.
-ghost use Rattle.std.specs.Prelude.{◌≡◌, IfOk};
+ghost use Rattle.std.specs.Prelude.{◌≡◌, ◌+◌, IfOk, drop};
+ghost use Rattle.am_model.specs.Outcomes.{outcomes_in};
 ghost use Rattle.am_timeline.specs.Expiry.{expired};
 
 mod entries;
 mod log;
 
+use crate::finishes::Finishes;
 use am_model::config::Config;
 use am_model::record::Record;
+use am_retry::Outcome;
 use am_seed::Seed;
 use am_terms::event::PreviewedBegin;
 use entries::{FlushKey, expired_entries};
@@ -21,6 +24,7 @@ pub struct Logbook<'s> {
     config: &'s Config,
     history: &'s [Record],
     begins: &'s [PreviewedBegin],
+    finishes: Finishes<'s>,
     /// When the entries expired whose lack flushes found.
     expiries: HashMap<FlushKey, u64, Seed>,
     seed: Seed,
@@ -46,9 +50,9 @@ impl<'s> Model for Logbook<'s> {
           begins = l.begins.now;
         } };
 
-    ghost invariant = { λ l. (index integration : ℕ)
+    ghost invariant = { λ l. (l.finishes ≡ l.history.now) × ((index integration : ℕ)
         → get same_flush_key l.expiries (record { index = index; integration = integration })
-        ≡ expired l.config.now l.history.now index integration };
+        ≡ expired l.config.now l.history.now index integration) };
 }
 
 impl<'s> Logbook<'s> {
@@ -65,11 +69,13 @@ impl<'s> Logbook<'s> {
     ) -> Result<Logbook<'s>, AllocError>
         ensures { IfOk result (λ log. log ≡ record { config = config.now; history = history.now; begins = begins.now }) }
     {
+        let finishes = Finishes::of(alloc, seed, history)?;
         let expiries = expired_entries(alloc, seed, config, history)?;
         Ok(Logbook {
             config,
             history,
             begins,
+            finishes,
             expiries,
             seed,
         })
@@ -96,6 +102,13 @@ impl<'s> Logbook<'s> {
     /// Returns the seed from which hashes start.
     pub fn seed(&self) -> Seed {
         self.seed
+    }
+
+    /// Returns the outcomes with which the flush of this number is finished after the record at an index; none where it isn't.
+    pub(crate) fn outcomes_after(&self, number: u64, index: usize) -> &'s [(u32, Outcome)]
+        ensures { result.now ≡ outcomes_in number (drop (index + 1) self.now.history) }
+    {
+        self.finishes.outcomes_after(number, index)
     }
 
     /// Returns when the log entry of an integration expired whose lack the flush that began at an index found, in milliseconds,

@@ -2,6 +2,7 @@
 ghost use Rattle.std.specs.Prelude.{◌≡◌, ◌+◌, drop, option_copied};
 ghost use Rattle.am_timeline.specs.Expiry.{expired};
 ghost use Rattle.am_timeline.specs.Playback.{notice_for, notices_at};
+ghost use Rattle.am_model.specs.Outcomes.{outcomes_in};
 ghost use Rattle.am_model.specs.look_back.Entry.{reports_put};
 ghost use Rattle.am_model.specs.look_back.Past.{notices_in};
 
@@ -9,6 +10,7 @@ use crate::logbook::Logbook;
 use am_model::config::Config;
 use am_model::notice::Notice;
 use am_model::record::{Loaded, Record, Reply};
+use am_retry::Outcome;
 use am_terms::event::{Event, PreviewedBegin};
 use std::marker::Model;
 
@@ -102,6 +104,13 @@ impl<'s> Playback<'s> {
         ensures { result.now ≡ self.now.events }
     {
         self.events
+    }
+
+    /// Returns the outcomes with which the flush of this number is finished after the record at an index; none where it isn't.
+    pub(crate) fn outcomes_after(&self, number: u64, index: usize) -> &'s [(u32, Outcome)]
+        ensures { result.now ≡ outcomes_in number (drop (index + 1) self.now.history) }
+    {
+        self.log.outcomes_after(number, index)
     }
 
     /// Returns when the log entry of an integration expired whose lack the flush that began at an index found, in milliseconds,

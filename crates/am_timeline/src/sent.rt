@@ -3,10 +3,9 @@ ghost use Rattle.std.specs.Prelude.{◌≡◌};
 ghost use Rattle.am_timeline.specs.Timeline.{expiry_before};
 ghost use Rattle.am_timeline.specs.Playback.{is_delivered, outcome_after, sent_by, sent_of};
 
-use crate::playback::{Playback, later_than, notice_for, notices_at};
+use crate::playback::{Playback, notice_for, notices_at};
 use am_model::notice::{Notice, Report};
-use am_model::outcome::{outcome_of, outcomes_in};
-use am_model::record::Record;
+use am_model::outcome::outcome_of;
 use am_retry::Outcome;
 use am_terms::event::{Event, PreviewedBegin};
 use std::marker::Model;
@@ -57,20 +56,24 @@ pub fn sent_of<'s>(playback: &Playback<'s>, event: &Event) -> Option<Sent<'s>>
         Event::Begun { begin: _ } => None,
         Event::Sent { begin, report } => match playback.begins.get(*begin as usize) {
             None => None,
-            Some(begin) => sent_by(playback.history, *report.get(), begin),
+            Some(begin) => sent_by(playback, *report.get(), begin),
         },
     }
 }
 
 /// The notice of a begin that a report is on, if there is one.
-fn sent_by<'s>(history: &'s [Record], report: Report, begin: &'s PreviewedBegin) -> Option<Sent<'s>>
-    ensures { result ≡ sent_by history.now report begin.now }
+fn sent_by<'s>(
+    playback: &Playback<'s>,
+    report: Report,
+    begin: &'s PreviewedBegin,
+) -> Option<Sent<'s>>
+    ensures { result ≡ sent_by playback.now.history report begin.now }
 {
     let notice = notice_for(
         report.integration as usize,
-        notices_at(history, begin.index),
+        notices_at(playback.history, begin.index),
     )?;
-    let outcome = outcome_after(history, begin.index, notice)?;
+    let outcome = outcome_after(playback, begin.index, notice)?;
     Some(Sent {
         begin,
         notice,
@@ -81,11 +84,11 @@ fn sent_by<'s>(history: &'s [Record], report: Report, begin: &'s PreviewedBegin)
 
 /// What a notice that was begun at an index came to, as the finish of its flush in the later records
 /// says.
-fn outcome_after(history: &[Record], index: usize, notice: &Notice) -> Option<Outcome>
-    ensures { result ≡ outcome_after history.now index notice.now }
+fn outcome_after(playback: &Playback, index: usize, notice: &Notice) -> Option<Outcome>
+    ensures { result ≡ outcome_after playback.now.history index notice.now }
 {
     outcome_of(
-        outcomes_in(notice.ticket, later_than(history, index)),
+        playback.outcomes_after(notice.ticket, index),
         notice.integration,
     )
 }

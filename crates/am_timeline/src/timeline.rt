@@ -23,7 +23,7 @@ use std::alloc::{AllocError, Global};
 /// Returns the timeline of a rehearsal: the lines on all events, in their order.
 ///
 /// A notice has the reason of its integration in the preview of its begin, and the outcome in the
-/// finish of its flush. Cost: the events, and for each notice the records up to its finish.
+/// finish of its flush. Cost: the events, and a look-up for each notice.
 pub fn timeline_text<C: TimeFormat>(
     alloc: Global,
     playback: &Playback,

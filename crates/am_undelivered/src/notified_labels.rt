@@ -1,5 +1,5 @@
 //! The label sets in the notices of a history, and those that a receiver was notified of. `report` and `findings` call it.
-ghost use Rattle.std.specs.Prelude.{◌≡◌, ◌++◌, IfOk, OnOk};
+ghost use Rattle.std.specs.Prelude.{◌≡◌, ◌+◌, ◌++◌, IfOk, OnOk, drop};
 ghost use Rattle.std.specs.List.{flat_map};
 ghost use Rattle.am_timeline.specs.Playback.{is_delivered};
 ghost use Rattle.am_undelivered.specs.Undelivered.{is_delivered_in, row_sets, sent_in, sets_delivered, sets_in, sets_loaded, sets_notified};
@@ -7,11 +7,12 @@ ghost use Rattle.am_undelivered.specs.Undelivered.{notified_in};
 
 use crate::label_sets::LabelSets;
 use am_model::notice::Notice;
-use am_model::outcome::{outcome_of, outcomes_in};
+use am_model::outcome::outcome_of;
 use am_model::record::{Call, Record};
 use am_model::views::RowView;
 use am_retry::Outcome;
 use am_seed::Seed;
+use am_timeline::finishes::Finishes;
 use am_timeline::playback::{is_put, notices_in};
 use std::alloc::{AllocError, Global};
 
@@ -55,18 +56,24 @@ pub(crate) fn notified_sets(
 ) -> Result<LabelSets, AllocError>
     ensures { IfOk result (λ set. set ≡ notified_in history.now) }
 {
+    let finishes = Finishes::of(alloc, seed, history)?;
     let mut set = LabelSets::new(alloc, seed);
     for (index, record) in history.iter().enumerate() {
-        add_notified(&mut set, &history[index + 1..], record)?;
+        add_notified(&mut set, &finishes, index, record)?;
     }
     Ok(set)
 }
 
-/// Adds what a record says that a receiver was notified of.
-fn add_notified(set: &mut LabelSets, later: &[Record], record: &Record) -> Result<(), AllocError>
-    ensures { OnOk result (set.new ≡ set.old ++ sets_notified later.now record.now) }
+/// Adds what the record at an index says that a receiver was notified of.
+fn add_notified(
+    set: &mut LabelSets,
+    finishes: &Finishes,
+    index: usize,
+    record: &Record,
+) -> Result<(), AllocError>
+    ensures { OnOk result (set.new ≡ set.old ++ sets_notified (drop (index + 1) finishes.now) record.now) }
 {
-    add_delivered(set, later, notices_in(&record.reply))?;
+    add_delivered(set, finishes, index, notices_in(&record.reply))?;
     add_loaded(set, record)
 }
 
@@ -92,35 +99,41 @@ fn add_row(set: &mut LabelSets, row: &RowView) -> Result<(), AllocError>
 
 fn add_delivered(
     set: &mut LabelSets,
-    later: &[Record],
+    finishes: &Finishes,
+    index: usize,
     notices: &[Notice],
 ) -> Result<(), AllocError>
-    ensures { OnOk result (set.new ≡ set.old ++ flat_map (sets_delivered later.now) notices.now) }
+    ensures { OnOk result (set.new
+        ≡ set.old ++ flat_map (sets_delivered (drop (index + 1) finishes.now)) notices.now) }
 {
     for notice in notices {
-        add_if_delivered(set, later, notice)?;
+        add_if_delivered(set, finishes, index, notice)?;
     }
     Ok(())
 }
 
 fn add_if_delivered(
     set: &mut LabelSets,
-    later: &[Record],
+    finishes: &Finishes,
+    index: usize,
     notice: &Notice,
 ) -> Result<(), AllocError>
-    ensures { OnOk result (set.new ≡ set.old ++ sets_delivered later.now notice.now) }
+    ensures { OnOk result (set.new ≡ set.old ++ sets_delivered (drop (index + 1) finishes.now) notice.now) }
 {
-    if is_delivered_in(later, notice) {
+    if is_delivered_after(finishes, index, notice) {
         return add_notice(set, notice);
     }
     Ok(())
 }
 
-/// Whether a notice was delivered, as the finish of its flush in the later records says.
-fn is_delivered_in(later: &[Record], notice: &Notice) -> bool
-    ensures { result ≡ is_delivered_in later.now notice.now }
+/// Whether a notice was delivered, as the finish of its flush after the record at an index says.
+fn is_delivered_after(finishes: &Finishes, index: usize, notice: &Notice) -> bool
+    ensures { result ≡ is_delivered_in (drop (index + 1) finishes.now) notice.now }
 {
-    match outcome_of(outcomes_in(notice.ticket, later), notice.integration) {
+    match outcome_of(
+        finishes.outcomes_after(notice.ticket, index),
+        notice.integration,
+    ) {
         None => false,
         Some(outcome) => is_delivered(outcome),
     }

@@ -1,8 +1,8 @@
 //! The alerts that nobody was notified of. `am_rehearse` prints them below the table.
 //!
 //! Each has for how long it fired, and why nobody was notified. All follows from the history and
-//! from what the begins were to do. Cost: the history and the previews, and for each notice the
-//! records up to its finish; then for each alert that is listed, its routes.
+//! from what the begins were to do. Cost: the history and the previews; then for each alert that is
+//! listed, its routes.
 ghost use Rattle.std.specs.Prelude.{◌≡◌, ◌++◌, IfOk, None, OnOk, Some, option_copied, string_bytes};
 ghost use Rattle.std.specs.List.{flat_map, list_all};
 ghost use Rattle.am_model.specs.Lists.{without};

@@ -150,7 +150,7 @@ def unmuted(route: Json) -> Json:
 
 def rehearsal(config: Json, sets: list[dict[str, str]]) -> Json:
     """A rehearsal in which each label set is an alert from the start, and each receiver is notified."""
-    heard = [{"name": receiver["name"], "webhook_configs": [{}]} for receiver in config["receivers"]]
+    heard = [{"name": receiver["name"], "webhook_configs": [{"url": "http://localhost/"}]} for receiver in config["receivers"]]
     routing = {name: value for name, value in config.items() if name != "inhibit_rules"}
     return {
         "alertmanager": {**routing, "route": unmuted(config["route"]), "receivers": heard},
@@ -293,7 +293,7 @@ def muted_story(start: str, until: str, rows: list[Span]) -> Json:
         "alertmanager": {
             "time_intervals": intervals,
             "route": {**root, "routes": routes},
-            "receivers": [{"name": f"{kind}{place}", "webhook_configs": [{}]} for kind, place in names],
+            "receivers": [{"name": f"{kind}{place}", "webhook_configs": [{"url": "http://localhost/"}]} for kind, place in names],
         },
         "start": start,
         "zones": {f"Zone/{place}": rule for place, (rule, _, _) in enumerate(rows)},

@@ -166,7 +166,7 @@ def restarted(count: int) -> Json:
     """A story with 64 equal routes, so that each log row goes to the groups of all of them, and a restart that keeps the log."""
     route = {"receiver": "team", "group_by": ["alertname"], "routes": [{"receiver": "team", "continue": True}] * 64}
     return {
-        "alertmanager": {"route": route, "receivers": [{"name": "team", "webhook_configs": [{}]}]},
+        "alertmanager": {"route": route, "receivers": [{"name": "team", "webhook_configs": [{"url": "http://localhost/"}]}]},
         "until": "30m",
         "alerts": [{"labels": {"alertname": f"A{alert}"}} for alert in range(count)],
         "restart": {"at": "15m", "keeps": "log"},

@@ -2,15 +2,24 @@
 """What am-rehearse rejects of stories and configurations, where, and by which word.
 
 - `rehearsals`, `alertmanager`: each row of .ci/data/refusals/{rehearsal,alertmanager}.rows is rejected by just its lines.
+- `settings`: each row of .ci/data/refusals/settings.rows, about what integrations are set to, as well.
+- `texts`: of each text of .ci/data/refusals/texts.cases `check` says what is written behind it.
+- `amtool`: what Alertmanager's amtool rejects of these rows and texts is never accepted, where it is installed (Debian's package
+  prometheus-alertmanager 0.25).
 - `matchers`: each text of .ci/data/matchers.rows matches its label set, fails on it, or is rejected.
 - `ignored`: what a configuration of Alertmanager's has that changes nothing is said once; of many faults a hundred are printed.
 - `limits`: inputs that would take long, or much memory, are rejected at a place or played, within limits.
 """
 import json
 import re
+import shutil
+import subprocess
 import sys
+import tempfile
+from collections.abc import Iterator
 from concurrent.futures import ThreadPoolExecutor
 from pathlib import Path
+from typing import NamedTuple
 
 sys.path.insert(0, str(Path(__file__).resolve().parent.parent))
 from lib import report
@@ -33,32 +42,43 @@ def outcome(ran: Ran) -> str:
     return str(ran)
 
 
-def rejected(told: Report, program: Program, table: Path, least: int) -> None:
-    """Each row of a table is rejected by just the lines that it says. The table begins with the story that rows change, up to an
-    empty line."""
-    rows = Rows(table)
+class Change(NamedTuple):
+    """A row of a table: its place, its changes, the story with them, and how the story has to end."""
+
+    at: int
+    words: str
+    whole: Json
+    wanted: str
+
+
+def changes_in(rows: Rows) -> Iterator[Change]:
+    """The rows of a table, which begins with the story that they change, up to an empty line."""
     end = rows.lines.index("")
     start = "\n".join(it for it in rows.lines[:end] if not it.startswith("#"))
-    places = [at for at, _ in rows if at > end]
+    for at, line in rows:
+        if at > end:
+            words, wanted = line.rsplit(" -> ", 1)
+            whole = json.loads(start)
+            for change in words.split(" ; "):
+                whole = changed(whole, change)
+            yield Change(at, words, whole, repeated(wanted))
 
-    def played(at: int) -> str:
-        whole = json.loads(start)
-        for words in rows.lines[at].rsplit(" -> ", 1)[0].split(" ; "):
-            whole = changed(whole, words)
-        return outcome(rehearse(program, json.dumps(whole), *PLAY))
 
+def rejected(told: Report, program: Program, table: Path, least: int) -> None:
+    """Each row of a table is rejected by just the lines that it says."""
+    rows = Rows(table)
+    changes = list(changes_in(rows))
     with ThreadPoolExecutor() as pool:
-        results = list(pool.map(played, places))
-    for at, got in zip(places, results):
-        changes, wanted = rows.lines[at].rsplit(" -> ", 1)
-        if told.is_written and repeated(wanted) != got:
-            rows.lines[at] = f"{changes} -> {got}"
-        elif repeated(wanted) != got:
-            told.differs(f"{table.name}:{at + 1}", repeated(wanted).replace(" | ", "\n"), got.replace(" | ", "\n"), changes[:150])
+        results = list(pool.map(lambda it: outcome(rehearse(program, json.dumps(it.whole), *PLAY)), changes))
+    for (at, words, _, wanted), got in zip(changes, results):
+        if told.is_written and wanted != got:
+            rows.lines[at] = f"{words} -> {got}"
+        elif wanted != got:
+            told.differs(f"{table.name}:{at + 1}", wanted.replace(" | ", "\n"), got.replace(" | ", "\n"), words[:150])
     if told.is_written:
         rows.write()
-    told.ok(f"{len(places)} rows of {table.name} were compared")
-    told.at_least(least, len(places), "rows")
+    told.ok(f"{len(changes)} rows of {table.name} were compared")
+    told.at_least(least, len(changes), "rows")
 
 
 def rehearsals(told: Report, programs: Programs) -> None:
@@ -69,6 +89,86 @@ def rehearsals(told: Report, programs: Programs) -> None:
 def alertmanager(told: Report, programs: Programs) -> None:
     """Rows that change an alertmanager.yml."""
     rejected(told, programs["am_rehearse"], DATA / "refusals/alertmanager.rows", 100)
+
+
+def settings(told: Report, programs: Programs) -> None:
+    """Rows that change what integrations and `global` are set to."""
+    rejected(told, programs["am_rehearse"], DATA / "refusals/settings.rows", 900)
+
+
+# Texts.
+
+def texts_in(text: str) -> list[tuple[str, str, str]]:
+    """The cases of a file of texts: the name of each, its text, and what is said of it."""
+    found = []
+    for case in text.split("\n=== ")[1:]:
+        heading, _, rest = case.partition("\n")
+        body, _, said = f"\n{rest}".rpartition("\n=> ")
+        found.append((heading, body[1:] + "\n" * bool(body), said.rstrip("\n")))
+    return found
+
+
+def check_says(program: Program, text: str) -> str:
+    """What `check` says of a text: `accepted`, or its faults."""
+    ran = program.run("check", "-", "--format", "json", stdin=text, limits=LIMITS)
+    if ran.status == 0:
+        return "accepted"
+    faults = [json.loads(it) for it in ran.err.splitlines()]
+    return " | ".join(f"{it.get('line', 0)}:{it.get('column', 0)}: {it['message']}" for it in faults)
+
+
+def texts(told: Report, programs: Programs) -> None:
+    """Each text of .ci/data/refusals/texts.cases is accepted, or rejected in the words that it says."""
+    file = DATA / "refusals/texts.cases"
+    whole = file.read_text(encoding="utf-8")
+    cases = texts_in(whole)
+    for heading, text, wanted in cases:
+        got = check_says(programs["am_rehearse"], text)
+        if told.is_written:
+            whole = whole.replace(f"=== {heading}\n{text}=> {wanted}\n", f"=== {heading}\n{text}=> {got}\n")
+        else:
+            told.same(heading, wanted, got, file.name)
+    if told.is_written:
+        file.write_text(whole, encoding="utf-8")
+    told.ok(f"{len(cases)} texts were compared")
+    told.at_least(15, len(cases), "texts")
+
+
+# What amtool rejects.
+
+def amtool_says(file: Path) -> str:
+    """What amtool says of a configuration that it rejects; nothing of one that it accepts."""
+    ran = subprocess.run(["amtool", "check-config", str(file)], stdout=subprocess.PIPE, stderr=subprocess.STDOUT, text=True,
+                         errors="backslashreplace", check=False)
+    if ran.returncode == 0:
+        return ""
+    return (ran.stdout.partition("FAILED: ")[2] or "rejected").splitlines()[0]
+
+
+def amtool(told: Report, programs: Programs) -> None:
+    """No configuration of a row is played that amtool rejects. It reads each as a file of its own."""
+    if shutil.which("amtool") is None:
+        told.skip("what amtool rejects", "it isn't installed")
+        return
+    tables = [DATA / "refusals" / name for name in ("alertmanager.rows", "settings.rows")]
+    with tempfile.TemporaryDirectory() as folder, ThreadPoolExecutor() as pool:
+        files = {}
+        for table in tables:
+            for at, words, whole, wanted in changes_in(Rows(table)):
+                if wanted == "played":
+                    file = Path(folder) / f"{table.name}-{at}.yml"
+                    file.write_text(json.dumps(whole["alertmanager"]), encoding="utf-8")
+                    files[f"{table.name}:{at + 1}: {words[:150]}"] = file
+        for heading, text, wanted in texts_in((DATA / "refusals/texts.cases").read_text(encoding="utf-8")):
+            if wanted == "accepted":
+                file = Path(folder) / f"text-{len(files)}.yml"
+                file.write_text(text, encoding="utf-8")
+                files[heading] = file
+        for title, said in zip(files, pool.map(amtool_says, files.values())):
+            if said:
+                told.differs(title, f"rejected, as amtool says: {said}", "played")
+    told.ok(f"{len(files)} configurations that are played were given to amtool")
+    told.at_least(300, len(files), "configurations")
 
 
 # Matchers.
@@ -106,9 +206,8 @@ def matchers(told: Report, programs: Programs) -> None:
 
 # What is ignored of an alertmanager.yml, and how many faults are printed.
 
-def mailed(**settings: Json) -> Json:
-    """A receiver of mail with these settings."""
-    return [{"name": "team", "email_configs": [settings]}]
+# A receiver of mail, with what Alertmanager needs.
+MAILED = [{"name": "team", "email_configs": [{"to": "a@example.org", "from": "b@example.org", "smarthost": "localhost:25"}]}]
 
 
 def ignored(told: Report, programs: Programs) -> None:
@@ -117,13 +216,13 @@ def ignored(told: Report, programs: Programs) -> None:
     program = programs["am_rehearse"]
     cases: list[tuple[Json, str]] = [
         ({}, ""),
-        ({"global": {}, "templates": [], "time_intervals": [], "receivers": mailed(send_resolved=True)}, ""),
+        ({"global": {}, "templates": [], "time_intervals": []}, ""),
         ({"global": {"resolve_timeout": "5m"}}, "global"),
         ({"templates": ["x"]}, "templates"),
         ({"time_intervals": [{"name": "x"}]}, "time intervals"),
         ({"mute_time_intervals": [{"name": "x"}]}, "time intervals"),
-        ({"receivers": mailed(send_resolved=True, to="x")}, "settings of integrations"),
-        ({"global": {"resolve_timeout": "5m"}, "receivers": mailed(to="x")}, "global, settings of integrations"),
+        ({"receivers": MAILED}, "settings of integrations"),
+        ({"global": {"resolve_timeout": "5m"}, "receivers": MAILED}, "global, settings of integrations"),
     ]
     for members, what in cases:
         ran = rehearse(program, json.dumps(alertmanager_story(**members)))
@@ -190,7 +289,7 @@ def trees(told: Report, program: Program) -> None:
         ("1,023 routes five deep, with continue", routes_below([3, 4, 4, 4, 4], **{"continue": True}), "status 0, 768 notices"),
         ("1,024 routes five deep", [*widest, {}], "status 2, 0 notices /alertmanager/route/routes/3: value"),
     ]:
-        hooks = [{"name": "team", "webhook_configs": [{}]}]
+        hooks = [{"name": "team", "webhook_configs": [{"url": "http://localhost/"}]}]
         whole = alertmanager_story(route={"receiver": "team", "routes": routes}, receivers=hooks)
         labels = {f"level{level}": "x" for level in range(1, 6)}
         text = json.dumps({**whole, "alerts": [{"labels": labels}], "output": "notices"})
@@ -210,7 +309,8 @@ def limits(told: Report, programs: Programs) -> None:
     trees(told, program)
 
 
-PARTS = {"rehearsals": rehearsals, "alertmanager": alertmanager, "matchers": matchers, "ignored": ignored, "limits": limits}
+PARTS = {"rehearsals": rehearsals, "alertmanager": alertmanager, "settings": settings, "texts": texts, "amtool": amtool,
+         "matchers": matchers, "ignored": ignored, "limits": limits}
 
 if __name__ == "__main__":
     report.main(__file__, PARTS, ("am_rehearse",), __doc__)

@@ -11,5 +11,5 @@ mod fields;
 pub mod manual;
 pub mod paint;
 pub mod request;
-mod spelling;
+pub mod spelling;
 mod spot;

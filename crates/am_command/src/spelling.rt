@@ -4,7 +4,7 @@ use strsim::osa_distance;
 
 /// The word that comes nearest to another so far.
 #[derive(Clone, Copy)]
-pub(crate) struct Nearest<'w> {
+pub struct Nearest<'w> {
     word: &'w str,
     found: Option<&'w str>,
     /// How many letters differ at most.
@@ -13,7 +13,7 @@ pub(crate) struct Nearest<'w> {
 
 impl<'w> Nearest<'w> {
     /// Returns a search for what was meant by a word.
-    pub(crate) fn to(word: &'w str) -> Nearest<'w> {
+    pub fn to(word: &'w str) -> Nearest<'w> {
         Nearest {
             word,
             found: None,
@@ -22,7 +22,7 @@ impl<'w> Nearest<'w> {
     }
 
     /// Tries a word.
-    pub(crate) fn consider(&mut self, alloc: Global, known: &'w str) -> Result<(), AllocError> {
+    pub fn consider(&mut self, alloc: Global, known: &'w str) -> Result<(), AllocError> {
         if known.len() > 200 || self.word.len() > 200 || known == self.word {
             return Ok(());
         }
@@ -35,7 +35,7 @@ impl<'w> Nearest<'w> {
     }
 
     /// Returns the nearest word, if one is near.
-    pub(crate) fn found(self) -> Option<&'w str> {
+    pub fn found(self) -> Option<&'w str> {
         self.found
     }
 }

@@ -1,15 +1,15 @@
 //! `am-rehearse check`: says what configurations hold, or all that is wrong in them.
 use crate::config::configured;
 use crate::faults::accept;
+use crate::lint::Warnings;
 use crate::once::accept_inputs;
-use crate::system_zones::SystemZones;
+use crate::times::written_routes;
 use crate::warnings::push_warnings;
-use crate::zones::push_missing_zones;
 use am_command::exit_status::ExitStatus;
 use am_console::console::{Console, Document, shown};
 use am_input::configured::Configured;
 use am_input::faults::ReceiversOf;
-use am_input::form::{Form, form_of, has_configuration};
+use am_input::form::{Form, alertmanager_in, form_of, has_configuration};
 use am_input::input::Overrides;
 use std::alloc::AllocError;
 use std::rt::Files;
@@ -46,8 +46,7 @@ fn check_file<R: Files + Eprint + AllocGlobal>(
     lines: &mut String,
 ) -> Result<(), ExitStatus> {
     let document = console.read(rt, path)?;
-    let form = form_of(&document.value);
-    match form {
+    match form_of(&document.value) {
         Form::Story if !has_configuration(&document.value) => {
             check_story(rt, console, &document, ReceiversOf::Given(None))?;
             let file = shown(path);
@@ -60,29 +59,12 @@ fn check_file<R: Files + Eprint + AllocGlobal>(
         Form::Own | Form::Alertmanager => {}
     }
     let configured = configured(rt, console, &document)?;
-    let added = push_configuration(rt, path, form, &document, &configured, lines);
+    let added = push_summary(rt, path, &document, &configured, lines);
     drop(configured);
     match added {
         Ok(()) => Ok(()),
         Err(_) => Err(console.complain_of_memory(rt)),
     }
-}
-
-/// Adds what a configuration has, and the zones of an `alertmanager.yml` that aren't there.
-fn push_configuration<R: Files + AllocGlobal>(
-    rt: &R,
-    path: &str,
-    form: Form,
-    document: &Document<'_>,
-    configured: &Configured,
-    lines: &mut String,
-) -> Result<(), AllocError> {
-    push_summary(rt, path, configured, lines)?;
-    if form != Form::Alertmanager {
-        return Ok(());
-    }
-    let mut files = SystemZones::new(rt);
-    push_missing_zones(rt.alloc(), shown(path), &document.value, &mut files, lines)
 }
 
 fn check_story<R: Files + Eprint + AllocGlobal>(
@@ -102,6 +84,7 @@ fn check_story<R: Files + Eprint + AllocGlobal>(
 fn push_summary<R: AllocGlobal>(
     rt: &R,
     path: &str,
+    document: &Document<'_>,
     configured: &Configured,
     lines: &mut String,
 ) -> Result<(), AllocError> {
@@ -126,5 +109,14 @@ fn push_summary<R: AllocGlobal>(
         let ignored = configured.ignored;
         write!(lines, "{file}: ignored: {ignored}\n")?;
     }
-    push_warnings(rt.alloc(), file, &config.routes, lines)
+    let mut written = Vec::new(rt.alloc());
+    if let Some(root) = alertmanager_in(&document.value).and_then(|file| file.get("route")) {
+        written.push(root)?;
+    }
+    let below = written_routes(rt.alloc(), &document.value)?;
+    for route in below.as_slice() {
+        written.push(*route)?;
+    }
+    let mut warnings = Warnings::new(rt.alloc(), file, document.text.as_slice(), lines)?;
+    push_warnings(rt.alloc(), config, written.as_slice(), &mut warnings)
 }

@@ -6,7 +6,10 @@ use crate::config::configured;
 use crate::times::{push_times, written_routes};
 use crate::tree::{push_reached, tree_text};
 use am_alerts::labels::{LabelFault, Labels};
+use am_alerts::matcher::{MatcherParts, Operator};
 use am_alerts::route::Routes;
+use am_alerts::text::Text;
+use am_cli::matcher_text::parts_of_text;
 use am_command::exit_status::ExitStatus;
 use am_config::written::WrittenRoutes;
 use am_console::console::{Console, Document};
@@ -103,15 +106,19 @@ fn labels_of<R: Eprint + AllocGlobal>(
     console: &Console,
     words: &[&str],
 ) -> Result<Labels, ExitStatus> {
-    let mut pairs = Vec::new(rt.alloc());
+    let mut parts = Vec::new(rt.alloc());
     for word in words {
-        let Some((name, value)) = word.split_once('=') else {
-            let _ = eprintln!(rt;
-                "am-rehearse: `{word}` is no label; write it as severity=critical"
-            );
-            return Err(ExitStatus::Rejected);
-        };
-        if pairs.push((name, without_quotes(value))).is_err() {
+        let label = label_of(rt, console, word)?;
+        if parts.push(label).is_err() {
+            return Err(console.complain_of_memory(rt));
+        }
+    }
+    let mut pairs = Vec::new(rt.alloc());
+    for label in &parts {
+        if pairs
+            .push((label.name.as_str(), label.value.as_str()))
+            .is_err()
+        {
             return Err(console.complain_of_memory(rt));
         }
     }
@@ -125,12 +132,48 @@ fn labels_of<R: Eprint + AllocGlobal>(
     }
 }
 
-/// Returns a value without the quotes round it, if there are some.
-fn without_quotes(value: &str) -> &str {
-    match value.strip_prefix("\"") {
-        None => value,
-        Some(inner) => inner.strip_suffix("\"").unwrap_or(value),
+/// Returns the name and the value of a word such as `severity=critical`, in which quotes and escapes count as in a matcher.
+/// The error is the status.
+fn label_of<R: Eprint + AllocGlobal>(
+    rt: &R,
+    console: &Console,
+    word: &str,
+) -> Result<MatcherParts, ExitStatus> {
+    match parts_of_label(rt.alloc(), word) {
+        Ok(Some(parts)) if parts.op == Operator::Equal => return Ok(parts),
+        Ok(Some(_)) => {
+            let _ = eprintln!(rt;
+                "am-rehearse: `{word}` is a matcher, and an alert has labels; write one as severity=critical"
+            );
+        }
+        Ok(None) => {
+            let _ = eprintln!(rt;
+                "am-rehearse: `{word}` is no label; write it as severity=critical"
+            );
+        }
+        Err(_) => return Err(console.complain_of_memory(rt)),
     }
+    Err(ExitStatus::Rejected)
+}
+
+/// Returns the parts of a word that is written as a matcher is. Without quotes the value can have commas.
+fn parts_of_label(alloc: Global, word: &str) -> Result<Option<MatcherParts>, AllocError> {
+    let parts = parts_of_text(alloc, word)?;
+    match word.split_once('=') {
+        Some((name, value)) if parts.is_none() && is_plain(name) && is_plain(value) => {
+            Ok(Some(MatcherParts {
+                name: Text::new(alloc, name.trim())?,
+                op: Operator::Equal,
+                value: Text::new(alloc, value.trim())?,
+            }))
+        }
+        _ => Ok(parts),
+    }
+}
+
+/// Returns whether a text has nothing that would make it another kind of matcher, or end it.
+fn is_plain(text: &str) -> bool {
+    !text.contains(['"', '\\', '!']) && !text.starts_with('~')
 }
 
 /// The routes that a label set reaches.

@@ -1,79 +1,224 @@
 //! What is odd in a configuration, though it is accepted.
-use crate::tree::{push_matchers, route_positions};
-use am_alerts::route::{Child, Routes};
+use crate::implied::{Entry, Never, entries_of, never_reached};
+use crate::lint::{Lint, Warnings};
+use am_alerts::route::{Route, Routes};
+use am_command::durations::push_duration;
+use am_model::config::Config;
+use serde_json::Value;
 use std::alloc::{AllocError, Global};
 
-/// A route below the root, as the warnings need it.
-#[derive(Drop)]
-struct Entry<'r> {
-    child: &'r Child,
-    /// The position of the route right above it.
-    above: usize,
-    /// Its matchers as text.
-    matchers: String,
-}
-
-/// Adds a line for each route that no label set reaches for a route before it, and for each that has the matchers of one
-/// before it, with which it shares its keys in Alertmanager's notification log. Cost: each route with those before it.
+/// Adds a warning for each route that no label set reaches or that shares its log entries, and for receivers, inhibition rules and
+/// waits that can't be meant. `written` has the routes as the file has them, the root first; none where it isn't one of
+/// Alertmanager.
 pub fn push_warnings(
     alloc: Global,
-    file: &str,
-    routes: &Routes,
-    lines: &mut String,
+    config: &Config,
+    written: &[&Value],
+    warnings: &mut Warnings<'_>,
 ) -> Result<(), AllocError> {
-    let route_positions = route_positions(alloc, routes)?;
-    let mut entries = Vec::new(alloc);
-    for (child, route_position) in routes.children().iter().zip(route_positions.as_slice()) {
-        let mut matchers = String::new(alloc);
-        push_matchers(child.matchers.as_slice(), &mut matchers)?;
-        entries.push(Entry {
-            child,
-            above: route_position.above,
-            matchers,
-        })?;
-    }
+    push_routes(alloc, &config.routes, warnings)?;
+    push_receivers(config, warnings)?;
+    push_rules(config, warnings)?;
+    push_waits(alloc, &config.routes, written, warnings)
+}
+
+/// Adds a warning for each route that no label set reaches, and for each that has the matchers and the receiver of one before it.
+/// Cost: each route with its siblings, but no more than a million comparisons of matchers.
+fn push_routes(
+    alloc: Global,
+    routes: &Routes,
+    warnings: &mut Warnings<'_>,
+) -> Result<(), AllocError> {
+    let entries = entries_of(alloc, routes)?;
+    let mut left = MAX_COMPARED;
     for (index, entry) in entries.iter().enumerate() {
-        push_warning(file, entries.as_slice(), index, entry, lines)?;
+        let name = &entry.child.route.name;
+        match never_reached(alloc, entries.as_slice(), index, &mut left)? {
+            Never::Reached => push_shared(entries.as_slice(), index, entry, warnings)?,
+            Never::Contradicts => {
+                if warnings.begin(Lint::UnreachableRoute)? {
+                    write!(warnings.lines, "no label set reaches route `{name}`: ")?;
+                    warnings
+                        .lines
+                        .push_str("its matchers, with those above it, exclude each other")?;
+                    warnings.end(Lint::UnreachableRoute)?;
+                }
+            }
+            Never::Behind(earlier) => {
+                if warnings.begin(Lint::UnreachableRoute)? {
+                    write!(warnings.lines, "no label set reaches route `{name}`: ")?;
+                    write!(
+                        warnings.lines,
+                        "route `{earlier}` before it takes them all, without `continue`"
+                    )?;
+                    warnings.end(Lint::UnreachableRoute)?;
+                }
+            }
+        }
     }
     Ok(())
 }
 
-/// Adds a line on the route at this index, if an earlier sibling is the cause.
-fn push_warning(
-    file: &str,
+/// How many matchers are compared.
+const MAX_COMPARED: usize = 1_000_000;
+
+/// Adds a warning on the route at this index, if an earlier sibling has its matchers and its receiver.
+fn push_shared(
     entries: &[Entry<'_>],
     index: usize,
     entry: &Entry<'_>,
-    lines: &mut String,
+    warnings: &mut Warnings<'_>,
 ) -> Result<(), AllocError> {
-    let name = &entry.child.route.name;
     for before in entries.iter().take(index) {
-        let earlier = &before.child.route.name;
-        let is_beside = before.above == entry.above;
-        let is_same = is_beside && before.matchers.as_str() == entry.matchers.as_str();
-        let takes_all = is_beside && before.child.matchers.is_empty();
-        if !before.child.continues && (is_same || takes_all) {
-            write!(
-                lines,
-                "{file}: warning: no label set reaches route `{name}`: "
-            )?;
-            write!(
-                lines,
-                "route `{earlier}` before it takes them all, without `continue`\n"
-            )?;
-            return Ok(());
-        }
+        let is_same = before.above == entry.above
+            && before.matchers.as_str() == entry.matchers.as_str()
+            && before.child.route.receiver == entry.child.route.receiver;
         if is_same {
-            write!(
-                lines,
-                "{file}: warning: routes `{earlier}` and `{name}` have the same matchers, "
-            )?;
-            write!(
-                lines,
-                "so they share the keys of Alertmanager's notification log\n"
-            )?;
+            if warnings.begin(Lint::SharedLogEntries)? {
+                write!(
+                    warnings.lines,
+                    "routes `{}` and `{}` have the same matchers and receiver, so they share their entries in Alertmanager's notification log",
+                    before.child.route.name, entry.child.route.name
+                )?;
+                warnings.end(Lint::SharedLogEntries)?;
+            }
             return Ok(());
         }
     }
     Ok(())
+}
+
+/// Adds a warning for each receiver that no route names.
+fn push_receivers(config: &Config, warnings: &mut Warnings<'_>) -> Result<(), AllocError> {
+    for receiver in config.receivers.as_slice() {
+        let is_used = config.routes.root().receiver == receiver.name
+            || config
+                .routes
+                .children()
+                .iter()
+                .any(|child| child.route.receiver == receiver.name);
+        if !is_used && warnings.begin(Lint::UnusedReceiver)? {
+            write!(warnings.lines, "no route has receiver `{}`", receiver.name)?;
+            warnings.end(Lint::UnusedReceiver)?;
+        }
+    }
+    Ok(())
+}
+
+/// Adds a warning for each inhibition rule that inhibits more than can be meant.
+fn push_rules(config: &Config, warnings: &mut Warnings<'_>) -> Result<(), AllocError> {
+    for (index, rule) in config.rules.as_slice().iter().enumerate() {
+        if rule.target().is_empty() && warnings.begin(Lint::InhibitWithoutTarget)? {
+            write!(
+                warnings.lines,
+                "inhibition rule {index} has no matchers of targets: it inhibits every alert"
+            )?;
+            warnings.end(Lint::InhibitWithoutTarget)?;
+        }
+        if rule.equal().is_empty() && warnings.begin(Lint::InhibitWithoutEqual)? {
+            write!(
+                warnings.lines,
+                "inhibition rule {index} has no `equal`: an alert of its source inhibits each of its targets, of whatever cluster or instance"
+            )?;
+            warnings.end(Lint::InhibitWithoutEqual)?;
+        }
+    }
+    Ok(())
+}
+
+/// A pair of waits that a route says, at which repeats come later than it says, or now and then.
+#[derive(Clone, Copy)]
+struct OddWaits<'r> {
+    /// The first route with them.
+    route: &'r Route,
+    /// How many others have them.
+    others: usize,
+}
+
+/// Adds a warning for each pair of waits at which repeats come later than a route says, or now and then.
+fn push_waits(
+    alloc: Global,
+    routes: &Routes,
+    written: &[&Value],
+    warnings: &mut Warnings<'_>,
+) -> Result<(), AllocError> {
+    let mut odd: Vec<OddWaits<'_>> = Vec::new(alloc);
+    let mut below = routes.children().iter();
+    for (index, value) in written.iter().enumerate() {
+        let route = if index == 0 {
+            Some(routes.root())
+        } else {
+            below.next().map(|child| &child.route)
+        };
+        match route {
+            Some(route) if says_waits(value) && is_odd(route) => add_waits(route, &mut odd)?,
+            _ => {}
+        }
+    }
+    for waits in &odd {
+        push_wait(waits, warnings)?;
+    }
+    Ok(())
+}
+
+/// Counts a route among those that have its waits.
+fn add_waits<'r>(route: &'r Route, odd: &mut Vec<OddWaits<'r>>) -> Result<(), AllocError> {
+    for waits in odd.iter_mut() {
+        if waits.route.repeat_interval == route.repeat_interval
+            && waits.route.group_interval == route.group_interval
+        {
+            waits.others = waits.others.saturating_add(1);
+            return Ok(());
+        }
+    }
+    odd.push(OddWaits { route, others: 0 })
+        .map_err(|_| AllocError)
+}
+
+/// Returns whether a route's repeats come later than it says, or now and then.
+fn is_odd(route: &Route) -> bool {
+    let interval = route.group_interval;
+    let repeat = route.repeat_interval;
+    interval != 0 && repeat != 0 && (repeat < interval || repeat % interval == 0)
+}
+
+/// Returns whether a route of a file says how often it repeats or flushes.
+fn says_waits(route: &Value) -> bool {
+    ["group_interval", "repeat_interval"].iter().any(|name| route
+        .get(*name)
+        .is_some_and(|value| !value.is_null()))
+}
+
+fn push_wait(waits: &OddWaits<'_>, warnings: &mut Warnings<'_>) -> Result<(), AllocError> {
+    let interval = waits.route.group_interval;
+    let repeat = waits.route.repeat_interval;
+    let lint = if repeat < interval {
+        Lint::RepeatBelowInterval
+    } else {
+        Lint::RepeatOnTheEdge
+    };
+    if !warnings.begin(lint)? {
+        return Ok(());
+    }
+    write!(warnings.lines, "route `{}`", waits.route.name)?;
+    if waits.others > 0 {
+        write!(warnings.lines, " (and {} more)", waits.others)?;
+    }
+    warnings.lines.push_str(" repeats after ")?;
+    if lint == Lint::RepeatBelowInterval {
+        push_duration(interval, warnings.lines)?;
+        warnings.lines.push_str(", its `group_interval`: its `repeat_interval` is below it, ")?;
+        push_duration(repeat, warnings.lines)?;
+    } else {
+        push_duration(repeat, warnings.lines)?;
+        warnings.lines.push_str(" or after ")?;
+        push_duration(repeat.saturating_add(interval), warnings.lines)?;
+        warnings.lines.push_str(
+            ", as milliseconds fall: `repeat_interval` is a multiple of `group_interval`; with ",
+        )?;
+        push_duration(repeat.saturating_sub(interval / 2), warnings.lines)?;
+        warnings.lines.push_str(" it is ")?;
+        push_duration(repeat, warnings.lines)?;
+    }
+    warnings.end(lint)
 }

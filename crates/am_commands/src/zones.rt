@@ -1,32 +1,40 @@
-//! The time zones that a configuration names. `check` says which of them aren't there.
+//! The time zones that a configuration names. `config` rejects those that aren't there.
+use am_alerts::text::Text;
+use am_cli::fault::InputFault;
+use am_cli::faults::Faults;
 use am_cli::reader::Reader;
-use am_config::hours::zone_names;
+use am_config::hours::{refuse_zones, zone_names};
 use am_hours::zone::Zone;
 use am_input::zone_files::ZoneFiles;
 use serde_json::Value;
 use std::alloc::{AllocError, Global};
 
-/// Adds a line for each zone that a configuration of Alertmanager names and that no file has.
-pub fn push_missing_zones<Z: ZoneFiles>(
+/// Returns a fault for each zone that a configuration of Alertmanager names and that no file has.
+pub fn missing_zones<Z: ZoneFiles>(
     alloc: Global,
-    file: &str,
     config: &Value,
     files: &mut Z,
-    lines: &mut String,
-) -> Result<(), AllocError> {
-    let Ok(names) = zone_names(&Reader::strict(alloc, config)) else {
-        return Err(AllocError);
-    };
-    for name in &names {
-        if !has_zone(alloc, name.as_str(), files)? {
-            write!(
-                lines,
-                "{file}: warning: no time zone `{name}`: the system's files don't have it. "
-            )?;
-            write!(lines, "A story can say its rule in `zones`\n")?;
+) -> Result<Faults, InputFault> {
+    let reader = Reader::strict(alloc, config);
+    let known = known_zones(alloc, &reader, files)?;
+    let mut faults = Faults::none(alloc);
+    refuse_zones(&mut faults, &reader, known.as_slice())?;
+    Ok(faults)
+}
+
+/// Returns the zones that a configuration names and that a file has.
+fn known_zones<Z: ZoneFiles>(
+    alloc: Global,
+    reader: &Reader<'_, '_>,
+    files: &mut Z,
+) -> Result<Vec<Text>, InputFault> {
+    let mut known = Vec::new(alloc);
+    for name in zone_names(reader)? {
+        if has_zone(alloc, name.as_str(), files)? {
+            known.push(name)?;
         }
     }
-    Ok(())
+    Ok(known)
 }
 
 /// Returns whether there is a file of a zone's name, with a zone in it.

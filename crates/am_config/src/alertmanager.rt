@@ -4,11 +4,14 @@ ghost use Rattle.am_cli.specs.Faults.{HasFaults};
 ghost use Rattle.am_model.specs.Config.{config_fault, greatest_limits};
 
 use crate::dropped::IgnoredSettings;
+use crate::findings::{keep_findings, keep_unknown};
 use crate::hours::Hours;
 use crate::inhibit::read_rules;
 use crate::optional::{has_items, non_null};
 use crate::receiver::read_receivers;
 use crate::route::{Routing, Tree, read_tree};
+use crate::scalar::text_of;
+use crate::settings::{Checking, Part};
 use crate::times::{INTERVALS, MUTE, Times};
 use am_alerts::route::Routes;
 use am_alerts::sequence::Sequence;
@@ -29,51 +32,6 @@ const MEMBERS: [&str; 8] = [
     MUTE,
     INTERVALS,
     "tracing",
-];
-
-/// The members of `global`, also of later releases.
-const GLOBAL: [&str; 41] = [
-    "resolve_timeout",
-    "http_config",
-    "smtp_from",
-    "smtp_hello",
-    "smtp_smarthost",
-    "smtp_auth_username",
-    "smtp_auth_password",
-    "smtp_auth_password_file",
-    "smtp_auth_secret",
-    "smtp_auth_identity",
-    "smtp_require_tls",
-    "slack_api_url",
-    "slack_api_url_file",
-    "pagerduty_url",
-    "opsgenie_api_url",
-    "opsgenie_api_key",
-    "opsgenie_api_key_file",
-    "wechat_api_url",
-    "wechat_api_secret",
-    "wechat_api_corp_id",
-    "victorops_api_url",
-    "victorops_api_key",
-    "victorops_api_key_file",
-    "telegram_api_url",
-    "webex_api_url",
-    "jira_api_url",
-    "smtp_tls_config",
-    "smtp_force_implicit_tls",
-    "slack_app_token",
-    "slack_app_token_file",
-    "slack_app_url",
-    "wechat_api_secret_file",
-    "telegram_bot_token",
-    "telegram_bot_token_file",
-    "rocketchat_api_url",
-    "rocketchat_token",
-    "rocketchat_token_file",
-    "rocketchat_token_id",
-    "rocketchat_token_id_file",
-    "mattermost_webhook_url",
-    "mattermost_webhook_url_file",
 ];
 
 /// How long the notification log keeps an entry: 120 hours, in milliseconds.
@@ -98,8 +56,8 @@ struct Parts {
     timed: bool,
 }
 
-/// Reads Alertmanager's configuration. Where it can't be read exactly all faults are answered, in the
-/// order of reading: unknown members, `global`, `tracing`, `templates`, the times, the routes from the root
+/// Reads Alertmanager's configuration. Where it can't be read exactly, or Alertmanager rejects it, all faults are
+/// answered, in the order of reading: unknown members, `global`, `tracing`, `templates`, the times, the routes from the root
 /// down, receivers and inhibition rules. Its limits are the greatest: the file says none.
 ///
 /// Without `hours` time intervals are read, but no route is muted by them; `timed` says whether one
@@ -107,6 +65,7 @@ struct Parts {
 pub fn read_alertmanager(
     reader: &Reader<'_, '_>,
     hours: Option<&Hours>,
+    checking: Checking,
 ) -> Result<Alertmanager, Refusal>
     ensures sound { IfOk result (λ read. config_fault read.config ≡ None) }
     ensures limits { IfOk result (λ read. read.config.limits ≡ greatest_limits) }
@@ -114,7 +73,7 @@ pub fn read_alertmanager(
 {
     let mut faults = Faults::none(reader.alloc());
     let mut dropped = IgnoredSettings::nothing();
-    let parts = read_parts(&mut faults, &mut dropped, reader, hours)?;
+    let parts = read_parts(&mut faults, &mut dropped, reader, hours, checking)?;
     match parts {
         Some(parts) if faults.is_empty() => finish(reader, faults, dropped, parts),
         _ => Err(refused(reader, faults)),
@@ -126,17 +85,18 @@ fn read_parts(
     dropped: &mut IgnoredSettings,
     reader: &Reader<'_, '_>,
     hours: Option<&Hours>,
+    checking: Checking,
 ) -> Result<Option<Parts>, InputFault> {
     let Some(top) = faults.kept(reader.object())? else {
         return Ok(None);
     };
     faults.only(&top, &MEMBERS)?;
-    drop_parts(faults, dropped, &top)?;
+    drop_parts(faults, dropped, &top, checking)?;
     let times = Times::read(faults, &top, hours)?;
     let mut routing = Routing::new(&top, times)?;
     let tree = read_tree(faults, &mut routing, &top)?;
     dropped.time_intervals = routing.times.has_unlisted();
-    let receivers = read_receivers(faults, dropped, &top)?;
+    let receivers = read_receivers(faults, dropped, &top, checking)?;
     let rules = read_rules(faults, &top)?;
     Ok(Some(Parts {
         tree,
@@ -151,10 +111,14 @@ fn drop_parts(
     faults: &mut Faults,
     dropped: &mut IgnoredSettings,
     top: &Object<'_, '_>,
+    checking: Checking,
 ) -> Result<(), InputFault> {
     if let Some(member) = non_null(top, "global") {
         if let Some(global) = faults.kept(member.object())? {
-            faults.only(&global, &GLOBAL)?;
+            match checking {
+                Checking::AsAlertmanager => keep_findings(faults, Part::Global, &global, None)?,
+                Checking::NamesAlone => keep_unknown(faults, Part::Global, &global)?,
+            }
             dropped.global = !global.members().is_empty();
         }
     }
@@ -162,6 +126,18 @@ fn drop_parts(
         dropped.tracing = faults.kept(member.object())?.is_some();
     }
     dropped.templates = has_items(faults, top, "templates")?;
+    refuse_templates(faults, top)
+}
+
+/// Refuses what is in the list of templates and can be no file.
+fn refuse_templates(faults: &mut Faults, top: &Object<'_, '_>) -> Result<(), InputFault> {
+    let Some(member) = non_null(top, "templates") else {
+        return Ok(());
+    };
+    let items = member.array().unwrap_or(&[]);
+    for (index, value) in items.iter().enumerate() {
+        faults.kept(text_of(&member.item(index, value), value))?;
+    }
     Ok(())
 }
 

@@ -5,7 +5,8 @@ ghost use Rattle.am_config.specs.declared.hours.TheConstants.{MAX_ZONES};
 use crate::times::{INTERVALS, LISTS, LOCAL, LOCATION};
 use am_alerts::spans::Spans;
 use am_alerts::text::Text;
-use am_cli::fault::InputFault;
+use am_cli::fault::{FaultKind, InputFault};
+use am_cli::faults::Faults;
 use am_cli::reader::Reader;
 use am_hours::clock::{Clock, ClockFault};
 use am_hours::fault::HoursFault;
@@ -174,6 +175,68 @@ pub fn zone_names(reader: &Reader<'_, '_>) -> Result<Vec<Text>, InputFault>
         }
     }
     Ok(names.list)
+}
+
+/// Adds a fault for each `location` of a configuration's time intervals that is none of these zones, nor UTC. What has another
+/// fault, as `Local`, gets none here.
+pub fn refuse_zones(
+    faults: &mut Faults,
+    reader: &Reader<'_, '_>,
+    known: &[Text],
+) -> Result<(), InputFault> {
+    let Ok(top) = reader.object() else {
+        return Ok(());
+    };
+    for name in LISTS {
+        let Some(list) = top.optional(name) else {
+            continue;
+        };
+        for (index, value) in items_of(top.members(), name).iter().enumerate() {
+            refuse_in_definition(faults, &list.item(index, value), known)?;
+        }
+    }
+    Ok(())
+}
+
+/// Adds a fault for each zone that isn't known in the intervals of a definition.
+fn refuse_in_definition(
+    faults: &mut Faults,
+    reader: &Reader<'_, '_>,
+    known: &[Text],
+) -> Result<(), InputFault> {
+    let Ok(definition) = reader.object() else {
+        return Ok(());
+    };
+    let Some(list) = definition.optional(INTERVALS) else {
+        return Ok(());
+    };
+    for (index, value) in items_of(definition.members(), INTERVALS).iter().enumerate() {
+        refuse_in_interval(faults, &list.item(index, value), known)?;
+    }
+    Ok(())
+}
+
+fn refuse_in_interval(
+    faults: &mut Faults,
+    reader: &Reader<'_, '_>,
+    known: &[Text],
+) -> Result<(), InputFault> {
+    let Ok(interval) = reader.object() else {
+        return Ok(());
+    };
+    let Some(location) = interval.optional(LOCATION) else {
+        return Ok(());
+    };
+    match location.text() {
+        Ok(name) if is_looked_for(name) && !is_known(known, name) => {
+            faults.push(location.refuse(FaultKind::BadValue))
+        }
+        _ => Ok(()),
+    }
+}
+
+fn is_known(known: &[Text], name: &str) -> bool {
+    known.iter().any(|zone| zone.as_str() == name)
 }
 
 /// Names of zones, each once. Contracts see how many they are.

@@ -100,7 +100,7 @@ pub(crate) fn optional_interval(
 }
 
 /// Whether a value is the number 0, the one duration that is written without a unit.
-fn is_zero(member: &Reader<'_, '_>) -> bool {
+pub(crate) fn is_zero(member: &Reader<'_, '_>) -> bool {
     member.number().is_ok_and(|number| number == 0)
 }
 

@@ -1,13 +1,16 @@
 //! Receivers and their integrations. `alertmanager` calls it.
 use crate::dropped::IgnoredSettings;
-use crate::optional::{flag_or, non_null, required};
+use crate::findings::keep_findings;
+use crate::optional::{non_null, required};
 use crate::scalar::required_text;
+use crate::settings::{Checking, Part};
 use am_alerts::sequence::Sequence;
 use am_alerts::text::Text;
 use am_cli::fault::{FaultKind, InputFault};
 use am_cli::faults::Faults;
 use am_cli::reader::{Object, Reader};
 use am_model::config::{Integration, MAX_INTEGRATIONS, MAX_RECEIVERS, Receiver};
+use serde_json::{Map, Value};
 
 /// One kind of integrations.
 #[derive(Clone, Copy)]
@@ -15,7 +18,9 @@ struct Kind {
     /// The member of a receiver that lists them.
     list: &'static str,
     name: &'static str,
-    /// What `send_resolved` is where it is null or absent.
+    /// What is read of its settings.
+    part: Part,
+    /// What `send_resolved` is where it is absent.
     send_resolved: bool,
 }
 
@@ -24,91 +29,109 @@ const KINDS: [Kind; 18] = [
     Kind {
         list: "webhook_configs",
         name: "webhook",
+        part: Part::Webhook,
         send_resolved: true,
     },
     Kind {
         list: "email_configs",
         name: "email",
+        part: Part::Email,
         send_resolved: false,
     },
     Kind {
         list: "pagerduty_configs",
         name: "pagerduty",
+        part: Part::Pagerduty,
         send_resolved: true,
     },
     Kind {
         list: "opsgenie_configs",
         name: "opsgenie",
+        part: Part::Opsgenie,
         send_resolved: true,
     },
     Kind {
         list: "wechat_configs",
         name: "wechat",
+        part: Part::Wechat,
         send_resolved: false,
     },
     Kind {
         list: "slack_configs",
         name: "slack",
+        part: Part::Slack,
         send_resolved: false,
     },
     Kind {
         list: "victorops_configs",
         name: "victorops",
+        part: Part::Victorops,
         send_resolved: true,
     },
     Kind {
         list: "pushover_configs",
         name: "pushover",
+        part: Part::Pushover,
         send_resolved: true,
     },
     Kind {
         list: "sns_configs",
         name: "sns",
+        part: Part::Sns,
         send_resolved: true,
     },
     Kind {
         list: "telegram_configs",
         name: "telegram",
+        part: Part::Telegram,
         send_resolved: true,
     },
     Kind {
         list: "discord_configs",
         name: "discord",
+        part: Part::Discord,
         send_resolved: true,
     },
     Kind {
         list: "webex_configs",
         name: "webex",
+        part: Part::Webex,
         send_resolved: true,
     },
     Kind {
         list: "msteams_configs",
         name: "msteams",
+        part: Part::Msteams,
         send_resolved: true,
     },
     Kind {
         list: "msteamsv2_configs",
         name: "msteamsv2",
+        part: Part::Msteamsv2,
         send_resolved: true,
     },
     Kind {
         list: "jira_configs",
         name: "jira",
+        part: Part::Jira,
         send_resolved: true,
     },
     Kind {
         list: "rocketchat_configs",
         name: "rocketchat",
+        part: Part::Rocketchat,
         send_resolved: false,
     },
     Kind {
         list: "mattermost_configs",
         name: "mattermost",
+        part: Part::Mattermost,
         send_resolved: true,
     },
     Kind {
         list: "incidentio_configs",
         name: "incidentio",
+        part: Part::Incidentio,
         send_resolved: true,
     },
 ];
@@ -135,6 +158,14 @@ const MEMBERS: [&str; 19] = [
     "mattermost_configs",
     "incidentio_configs",
 ];
+
+/// How integrations are read.
+#[derive(Clone, Copy)]
+struct Context<'v> {
+    /// The members of `global`, if there is one.
+    global: Option<&'v Map<String, Value>>,
+    checking: Checking,
+}
 
 /// The names of all receivers, if they can be given.
 pub(crate) fn receiver_names(top: &Object<'_, '_>) -> Result<Option<Vec<Text>>, InputFault> {
@@ -168,6 +199,7 @@ pub(crate) fn read_receivers(
     faults: &mut Faults,
     dropped: &mut IgnoredSettings,
     top: &Object<'_, '_>,
+    checking: Checking,
 ) -> Result<Vec<Receiver>, InputFault> {
     let mut receivers = Vec::new(top.alloc());
     let Some(member) = non_null(top, "receivers") else {
@@ -180,9 +212,14 @@ pub(crate) fn read_receivers(
         faults.push(member.refuse(FaultKind::BadValue))?;
         return Ok(receivers);
     }
+    let context = Context {
+        global: top.members().get("global").and_then(Value::as_object),
+        checking,
+    };
     for (index, value) in items.iter().enumerate() {
         let item = member.item(index, value);
-        if let Some(receiver) = read_receiver(faults, dropped, receivers.as_slice(), &item)? {
+        let before = receivers.as_slice();
+        if let Some(receiver) = read_receiver(faults, dropped, before, &item, context)? {
             receivers.push(receiver)?;
         }
     }
@@ -195,13 +232,14 @@ fn read_receiver(
     dropped: &mut IgnoredSettings,
     before: &[Receiver],
     reader: &Reader<'_, '_>,
+    context: Context<'_>,
 ) -> Result<Option<Receiver>, InputFault> {
     let Some(receiver) = faults.kept(reader.object())? else {
         return Ok(None);
     };
     faults.only(&receiver, &MEMBERS)?;
     let name = faults.kept(read_name(before, &receiver))?;
-    let integrations = read_integrations(faults, dropped, &receiver)?;
+    let integrations = read_integrations(faults, dropped, &receiver, context)?;
     if integrations.len() > MAX_INTEGRATIONS {
         faults.push(reader.refuse(FaultKind::BadValue))?;
     }
@@ -225,10 +263,11 @@ fn read_integrations(
     faults: &mut Faults,
     dropped: &mut IgnoredSettings,
     receiver: &Object<'_, '_>,
+    context: Context<'_>,
 ) -> Result<Vec<Integration>, InputFault> {
     let mut integrations = Vec::new(receiver.alloc());
     for kind in &KINDS {
-        read_list(faults, dropped, receiver, kind, &mut integrations)?;
+        read_list(faults, dropped, receiver, kind, context, &mut integrations)?;
     }
     Ok(integrations)
 }
@@ -239,6 +278,7 @@ fn read_list(
     dropped: &mut IgnoredSettings,
     receiver: &Object<'_, '_>,
     kind: &Kind,
+    context: Context<'_>,
     integrations: &mut Vec<Integration>,
 ) -> Result<(), InputFault> {
     let Some(member) = non_null(receiver, kind.list) else {
@@ -250,12 +290,16 @@ fn read_list(
     for (index, value) in items.iter().enumerate() {
         let item = member.item(index, value);
         if let Some(settings) = faults.kept(item.object())? {
+            if context.checking == Checking::AsAlertmanager {
+                keep_findings(faults, kind.part, &settings, context.global)?;
+            }
             integrations.push(read_integration(faults, dropped, &settings, kind)?)?;
         }
     }
     Ok(())
 }
 
+/// Reads what an integration is set to.
 fn read_integration(
     faults: &mut Faults,
     dropped: &mut IgnoredSettings,
@@ -269,9 +313,33 @@ fn read_integration(
     }
     Ok(Integration {
         kind: Text::new(settings.alloc(), kind.name)?,
-        send_resolved: flag_or(faults, settings, SEND_RESOLVED, kind.send_resolved)?,
+        send_resolved: read_send_resolved(faults, settings, kind)?,
     })
+}
+
+/// Reads whether a notification of resolved alerts is sent. Alertmanager's reader makes null a flag that isn't set, whatever its
+/// default is.
+fn read_send_resolved(
+    faults: &mut Faults,
+    settings: &Object<'_, '_>,
+    kind: &Kind,
+) -> Result<bool, InputFault> {
+    match settings.optional(SEND_RESOLVED) {
+        None => Ok(kind.send_resolved),
+        Some(member) if member.is_null() => Ok(false),
+        Some(member) => Ok(faults.kept(member.flag())?.unwrap_or(false)),
+    }
 }
 
 /// The one member of an integration's settings that is read.
 const SEND_RESOLVED: &str = "send_resolved";
+
+/// The part of the integrations that a receiver's member of this name lists.
+pub(crate) fn part_of_list(list: &str) -> Option<Part> {
+    for kind in &KINDS {
+        if kind.list == list {
+            return Some(kind.part);
+        }
+    }
+    None
+}

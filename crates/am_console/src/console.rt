@@ -1,8 +1,11 @@
 //! What a command reads from and prints to.
 use crate::bounds::{bounds, wrong_of};
+use crate::config_words::explain_config;
 use crate::dispatcher_change_words::explain_dispatcher_change;
 use crate::files::{FileFault, PaintedOutput, read};
+use crate::foreign::foreign_words;
 use crate::matcher_words::explain_matcher;
+use crate::setting_words::explain_setting;
 use crate::story_words::explain_story;
 use crate::time_words::explain_times;
 use am_cli::device::StandardInput;
@@ -124,6 +127,11 @@ impl Console {
         document: &Document<'_>,
         faults: &Faults,
     ) -> ExitStatus {
+        match foreign_words(rt.alloc(), &document.value) {
+            Ok(None) => {}
+            Ok(Some(words)) => return self.complain_in_words(rt, document, "", words.as_str()),
+            Err(_) => return self.complain_of_memory(rt),
+        }
         let said = match in_order(rt.alloc(), document, faults.as_slice()) {
             Ok(ordered) => self.complain_of_each(rt, document, ordered.as_slice()),
             Err(refused) => Err(refused),
@@ -162,12 +170,29 @@ impl Console {
                     pointer,
                     fault_kind,
                 },
-            ) => {
-                match self.complain_at(rt, document, pointer.as_str(), fault_kind) {
-                    Ok(()) => ExitStatus::Rejected,
-                    Err(_) => self.complain_of_memory(rt),
-                }
+            ) => self.complain_of_one(rt, document, pointer.as_str(), fault_kind),
+        }
+    }
+
+    /// Complains of the one fault of a document, and returns the status. Where the configuration is missing, the file can be another
+    /// program's.
+    fn complain_of_one<R: Eprint + AllocGlobal>(
+        &self,
+        rt: &R,
+        document: &Document<'_>,
+        pointer: &str,
+        fault_kind: FaultKind,
+    ) -> ExitStatus {
+        if pointer == "/config" {
+            match foreign_words(rt.alloc(), &document.value) {
+                Ok(None) => {}
+                Ok(Some(words)) => return self.complain_in_words(rt, document, "", words.as_str()),
+                Err(_) => return self.complain_of_memory(rt),
             }
+        }
+        match self.complain_at(rt, document, pointer, fault_kind) {
+            Ok(()) => ExitStatus::Rejected,
+            Err(_) => self.complain_of_memory(rt),
         }
     }
 
@@ -266,6 +291,9 @@ fn words_for(
     fault_kind: FaultKind,
 ) -> Result<String, AllocError> {
     let top = &document.value;
+    if let Some(words) = explain_config(alloc, top, pointer, fault_kind)? {
+        return Ok(words);
+    }
     if let Some(words) = explain_times(alloc, top, pointer, fault_kind)? {
         return Ok(words);
     }
@@ -276,6 +304,9 @@ fn words_for(
         return Ok(words);
     }
     if let Some(words) = explain_matcher(alloc, top, pointer, fault_kind)? {
+        return Ok(words);
+    }
+    if let Some(words) = explain_setting(alloc, top, pointer, fault_kind)? {
         return Ok(words);
     }
     let wrong = wrong_of(fault_kind);

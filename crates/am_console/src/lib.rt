@@ -5,10 +5,13 @@
 #![tactic(auto)]
 
 pub mod bounds;
+mod config_words;
 pub mod console;
 mod dispatcher_change_words;
 pub mod files;
+mod foreign;
 pub mod matcher_words;
 pub mod progress;
+mod setting_words;
 pub mod story_words;
 mod time_words;

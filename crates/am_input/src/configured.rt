@@ -23,6 +23,7 @@ use am_cli::reader::{Object, Reader};
 use am_config::alertmanager::read_alertmanager;
 use am_config::dropped::IgnoredSettings;
 use am_config::hours::Hours;
+use am_config::settings::Checking;
 use am_model::config::Config;
 use am_plans::dispatcher_change::Reload;
 use serde_json::Value;
@@ -217,7 +218,7 @@ fn read_own(reader: &Reader<'_, '_>) -> Result<Configured, InputFault>
 fn read_theirs(reader: &Reader<'_, '_>, hours: Option<&Hours>) -> Result<Configured, Refusal>
     ensures { IfOk result (λ read. IsReadOfTheirs (view reader.now.value) read.config) }
 {
-    let read = read_alertmanager(reader, hours)?;
+    let read = read_alertmanager(reader, hours, Checking::AsAlertmanager)?;
     Ok(Configured {
         config: read.config,
         ignored: read.dropped,

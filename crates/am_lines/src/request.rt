@@ -24,6 +24,7 @@ use am_cli::labels::read_labels;
 use am_cli::reader::{FromJson, Object, Reader};
 use am_config::alertmanager::read_alertmanager;
 use am_config::dropped::IgnoredSettings;
+use am_config::settings::Checking;
 use am_model::config::Config;
 use am_mute::silence::{Silence, SilenceFault};
 use am_retry::Outcome;
@@ -264,7 +265,7 @@ fn read_theirs(line: &Object<'_, '_>) -> Result<Opening, InputFault>
     ensures { IfOk result (λ opening. IsOpening line.now.mode (members_view line.now.members) opening) }
 {
     let reader = line.required("alertmanager")?;
-    match read_alertmanager(&reader, None) {
+    match read_alertmanager(&reader, None, Checking::NamesAlone) {
         Ok(read) => {
             // (no line says on which day times begin)
             if read.timed {

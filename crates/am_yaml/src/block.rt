@@ -1,7 +1,7 @@
 //! Block collections, and what is in them.
 use crate::fault::{Reason, Stop};
 use crate::members::{Key, Members};
-use crate::parser::{Parser, depth_at};
+use crate::parser::{Parser, Properties, depth_at};
 use crate::plain::ScalarContext;
 use serde_json::Value;
 
@@ -17,26 +17,47 @@ pub(crate) enum Lead {
 }
 
 impl Parser<'_> {
-    /// Reads the node behind a lead and its anchor, and goes to the next content. Further lines of it begin at
+    /// Reads the node behind a lead and its properties, and goes to the next content. Further lines of it begin at
     /// a column of this number at least.
     #[cycle(block)]
     pub(crate) fn node(&mut self, lead: Lead, floor: usize, levels: usize) -> Result<Value, Stop> {
         self.to_node(lead)?;
-        let anchor = self.anchor()?;
+        let properties = self.properties()?;
         if self.cursor.is_line_done() {
             self.cursor.next_line()?;
-            let value = self.node_below(lead, floor, levels)?;
-            return self.anchored(anchor, value);
+            let value = self.value_below(lead, floor, levels, properties)?;
+            return self.anchored(properties.anchor, value);
         }
-        if lead == Lead::Dash && anchor.is_none() {
+        if lead == Lead::Dash && properties.is_empty() {
             return self.block(floor, levels);
         }
-        if anchor.is_some() && self.cursor.byte() == b'*' {
-            return Err(self.cursor.stop(Reason::Anchor));
-        }
+        self.check_properties(properties)?;
         self.path.meet(self.cursor.at());
+        let before = self.begin_tagged(properties);
         let value = self.flat(floor, levels)?;
-        self.anchored(anchor, value)
+        self.end_value(before);
+        self.anchored(properties.anchor, value)
+    }
+
+    /// Reads the node on the lines below its lead and its properties. Below a tag there can be nothing.
+    #[cycle(block)]
+    fn value_below(
+        &mut self,
+        lead: Lead,
+        floor: usize,
+        levels: usize,
+        properties: Properties<'_>,
+    ) -> Result<Value, Stop> {
+        let Some(at) = properties.tag else {
+            return self.node_below(lead, floor, levels);
+        };
+        match self.cursor.content_column() {
+            Some(column) if column >= floor => Err(Stop::At {
+                at,
+                reason: Reason::Tag,
+            }),
+            _ => Ok(self.empty_value(properties)),
+        }
     }
 
     /// Goes over the blanks behind a lead. Behind a dash a tab could indent.

@@ -16,7 +16,7 @@ pub enum Reason {
     Document,
     /// A directive, as `%YAML`.
     Directive,
-    /// A tag, as `!!int`.
+    /// A tag, as `!!int`, or `!!str` before what is no scalar.
     Tag,
     /// An anchor that names no value, or has no name, or the name of another.
     Anchor,
@@ -30,6 +30,8 @@ pub enum Reason {
     Duplicate,
     /// A merge key, `<<`, whose value is no mapping, or which readers understand in different ways.
     Merge,
+    /// A list of matchers that a merge has too: Alertmanager joins them.
+    Joined,
     /// Anchored values that would be copied too often.
     Expansion,
     /// Collections that lie too deep.
@@ -103,6 +105,8 @@ impl fmt::Display for Reason {
             Reason::Key => "a key that isn't a text on one line",
             Reason::Duplicate => "a key that the mapping has already",
             Reason::Merge => "a merge that YAML's readers understand differently",
+            Reason::Joined =>
+                "Alertmanager adds these matchers to those of the merge; write them all in one list, without the merge's",
             Reason::Expansion => "aliases that make more than 4 MiB of copies",
             Reason::Depth => "more than 100 levels",
             Reason::Reserved => "a text that has to be in quotes",

@@ -1,5 +1,5 @@
 //! Flow collections: what is between brackets or braces.
-use crate::cursor::{Cursor, END, is_blank};
+use crate::cursor::{Cursor, END, is_blank, is_flow};
 use crate::fault::{Reason, Stop};
 use crate::members::{Key, Members};
 use crate::parser::{Parser, depth_at};
@@ -30,19 +30,22 @@ impl Cursor<'_> {
 }
 
 impl Parser<'_> {
-    /// Reads a node between brackets, and its anchor.
+    /// Reads a node between brackets, and its properties.
     #[cycle(flow)]
     pub(crate) fn flow_node(&mut self, floor: usize, levels: usize) -> Result<Value, Stop> {
         self.path.meet(self.cursor.at());
-        let anchor = self.anchor()?;
-        if anchor.is_some() && self.cursor.byte() == b'*' {
-            return Err(self.cursor.stop(Reason::Anchor));
+        let properties = self.properties()?;
+        self.check_properties(properties)?;
+        if properties.tag.is_some() && is_flow(self.cursor.byte()) {
+            return self.anchored(properties.anchor, self.empty_value(properties));
         }
+        let before = self.begin_tagged(properties);
         let value = self.flow_content(floor, levels)?;
-        self.anchored(anchor, value)
+        self.end_value(before);
+        self.anchored(properties.anchor, value)
     }
 
-    /// Reads a node between brackets that has no anchor.
+    /// Reads a node between brackets behind its properties.
     #[cycle(flow)]
     fn flow_content(&mut self, floor: usize, levels: usize) -> Result<Value, Stop> {
         match self.cursor.byte() {
@@ -75,7 +78,7 @@ impl Parser<'_> {
                 .enter_item(depth_at(levels), items.len(), self.cursor.at());
             items.push(self.flow_node(floor, below)?)?;
             self.path.leave(is_entered);
-            self.flow_separator(b']')?;
+            self.flow_separator(start, b']')?;
         }
         Err(start.stop(Reason::Unterminated))
     }
@@ -105,7 +108,7 @@ impl Parser<'_> {
             self.end_value(before);
             self.path.leave(is_entered);
             members.add(key, value)?;
-            self.flow_separator(b'}')?;
+            self.flow_separator(start, b'}')?;
         }
         Err(start.stop(Reason::Unterminated))
     }
@@ -135,8 +138,9 @@ impl Parser<'_> {
         Ok(key)
     }
 
-    /// Reads the comma behind an item, or stays before the end.
-    fn flow_separator(&mut self, end: u8) -> Result<(), Stop> {
+    /// Reads the comma behind an item, or stays before the end. A colon on a line below the collection's start is that of the next
+    /// key, which is reached where the end is missing.
+    fn flow_separator(&mut self, start: Cursor<'_>, end: u8) -> Result<(), Stop> {
         self.cursor.skip_flow_gap()?;
         let byte = self.cursor.byte();
         if byte == b',' {
@@ -146,6 +150,8 @@ impl Parser<'_> {
             Ok(())
         } else if byte == END {
             Err(self.cursor.stop(Reason::Unterminated))
+        } else if byte == b':' && self.cursor.is_far(start, usize::MAX) {
+            Err(start.stop(Reason::Unterminated))
         } else {
             Err(self.cursor.stop(Reason::Flow))
         }

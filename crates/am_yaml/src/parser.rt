@@ -5,7 +5,7 @@ use crate::fault::{Reason, Stop};
 use crate::members::{Key, Members};
 use crate::path::{Path, Step};
 use crate::plain::ScalarContext;
-use crate::resolve::resolve;
+use crate::resolve::{resolve, resolve_flag};
 use serde_json::Value;
 use std::alloc::Global;
 
@@ -14,6 +14,43 @@ pub const MAX_DEPTH: usize = 100;
 
 /// The fields whose values Alertmanager reads as texts, whatever they look like.
 const TEXTS: [&str; 2] = ["match", "match_re"];
+
+/// The fields whose values are flags, which YAML 1.1 also writes `yes`, `no`, `on` and `off`. Alertmanager has a field `html`
+/// too, which is a text of one integration and a flag of another: it isn't among them.
+const FLAGS: [&str; 14] = [
+    "send_resolved",
+    "continue",
+    "smtp_require_tls",
+    "smtp_force_implicit_tls",
+    "require_tls",
+    "force_implicit_tls",
+    "follow_redirects",
+    "enable_http2",
+    "insecure_skip_verify",
+    "proxy_from_environment",
+    "short_fields",
+    "link_names",
+    "update_alerts",
+    "disable_notifications",
+];
+
+/// The fields that have a value for each name, as a name of a label. There a name that a flag has too means none.
+const NAMES: [&str; 3] = ["labels", "firing", "resolved"];
+
+/// What plain scalars mean where they are.
+#[derive(Clone, Copy, PartialEq, Eq)]
+pub(crate) enum Meaning {
+    /// What they mean in YAML's core schema.
+    Core,
+    /// The same, and `yes` is a flag.
+    Flag,
+    /// The same, also below the names of flags.
+    Named,
+    /// The texts that are written, but null.
+    Texts,
+    /// The text that is written.
+    Tagged,
+}
 
 /// Returns how many collections lie round one below which so many levels can be, itself the first.
 pub(crate) fn depth_at(levels: usize) -> usize {
@@ -27,8 +64,7 @@ pub(crate) struct Parser<'t> {
     pub(crate) cursor: Cursor<'t>,
     pub(crate) anchors: Anchors,
     pub(crate) path: Path<'t>,
-    /// Whether a flag or a number is the text that is written.
-    wants_texts: bool,
+    meaning: Meaning,
     /// Whether a key can be twice between braces, as in JSON.
     may_repeat: bool,
 }
@@ -38,6 +74,34 @@ pub(crate) struct Parser<'t> {
 pub(crate) struct Anchor<'t> {
     at: usize,
     name: &'t str,
+}
+
+/// What is before a node.
+#[derive(Clone, Copy)]
+pub(crate) struct Properties<'t> {
+    pub(crate) anchor: Option<Anchor<'t>>,
+    /// The offset of the tag `!!str`.
+    pub(crate) tag: Option<usize>,
+}
+
+impl Properties<'_> {
+    /// Whether there are none.
+    pub(crate) fn is_empty(&self) -> bool {
+        self.anchor.is_none() && self.tag.is_none()
+    }
+}
+
+/// What the scalars in the value of a key mean, which is in no value whose texts count.
+fn meaning_below(key: &str) -> Meaning {
+    if TEXTS.contains(&key) {
+        Meaning::Texts
+    } else if FLAGS.contains(&key) {
+        Meaning::Flag
+    } else if NAMES.contains(&key) {
+        Meaning::Named
+    } else {
+        Meaning::Core
+    }
 }
 
 /// Whether a name of an anchor may have this byte. Readers differ on others.
@@ -53,7 +117,7 @@ impl<'t> Parser<'t> {
             cursor: Cursor::new(text),
             anchors: Anchors::new(alloc),
             path: Path::new(steps),
-            wants_texts: false,
+            meaning: Meaning::Core,
             may_repeat: false,
         }
     }
@@ -71,16 +135,19 @@ impl<'t> Parser<'t> {
         members.refuse_twice(key)
     }
 
-    /// Notes what the value of a key is read as, and returns how it was before.
-    pub(crate) fn begin_value(&mut self, key: &str) -> bool {
-        let before = self.wants_texts;
-        self.wants_texts = before || TEXTS.contains(&key);
+    /// Notes what the scalars in the value of a key mean, and returns what they meant before.
+    pub(crate) fn begin_value(&mut self, key: &str) -> Meaning {
+        let before = self.meaning;
+        self.meaning = match before {
+            Meaning::Core | Meaning::Flag => meaning_below(key),
+            other => other,
+        };
         before
     }
 
     /// Goes on as it was before a value.
-    pub(crate) fn end_value(&mut self, before: bool) {
-        self.wants_texts = before;
+    pub(crate) fn end_value(&mut self, before: Meaning) {
+        self.meaning = before;
     }
 
     /// Reads the name behind `&` or `*`, which ends before a gap or, in a flow collection, before one of its
@@ -100,13 +167,48 @@ impl<'t> Parser<'t> {
         self.cursor.slice(start, self.cursor.at())
     }
 
-    /// Reads an anchor, if there is one, and the blanks behind it. A tag is refused.
-    pub(crate) fn anchor(&mut self) -> Result<Option<Anchor<'t>>, Stop> {
+    /// Reads an anchor and the tag `!!str`, in any order, if they are there, and the blanks behind them. Another tag is
+    /// refused.
+    pub(crate) fn properties(&mut self) -> Result<Properties<'t>, Stop> {
+        let tag = self.tag()?;
+        let anchor = self.anchor()?;
+        let tag = match tag {
+            None => self.tag()?,
+            Some(tag) => Some(tag),
+        };
+        Ok(Properties { anchor, tag })
+    }
+
+    /// Reads the tag `!!str`, if a tag is here, and the blanks behind it.
+    fn tag(&mut self) -> Result<Option<usize>, Stop> {
         let at = self.cursor.at();
-        match self.cursor.byte() {
-            b'!' => return Err(self.cursor.stop(Reason::Tag)),
-            b'&' => {}
-            _ => return Ok(None),
+        if self.cursor.byte() != b'!' {
+            return Ok(None);
+        }
+        for byte in b"!!str" {
+            if self.cursor.byte() != *byte {
+                return Err(Stop::At {
+                    at,
+                    reason: Reason::Tag,
+                });
+            }
+            self.cursor.step();
+        }
+        if !is_gap(self.cursor.byte()) {
+            return Err(Stop::At {
+                at,
+                reason: Reason::Tag,
+            });
+        }
+        self.cursor.skip_blanks();
+        Ok(Some(at))
+    }
+
+    /// Reads an anchor, if there is one, and the blanks behind it.
+    fn anchor(&mut self) -> Result<Option<Anchor<'t>>, Stop> {
+        let at = self.cursor.at();
+        if self.cursor.byte() != b'&' {
+            return Ok(None);
         }
         let name = self.name(Reason::Anchor)?;
         if !is_gap(self.cursor.byte()) {
@@ -114,6 +216,32 @@ impl<'t> Parser<'t> {
         }
         self.cursor.skip_blanks();
         Ok(Some(Anchor { at, name }))
+    }
+
+    /// Refuses an alias that has properties, and a collection that has a tag.
+    pub(crate) fn check_properties(&self, properties: Properties<'_>) -> Result<(), Stop> {
+        let byte = self.cursor.byte();
+        if let Some(at) = properties.tag {
+            if matches!(byte, b'[' | b'{' | b'*' | b'&') {
+                return Err(Stop::At {
+                    at,
+                    reason: Reason::Tag,
+                });
+            }
+        }
+        if properties.anchor.is_some() && byte == b'*' {
+            return Err(self.cursor.stop(Reason::Anchor));
+        }
+        Ok(())
+    }
+
+    /// Notes that the next scalar is the text that is written, if it has a tag, and returns what it meant before.
+    pub(crate) fn begin_tagged(&mut self, properties: Properties<'_>) -> Meaning {
+        let before = self.meaning;
+        if properties.tag.is_some() {
+            self.meaning = Meaning::Tagged;
+        }
+        before
     }
 
     /// Keeps a value under its anchor, if it has one.
@@ -132,18 +260,35 @@ impl<'t> Parser<'t> {
     pub(crate) fn alias(&mut self, levels: usize) -> Result<Value, Stop> {
         let at = self.cursor.at();
         let name = self.name(Reason::Alias)?;
-        self.anchors.copy(name, at, levels, self.wants_texts)
+        let wants_texts = self.meaning == Meaning::Texts;
+        self.anchors.copy(name, at, levels, wants_texts)
     }
 
-    /// Reads a plain scalar, and says what it means. Where texts are wanted only null isn't its own text.
+    /// Reads a plain scalar, and says what it means. Where texts are wanted only null isn't its own text, and behind a tag
+    /// not even that.
     pub(crate) fn plain_value(&mut self, context: ScalarContext) -> Result<Value, Stop> {
         let at = self.cursor.at();
         let text = self.plain(context)?;
-        match resolve(text.as_str()) {
+        let resolved = match self.meaning {
+            Meaning::Tagged => return Ok(Value::String(text)),
+            Meaning::Flag => resolve_flag(text.as_str()),
+            Meaning::Core | Meaning::Named | Meaning::Texts => resolve(text.as_str()),
+        };
+        let wants_texts = self.meaning == Meaning::Texts;
+        match resolved {
             Ok(Some(Value::Null)) => Ok(Value::Null),
-            Ok(Some(value)) if !self.wants_texts => Ok(value),
-            Err(reason) if !self.wants_texts => Err(Stop::At { at, reason }),
+            Ok(Some(value)) if !wants_texts => Ok(value),
+            Err(reason) if !wants_texts => Err(Stop::At { at, reason }),
             _ => Ok(Value::String(text)),
+        }
+    }
+
+    /// The value of a node of which nothing is written but its properties.
+    pub(crate) fn empty_value(&self, properties: Properties<'_>) -> Value {
+        if properties.tag.is_some() {
+            Value::String(String::new(self.alloc))
+        } else {
+            Value::Null
         }
     }
 }

@@ -1,6 +1,5 @@
 -- Keys of flushes in flight: what one more and one less changes, and which comes first.
-use Rattle.std.proofs.Common.{◌≡◌, ◌≢◌, ◌∙◌, ℕ, ◌<◌, ◌≤◌, zero, suc, Bool, true, false, cond, true≢false, List, [], ◌∷◌, length, Option, Some, None, refl, subst, sym, ap, arith}
-use Rattle.std.specs.Prelude.{IsTrue}
+use Rattle.std.proofs.Common.{◌≡◌, ◌≢◌, ◌∙◌, ℕ, ◌<◌, ◌≤◌, zero, suc, Bool, true, false, cond, true≢false, List, [], ◌∷◌, length, Some, None, refl, sym, arith}
 use Rattle.std.specs.List.{list_any}
 use Rattle.std.specs.BTreeMap.{is_at}
 use Rattle.std.specs.BTreeSet.{BTreeSet, IsLowerBound, Updates, contains}
@@ -11,7 +10,7 @@ use Rattle.std.specs.declared.cmp.Ordering.TheVariants.{Less, Equal, Greater}
 use Rattle.std.proofs.lemmas.Bool.{ne_eqb}
 use Rattle.std.proofs.lemmas.Cmp.{ranked}
 use Rattle.std.proofs.lemmas.Map.Keys.{le_from_not_gt}
-use Rattle.am_rehearsal.specs.FlightKeys.{IsFirstEnd, IsFirstReady, IsPut, Keeps, KeepsOthers, has_key, key_cmp}
+use Rattle.am_rehearsal.specs.FlightKeys.{IsFirstEnd, IsFirstReady, IsPut, Keeps, KeepsOthers, key_cmp}
 use Rattle.am_rehearsal.specs.declared.flight_keys.EndKey.{EndKey}
 use Rattle.am_rehearsal.specs.declared.flight_keys.FlightKeys.{FlightKeys}
 

@@ -1,5 +1,5 @@
 -- Flushes in flight that have their keys: what comes first among them, and what changes keep.
-use Rattle.std.proofs.Common.{◌≡◌, ◌≢◌, ◌∙◌, ℕ, ◌+◌, ◌<◌, ◌≤◌, zero, suc, Bool, true, false, nat_lt, IfSome, IsTrue, length, List, [], ◌∷◌, ◌++◌, drop, take, Option, Some, None, refl, subst, sym, ap, arith, if◌then◌else◌}
+use Rattle.std.proofs.Common.{◌≡◌, ◌∙◌, ℕ, ◌+◌, ◌<◌, ◌≤◌, zero, suc, Bool, true, false, nat_lt, IfSome, IsTrue, List, [], ◌∷◌, ◌++◌, Option, Some, None, refl, subst, sym, ap, arith, if◌then◌else◌}
 use Rattle.std.specs.Prelude.{remove, slice_get, slice_set}
 use Rattle.std.specs.Option.{IsSomeAnd}
 use Rattle.std.proofs.lemmas.Bool.{false≢true}
@@ -11,7 +11,6 @@ use Rattle.am_rehearsal.specs.declared.flight_keys.EndKey.{EndKey}
 use Rattle.am_rehearsal.specs.declared.flight_keys.FlightKeys.{FlightKeys}
 use Rattle.am_rehearsal.specs.declared.next.End.{End}
 use Rattle.am_rehearsal.specs.declared.next.Next.{Next}
-use Rattle.am_rehearsal.specs.declared.next.Step.{Step}
 use Rattle.am_rehearsal.specs.declared.next.Step.TheVariants as step
 
 some_is : {X : Type 0} (x y : X) → Some x ≡ Some y → x ≡ y

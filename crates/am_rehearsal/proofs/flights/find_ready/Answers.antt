@@ -1,4 +1,4 @@
-use Rattle.std.proofs.Common.{◌≡◌, ◌∙◌, List, [], ap, eqb-true, length, sym}
+use Rattle.std.proofs.Common.{◌≡◌, ◌∙◌, [], ap, eqb-true, sym}
 use Rattle.am_rehearsal.specs.Scene.{SendingData}
 use Rattle.am_rehearsal.proofs.FlightSteps.{empty_is, ready_there}
 use Rattle.am_rehearsal.proofs.flights.find_ready.Goals as goal

@@ -1,4 +1,4 @@
-use Rattle.std.proofs.Common.{◌≡◌, ◌<◌, ap, arith, length, refl}
+use Rattle.std.proofs.Common.{◌<◌, ap, arith, length, refl}
 use Rattle.std.proofs.lemmas.Option.{slice_get_read}
 use Rattle.am_rehearsal.proofs.FlightSteps.{on_ok_three, reported}
 use Rattle.am_rehearsal.proofs.Keyed.{keyed_again}

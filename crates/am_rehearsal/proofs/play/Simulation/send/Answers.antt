@@ -5,7 +5,6 @@ use Rattle.am_model.specs.Configured.{route_of}
 use Rattle.am_model.specs.Ticket.{TicketData}
 use Rattle.am_model.specs.declared.config.Config.{Config}
 use Rattle.am_rehearsal.specs.Answers.{AreEndsOf, answer_of}
-use Rattle.am_rehearsal.specs.Simulations.{scene_in, setting_in}
 use Rattle.am_rehearsal.specs.Scene.{SendingData}
 use Rattle.am_rehearsal.proofs.play.Simulation.send.Goals as goal
 

@@ -185,7 +185,20 @@ def opened(count: int) -> Json:
     return [{"config": config()}, *inserts, *begins, *meanwhile, *finishes, *again]
 
 
-MADE = {"two-sided": two_sided, "silenced": silenced, "expected": expected, "restarted": restarted}
+def hung(count: int) -> Json:
+    """A story with so many groups whose receiver is down for an hour: each of their flushes is tried up to its deadline."""
+    return {
+        "alertmanager": {
+            "route": {"receiver": "pager", "group_by": ["alertname"]},
+            "receivers": [{"name": "pager", "webhook_configs": [{"url": "http://localhost/"}]}],
+        },
+        "until": "1h",
+        "alerts": [{"labels": {"alertname": f"A{alert}"}} for alert in range(count)],
+        "outages": [{"receiver": "pager"}],
+    }
+
+
+MADE = {"two-sided": two_sided, "silenced": silenced, "expected": expected, "restarted": restarted, "hung": hung}
 # What makes the lines of an input.
 LINES = {"opened": opened}
 # A name, what makes the input, its size, and the program.
@@ -195,6 +208,7 @@ GROWTH = [
     ("as many expectations as may be, of many alerts", "expected", 8000, "am_rehearse"),
     ("a restart after which each log row goes to 64 equal routes", "restarted", 32, "am_rehearse"),
     ("groups whose flushes stay open", "opened", 8000, "am_dispatch"),
+    ("groups whose receiver hangs for an hour", "hung", 2000, "am_rehearse"),
     ("label sets that would collide", "label sets", 16000, "am_dispatch"),
     ("values of sources that would collide", "sources", 8000, "am_dispatch"),
     ("label sets that would collide for the fixed seed", "label sets, fixed", 16000, "am_dispatch"),

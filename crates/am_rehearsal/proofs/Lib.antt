@@ -20,6 +20,12 @@ pub mod Happening
 pub mod Hindering
 -- what each step keeps: the configuration, and what is done and left of the plans
 pub mod Keeping
+-- keys of flushes in flight, with one more or one less
+pub mod KeyChanges
+-- flushes in flight with one more, one less and one that changes, each with its key
+pub mod FlightSteps
+-- flushes in flight that have their keys
+pub mod Keyed
 -- a load that a board doesn't refuse
 pub mod Loading
 -- a rehearsal has one play

@@ -1,7 +1,8 @@
 -- The next step, when it is done.
-use Rattle.std.proofs.Common.{◌≡◌, ℕ, ◌<◌, suc, false, length, List, [], ◌∷◌, ◌++◌, Option, Some, None, Result, Ok, Err, OnOk, refl, sym, ap, ◌∙◌, subst}
+use Rattle.std.proofs.Common.{◌≡◌, ℕ, ◌<◌, zero, suc, false, length, arith, List, [], ◌∷◌, ◌++◌, Option, Some, None, Result, Ok, Err, OnOk, refl, sym, ap, ◌∙◌, subst}
 use Rattle.std.specs.Prelude.{remove, slice_get, slice_set, if◌then◌else◌}
 use Rattle.std.specs.Option.{IsSomeAnd}
+use Rattle.std.proofs.lemmas.List.{length-set, set-set}
 use Rattle.std.proofs.lemmas.Option.{slice_get_within}
 use Rattle.am_board.specs.History.{BoardData}
 use Rattle.am_model.specs.declared.record.Call.TheVariants as call
@@ -9,13 +10,13 @@ use Rattle.am_model.specs.Ticket.{TicketData}
 use Rattle.am_rehearsal.proofs.Coming.{next_there}
 use Rattle.am_rehearsal.proofs.Scenes.{same_scene, scene_of}
 use Rattle.am_pool.specs.Sendings.{later}
-use Rattle.am_rehearsal.specs.Answers.{AreEndsOf}
+use Rattle.am_rehearsal.specs.FlightKeys.{IsEndTaken, IsReported}
 use Rattle.am_rehearsal.specs.Simulations.{IsThereFor}
 use Rattle.am_rehearsal.specs.Next.{next}
 use Rattle.am_rehearsal.specs.Planned.{call_of}
 use Rattle.am_rehearsal.specs.Play.{Reaches}
 use Rattle.am_rehearsal.specs.Scene.{Scene, SendingData, Setting}
-use Rattle.am_rehearsal.specs.Steps.{IsDone, IsPlanDone, IsSendingAdded, Steps, after_end, after_end_of, after_finish, after_maintenance, after_plan, answers_for, is_success, sent_events, with_call, with_note, with_report}
+use Rattle.am_rehearsal.specs.Steps.{IsDone, IsPlanDone, Steps, after_end, after_end_of, after_finish, after_maintenance, after_plan, is_success, sent_events, with_call, with_note, with_report}
 use Rattle.am_terms.specs.declared.event.Event.{Event}
 use Rattle.am_rehearsal.specs.declared.next.End.{End}
 use Rattle.am_rehearsal.specs.declared.next.Next.{Next}
@@ -82,6 +83,45 @@ module _ (r : Setting) (c : Scene) (position index : ℕ) (s taken last : Sendin
       subst (λ (o : Option SendingData). IsSomeAnd o (λ t. IsSomeAnd (slice_get t.ends index) (λ x. scene_of b es c.plans ss e.at c.maintenance c.begins c.blocked ≡ after_end c position t index x))) (sym here)
       (subst (λ (o : Option End). IsSomeAnd o (λ x. scene_of b es c.plans ss e.at c.maintenance c.begins c.blocked ≡ after_end c position s index x)) (sym there) is)
 
+-- what was set at a position is there
+set_here : (ss : List SendingData) (position : ℕ) (t : SendingData) → position < length ss → slice_get (slice_set ss position t) position ≡ Some t
+set_here [] position t within = absurd (omega (arith, within))
+set_here (s ∷ ss) zero t within = refl
+set_here (s ∷ ss) (suc position) t within = set_here ss position t (omega (arith, within))
+
+module _ (c : Scene) (position index : ℕ) (e : End) (mids : List SendingData) where
+  -- the flush of an end that was taken is there
+  pub end_within : IsSomeAnd (slice_get c.sendings position) (IsEndTaken c.sendings position index e mids) → position < length mids
+  end_within taken = by (slice_get c.sendings position) refl taken
+    where
+      by : (o : Option SendingData) → slice_get c.sendings position ≡ o → IsSomeAnd o (IsEndTaken c.sendings position index e mids) → position < length mids
+      by None is h = absurd h
+      by (Some s) is h =
+          let t : SendingData = record s { ends = remove s.ends index } in
+          let same : length mids ≡ length c.sendings = ap length h.1 ∙ length-set c.sendings position t in
+          omega (arith, same, slice_get_within c.sendings position s is)
+
+  -- an end was taken and reported, so it is done
+  pub end_done_by : (r : Setting) (b : BoardData) (es : List Event) (ss : List SendingData)
+      → IsSomeAnd (slice_get c.sendings position) (IsEndTaken c.sendings position index e mids)
+      → IsSomeAnd (slice_get mids position) (IsReported mids c.board c.events position e ss b es)
+      → IsDone r c 0 (scene_of b es c.plans ss e.at c.maintenance c.begins c.blocked) (step.End position index)
+  end_done_by r b es ss taken reported = by (slice_get c.sendings position) refl taken
+    where
+      by : (o : Option SendingData) → slice_get c.sendings position ≡ o → IsSomeAnd o (IsEndTaken c.sendings position index e mids)
+          → IsDone r c 0 (scene_of b es c.plans ss e.at c.maintenance c.begins c.blocked) (step.End position index)
+      by None is h = absurd h
+      by (Some s) is h =
+          let t : SendingData = record s { ends = remove s.ends index } in
+          let last : SendingData = record t { ticket = with_report e.report t.ticket } in
+          let here : slice_get mids position ≡ Some t =
+          ap (λ (l : List SendingData). slice_get l position) h.1 ∙ set_here c.sendings position t (slice_get_within c.sendings position s is)
+          in
+          let said : IsReported mids c.board c.events position e ss b es t = said_of mids position (IsReported mids c.board c.events position e ss b es) t here reported in
+          end_done r c position index s t last e b es ss is h.0 refl refl
+          (said.sendings ∙ ap (λ (l : List SendingData). slice_set l position last) h.1 ∙ set-set c.sendings position t last)
+          said.board said.events_are
+
 -- the flush at a position is finished
 pub finish_done : (r : Setting) (c : Scene) (position : ℕ) (s : SendingData) (t : TicketData) (b : BoardData) (es : List Event) (ss : List SendingData)
     → slice_get c.sendings position ≡ Some s → s.ticket ≡ t → b ≡ with_call c.board (call.Finish c.clock t.number t.outcomes) → es ≡ c.events
@@ -101,8 +141,3 @@ plan_is c p ps b es board events = same_scene ps p.at c.maintenance c.begins c.b
 pub maintenance_is : (r : Setting) (c : Scene) (at next : ℕ) (b : BoardData) (es : List Event) → b ≡ with_call c.board (call.Maintain at) → es ≡ c.events
     → next ≡ later at r.maintain → scene_of b es c.plans c.sendings at next c.begins c.blocked ≡ after_maintenance r c at
 maintenance_is r c at next b es board events due = λ i. scene_of (board i) (events i) c.plans c.sendings at (due i) c.begins c.blocked
-
--- a flush is one more in flight
-pub sending_added : (r : Setting) (c : Scene) (at : ℕ) (s : SendingData) (ss : List SendingData) → AreEndsOf (answers_for r c.board s.ticket.group) r.span.cut at 0 s.ticket.notices s.ends
-    → ss ≡ c.sendings ++ s ∷ [] → IsSendingAdded r at s.ticket s.begin c (scene_of c.board c.events c.plans ss c.clock c.maintenance c.begins c.blocked)
-sending_added r c at s ss ends sendings = (s, refl, refl, ends, same_scene c.plans c.clock c.maintenance c.begins c.blocked refl refl sendings)

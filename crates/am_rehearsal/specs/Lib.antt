@@ -20,6 +20,8 @@ pub mod Acting
 pub mod Next
 -- the steps of a rehearsal, each with its call of the board
 pub mod Steps
+-- the keys by which the next ends of the flushes in flight are found
+pub mod FlightKeys
 -- which plays a rehearsal has
 pub mod Play
 -- taking what comes next of a list

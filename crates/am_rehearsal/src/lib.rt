@@ -8,6 +8,8 @@
 mod acting;
 mod courier;
 pub mod dispatcher_change;
+mod flight_keys;
+mod flights;
 mod law;
 mod limits;
 mod next;

@@ -10,8 +10,8 @@
 //! soon as it is begun, and their reports wait until the clock comes to their ends. When as many
 //! flushes are open as the limit allows, groups stay due, and no begin is tried until a flush is
 //! finished.
-ghost use Rattle.std.specs.Prelude.{◌≡◌, ◌≢◌, ◌<◌, ◌≤◌, ◌+◌, ◌-◌, ◌++◌, [], false, IfErr, IfOk, OnOk, None, Some, if◌then◌else◌};
-ghost use Rattle.std.specs.Prelude.{length, slice_get, vec_len, vec_capacity};
+ghost use Rattle.std.specs.Prelude.{◌≡◌, ◌≢◌, ◌<◌, ◌≤◌, ◌+◌, ◌-◌, ◌++◌, [], false, IfErr, IfOk, OnOk, None, Some};
+ghost use Rattle.std.specs.Prelude.{length, slice_get, vec_len};
 ghost use Rattle.std.specs.List.{range_with_len};
 ghost use Rattle.std.specs.Option.{IsSomeAnd};
 ghost use Rattle.am_alerts.specs.declared.limits.TheConstants.{MAX_TIME};
@@ -25,26 +25,25 @@ ghost use Rattle.am_rehearsal.specs.Planned.{inputs_in, planned, refuses};
 ghost use Rattle.am_rehearsal.specs.Play.{setting_in_span, setting_of, PlaysTo, Reaches};
 ghost use Rattle.am_rehearsal.specs.Previews.{previews_of};
 ghost use Rattle.am_rehearsal.specs.Scene.{opening_scene, setting_with};
-ghost use Rattle.am_rehearsal.specs.Steps.{after_plan, is_success, sent_events, with_note, with_report, IsDone, IsSendingAdded, Steps};
+ghost use Rattle.am_rehearsal.specs.Steps.{after_plan, with_sending, IsDone, IsSendingAdded, Steps};
 ghost use Rattle.am_rehearsal.specs.CauseOfFault.{own_cause, IsCauseOfFault};
 ghost use Rattle.am_rehearsal.specs.declared.limits.TheConstants.{BOARD_ID};
 ghost use Rattle.am_terms.specs.declared.rehearsal.TheConstants.{MAX_UNTIL};
 ghost use Rattle.am_rehearsal.specs.declared.next.Step.TheVariants as step;
 
 use crate::acting::ActFault;
+use crate::flights::Flights;
 use crate::limits::BOARD_ID;
-use crate::next::{End, Next, Step, comes_by, earlier, in_time};
+use crate::next::{Next, Step, comes_by, earlier, in_time};
 use crate::previewing::PreviewingBoard;
-use crate::sending::{Sending, ends_of, next_end, next_finish};
+use crate::sending::{Sending, ends_of};
 use crate::span::Span;
 use crate::taken::Taken;
 use am_board::board::Board;
 use am_board::config::Config;
 use am_board::fault::{BoardFault, Fault};
-use am_board::notice::Report;
 use am_board::own_ticket::OwnTicket;
 use am_board::record::Record;
-use am_retry::Outcome;
 use am_seed::Seed;
 use am_terms::event::{Event, PreviewedBegin};
 use am_terms::rehearsal::{Outage, Rehearsal, TimedAction};
@@ -111,7 +110,7 @@ pub enum PlayFault {
 /// - `Full`: a begin or a maintenance comes next, and the history has no capacity for it.
 /// - `NoMemory`.
 ///
-/// Cost: its board calls, with a preview for each begin, and at each event the notices in flight.
+/// Cost: its board calls, with a preview for each begin, and at each event the notices of one flush.
 pub fn play<W: Watch>(
     alloc: Global,
     seed: Seed,
@@ -223,8 +222,7 @@ struct Simulation<'o> {
     count: usize,
     /// The planned actions that are still to come.
     plans: VecDeque<TimedAction>,
-    /// In the order of their begins.
-    sendings: Vec<Sending>,
+    sendings: Flights,
     /// The current time.
     clock: u64,
     next_maintenance: u64,
@@ -263,7 +261,7 @@ impl<'o> Simulation<'o> {
             span,
             count: plans.len(),
             plans: VecDeque::from_vec(plans),
-            sendings: Vec::new(alloc),
+            sendings: Flights::new(alloc),
             clock: span.since,
             next_maintenance: span.since.saturating_add(maintain),
             is_beginning: false,
@@ -319,8 +317,10 @@ impl<'o> Simulation<'o> {
     fn next_but_begins(&self) -> Option<Next>
         ensures { result ≡ next_but_begins (setting_in self.now) (scene_in self.now) }
     {
-        let sendings = self.sendings.as_slice();
-        let over = earlier(next_end(sendings), next_finish(self.clock, sendings));
+        let over = earlier(
+            self.sendings.next_end(),
+            self.sendings.next_finish(self.clock),
+        );
         let maintenance = in_time(self.until, self.next_maintenance, Step::Maintenance);
         earlier(over, earlier(self.next_plan(), maintenance))
     }
@@ -374,26 +374,26 @@ impl<'o> Simulation<'o> {
 
     /// Hands the board the end at an index of the flush at a position.
     fn end(&mut self, position: usize, index: usize) -> Result<(), PlayFault>
-        requires { IsSomeAnd (slice_get self.old.sendings.items position) (λ s. index < length s.ends) }
+        requires { IsSomeAnd (slice_get self.old.sendings position) (λ s. index < length s.ends) }
         ensures same { setting_in self.new ≡ setting_in self.old }
         ensures counted { self.new.count ≡ self.old.count }
         ensures done { OnOk result (IsDone (setting_in self.old) (scene_in self.old) 0 (scene_in self.new) (step.End position index)) }
         ensures memory { IfErr result (λ fault. fault ≡ PlayFault.NoMemory) }
     {
-        let sending = &mut self.sendings[position];
-        let end = sending.take_end(index);
+        let end = self.sendings.take_end(position, index);
         self.clock = end.at;
-        report_end(self.alloc, &mut self.board, sending, end)?;
+        self.sendings
+            .report(self.alloc, &mut self.board, position, end)?;
         Ok(())
     }
 
     /// Finishes the flush at a position.
     fn finish(&mut self, position: usize)
-        requires { position < vec_len self.old.sendings }
+        requires { position < length self.old.sendings }
         ensures same { setting_in self.new ≡ setting_in self.old }
         ensures counted { self.new.count ≡ self.old.count }
         ensures done { IsDone (setting_in self.old) (scene_in self.old) 0 (scene_in self.new) (step.Finish position) }
-        ensures left { vec_len self.new.sendings < vec_len self.old.sendings }
+        ensures left { length self.new.sendings < length self.old.sendings }
     {
         let sending = self.sendings.remove(position);
         let Sending {
@@ -449,7 +449,6 @@ impl<'o> Simulation<'o> {
         ensures done { OnOk result (IsDone (setting_in self.old) (scene_in self.old) at (scene_in self.new) step.Begin) }
         ensures hindered { IfErr result (IsOwnFault (own_cause self.old.board.board at step.Begin)) }
     {
-        self.sendings.reserve(1)?;
         self.clock = at;
         let begin = self.board.taken();
         match self.board.begin(self.alloc, at) {
@@ -479,8 +478,7 @@ impl<'o> Simulation<'o> {
 
     /// Sends the notices of a flush from `at` on.
     fn send(&mut self, begin: u32, own: OwnTicket<BOARD_ID>, at: u64) -> Result<(), PlayFault>
-        requires time { at ≤ MAX_TIME }
-        requires room { vec_len self.old.sendings < vec_capacity self.old.sendings }
+        requires { at ≤ MAX_TIME }
         ensures same { setting_in self.new ≡ setting_in self.old }
         ensures counted { self.new.count ≡ self.old.count }
         ensures sent { OnOk result (IsSendingAdded (setting_in self.old) at own begin (scene_in self.old) (scene_in self.new)) }
@@ -496,11 +494,29 @@ impl<'o> Simulation<'o> {
             ticket,
             at,
         ) {
-            Ok(ends) => {
-                self.sendings.push_reserved(Sending { own, begin, ends });
-                Ok(())
-            }
+            Ok(ends) => self.add(Sending { own, begin, ends }, at),
             Err(_) => {
+                self.board.finish(own, at);
+                Err(PlayFault::NoMemory)
+            }
+        }
+    }
+
+    /// Adds a flush that is in flight. Where memory lacks, it is finished.
+    fn add(&mut self, sending: Sending, at: u64) -> Result<(), PlayFault>
+        ensures same { setting_in self.new ≡ setting_in self.old }
+        ensures counted { self.new.count ≡ self.old.count }
+        ensures added { OnOk result (scene_in self.new ≡ with_sending sending (scene_in self.old)) }
+        ensures memory { IfErr result (λ fault. fault ≡ PlayFault.NoMemory) }
+    {
+        match self.sendings.push(sending) {
+            Ok(()) => Ok(()),
+            Err(sending) => {
+                let Sending {
+                    own,
+                    begin: _,
+                    ends: _,
+                } = sending;
                 self.board.finish(own, at);
                 Err(PlayFault::NoMemory)
             }
@@ -509,7 +525,7 @@ impl<'o> Simulation<'o> {
 
     /// What ran to its end.
     fn into_played(self) -> Result<Played, AllocError>
-        requires { vec_len self.sendings ≡ 0 }
+        requires { length self.sendings ≡ 0 }
         ensures board { IfOk result (λ played. played.board ≡ self.entry.board.board) }
         ensures events { IfOk result (λ played. played.events.items ≡ self.entry.board.events.items) }
     {
@@ -545,57 +561,6 @@ impl<'o> Simulation<'o> {
             self.finish(0);
         }
         drop(self.into_played());
-    }
-}
-
-/// Records the end of a notice of a flush, and notes a success.
-fn report_end(
-    alloc: Global,
-    board: &mut PreviewingBoard,
-    sending: &mut Sending,
-    end: End,
-) -> Result<(), AllocError>
-    ensures sending { OnOk result (sending.new ≡ record (sending.old) { ticket = with_report end.report sending.old.ticket }) }
-    ensures events { OnOk result (board.new.events.items ≡ board.old.events.items ++ sent_events sending.old.begin end.report) }
-    ensures board { OnOk result (board.new.board
-        ≡ (if is_success end.report then with_note end.at (with_report end.report sending.old.ticket) end.index board.old.board
-        else board.old.board)) }
-{
-    keep_report(alloc, board, sending, end.report)?;
-    if is_success(end.report) {
-        return board.note(alloc, &sending.own, end.index, end.at);
-    }
-    Ok(())
-}
-
-/// Keeps the report on a notice of a flush, if there is one.
-fn keep_report(
-    alloc: Global,
-    board: &mut PreviewingBoard,
-    sending: &mut Sending,
-    report: Option<Report>,
-) -> Result<(), AllocError>
-    ensures sending { OnOk result (sending.new ≡ record (sending.old) { ticket = with_report report sending.old.ticket }) }
-    ensures events { OnOk result (board.new.events.items ≡ board.old.events.items ++ sent_events sending.old.begin report) }
-    ensures board { board.new.board ≡ board.old.board }
-{
-    match report {
-        None => Ok(()),
-        Some(report) => {
-            board.keep_sent(alloc, sending.begin, report)?;
-            sending.record(report);
-            Ok(())
-        }
-    }
-}
-
-/// Whether a sending that came to this end is a success.
-fn is_success(report: Option<Report>) -> bool
-    ensures { result ≡ is_success report }
-{
-    match report {
-        None => true,
-        Some(report) => report.outcome == Outcome::Delivered,
     }
 }
 

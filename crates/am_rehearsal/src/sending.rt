@@ -1,19 +1,21 @@
 //! The notices in flight. `play` adds a `Sending` for each flush, and reports the ends to the
 //! board.
-ghost use Rattle.std.specs.Prelude.{◌≡◌, ◌≤◌, ◌<◌, ◌+◌, ◌^◌, Some, IfOk, length, remove, slice_get};
+ghost use Rattle.std.specs.Prelude.{◌≡◌, ◌≤◌, ◌<◌, ◌+◌, ◌++◌, ◌^◌, Some, IfOk, OnOk, length, remove, slice_get, if◌then◌else◌};
 ghost use Rattle.am_alerts.specs.declared.limits.TheConstants.{MAX_TIME};
 ghost use Rattle.am_rehearsal.specs.Answers.{answer_of, AreEndsOf, IsEndOf};
-ghost use Rattle.am_rehearsal.specs.Next.{next_end, next_end_of, next_finish};
-ghost use Rattle.am_rehearsal.specs.Steps.{with_report};
+ghost use Rattle.am_rehearsal.specs.Next.{next_end_of};
+ghost use Rattle.am_rehearsal.specs.Steps.{is_success, sent_events, with_note, with_report};
 
 use crate::courier::{OutageCourier, Outages};
 use crate::limits::BOARD_ID;
 use crate::next::{End, Next, Step, earlier};
+use crate::previewing::PreviewingBoard;
 use am_alerts::text::Text;
 use am_board::notice::{Notice, Report};
 use am_board::own_ticket::OwnTicket;
 use am_board::ticket::Ticket;
 use am_pool::deliver_by;
+use am_retry::Outcome;
 use am_terms::rehearsal::Outage;
 use std::alloc::{AllocError, Global};
 use std::marker::Model;
@@ -53,20 +55,8 @@ impl Sending {
     }
 }
 
-/// Returns the first end that is still to come of these flushes. Of one time the first flush comes
-/// first, and of one flush the first index.
-pub(crate) fn next_end(sendings: &[Sending]) -> Option<Next>
-    ensures { result ≡ next_end 0 sendings.now }
-{
-    let mut first = None;
-    for (position, sending) in sendings.iter().enumerate() {
-        first = earlier(first, next_end_of(position, 0, sending.ends.as_slice()));
-    }
-    first
-}
-
 /// Returns the first of these ends of the flush at a position, the first of which has this index.
-fn next_end_of(position: usize, index: usize, ends: &[End]) -> Option<Next>
+pub(crate) fn next_end_of(position: usize, index: usize, ends: &[End]) -> Option<Next>
     requires { index + length ends.now < 2 ^ 64 }
     ensures { result ≡ next_end_of position index ends.now }
 {
@@ -80,21 +70,6 @@ fn next_end_of(position: usize, index: usize, ends: &[End]) -> Option<Next>
             next_end_of(position, index + 1, ends),
         ),
     }
-}
-
-/// Returns the finish, now, of the first of these flushes of which no end is to come.
-pub(crate) fn next_finish(now: u64, sendings: &[Sending]) -> Option<Next>
-    ensures { result ≡ next_finish now 0 sendings.now }
-{
-    for (position, sending) in sendings.iter().enumerate() {
-        if sending.ends.is_empty() {
-            return Some(Next {
-                at: now,
-                what: Step::Finish(position),
-            });
-        }
-    }
-    None
 }
 
 /// Sends the notices of a ticket from `start` (milliseconds) on, and returns their ends.
@@ -148,5 +123,58 @@ fn end_of<O: Outages>(
         at: report.ended,
         index,
         report: Some(report),
+    }
+}
+
+/// Records the end of a notice of a flush, and notes a success.
+pub(crate) fn report_end(
+    alloc: Global,
+    board: &mut PreviewingBoard,
+    sending: &mut Sending,
+    end: End,
+) -> Result<(), AllocError>
+    ensures flush { (sending.new.begin ≡ sending.old.begin) × (sending.new.ends ≡ sending.old.ends) }
+    ensures sending { OnOk result (sending.new ≡ record (sending.old) { ticket = with_report end.report sending.old.ticket }) }
+    ensures events { OnOk result (board.new.events.items ≡ board.old.events.items ++ sent_events sending.old.begin end.report) }
+    ensures board { OnOk result (board.new.board
+        ≡ (if is_success end.report then with_note end.at (with_report end.report sending.old.ticket) end.index board.old.board
+        else board.old.board)) }
+{
+    keep_report(alloc, board, sending, end.report)?;
+    if is_success(end.report) {
+        return board.note(alloc, &sending.own, end.index, end.at);
+    }
+    Ok(())
+}
+
+/// Keeps the report on a notice of a flush, if there is one.
+fn keep_report(
+    alloc: Global,
+    board: &mut PreviewingBoard,
+    sending: &mut Sending,
+    report: Option<Report>,
+) -> Result<(), AllocError>
+    ensures flush { (sending.new.begin ≡ sending.old.begin) × (sending.new.ends ≡ sending.old.ends) }
+    ensures sending { OnOk result (sending.new ≡ record (sending.old) { ticket = with_report report sending.old.ticket }) }
+    ensures events { OnOk result (board.new.events.items ≡ board.old.events.items ++ sent_events sending.old.begin report) }
+    ensures board { board.new.board ≡ board.old.board }
+{
+    match report {
+        None => Ok(()),
+        Some(report) => {
+            board.keep_sent(alloc, sending.begin, report)?;
+            sending.record(report);
+            Ok(())
+        }
+    }
+}
+
+/// Whether a sending that came to this end is a success.
+fn is_success(report: Option<Report>) -> bool
+    ensures { result ≡ is_success report }
+{
+    match report {
+        None => true,
+        Some(report) => report.outcome == Outcome::Delivered,
     }
 }

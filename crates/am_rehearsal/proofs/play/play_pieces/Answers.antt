@@ -21,7 +21,7 @@ pub into_played-requires : goal.into_played-requires
 into_played-requires g c =
     let last = c.run.new.self in
     let none = (next_none (setting_in c.in_ok-simulation.simulation) (scene_in last) c.in-Ok.ensures.over).0 in
-    last.sendings.ok.0 ∙ ap length none
+    ap length none
 
 pub returns-in_ok-into_played-in-Ok-clause-played : goal.returns-in_ok-into_played-in-Ok-clause-played
 returns-in_ok-into_played-in-Ok-clause-played g c =

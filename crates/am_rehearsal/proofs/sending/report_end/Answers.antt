@@ -4,7 +4,7 @@ use Rattle.am_board.specs.History.{BoardData}
 use Rattle.am_model.specs.Ticket.{TicketData}
 use Rattle.am_rehearsal.specs.Scene.{SendingData}
 use Rattle.am_rehearsal.specs.Steps.{with_note, with_report}
-use Rattle.am_rehearsal.proofs.play.report_end.Goals as goal
+use Rattle.am_rehearsal.proofs.sending.report_end.Goals as goal
 
 pub returns-then-is_success-clause-board : goal.returns-then-is_success-clause-board
 returns-then-is_success-clause-board c =

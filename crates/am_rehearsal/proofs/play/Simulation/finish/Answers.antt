@@ -1,5 +1,5 @@
-use Rattle.std.proofs.Common.{ap, sym}
-use Rattle.std.proofs.lemmas.Option.{slice_get_read}
+use Rattle.std.proofs.Common.{ap, arith, length, sym}
+use Rattle.std.proofs.lemmas.List.Edits.{length-remove}
 use Rattle.am_rehearsal.specs.Simulations.{scene_in, setting_in}
 use Rattle.am_rehearsal.specs.Scene.{SendingData}
 use Rattle.am_rehearsal.proofs.Stepping.{finish_done}
@@ -9,6 +9,11 @@ pub returns-clause-done : goal.returns-clause-done
 returns-clause-done c =
     let was = c.args.self.now in
     let s = c.remove-sending.result in
-    finish_done (setting_in was) (scene_in was) c.args.position s c.sending.inside.own c.finish.new.self.board c.finish.new.self.events.items c.remove-sending.new.self.items
-    (slice_get_read was.sendings.items was.sendings.len c.args.position s was.sendings.ok.0 c.requires c.remove-sending.ensures.value)
+    finish_done (setting_in was) (scene_in was) c.args.position s c.sending.inside.own c.finish.new.self.board c.finish.new.self.events.items c.remove-sending.new.self
+    c.remove-sending.ensures.value
     (sym (ap (λ (t : SendingData). t.ticket) c.sending.view_is)) c.finish.ensures.called (ap (λ es. es.items) c.finish.ensures.events) c.remove-sending.ensures.items
+
+pub returns-clause-left : goal.returns-clause-left
+returns-clause-left c =
+    let was = c.args.self.now in
+    omega (arith, ap length c.remove-sending.ensures.items, length-remove was.sendings c.args.position c.requires)

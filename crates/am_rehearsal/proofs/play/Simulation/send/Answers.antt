@@ -1,12 +1,11 @@
-use Rattle.std.proofs.Common.{◌≡◌, ◌∙◌, ap, subst}
+use Rattle.std.proofs.Common.{◌≡◌, ◌∙◌, ap, refl, subst}
+use Rattle.std.proofs.lemmas.Result.{on_ok_weaker}
 use Rattle.am_alerts.specs.declared.route.Route.{Route}
 use Rattle.am_model.specs.Configured.{route_of}
 use Rattle.am_model.specs.Ticket.{TicketData}
 use Rattle.am_model.specs.declared.config.Config.{Config}
 use Rattle.am_rehearsal.specs.Answers.{AreEndsOf, answer_of}
-use Rattle.am_rehearsal.specs.Simulations.{scene_in, setting_in}
 use Rattle.am_rehearsal.specs.Scene.{SendingData}
-use Rattle.am_rehearsal.proofs.Stepping.{sending_added}
 use Rattle.am_rehearsal.proofs.play.Simulation.send.Goals as goal
 
 pub returns-in-Ok-clause-sent : goal.returns-in-Ok-clause-sent
@@ -19,7 +18,8 @@ returns-in-Ok-clause-sent c =
     ∙ ap (route_of was.board.board.config) (c.group.ensures ∙ ap (λ (u : TicketData). u.group) ticket))
     in
     let s : SendingData = record { ticket = t; begin = c.args.begin; ends = c.in-Ok.ends.items } in
-    sending_added (setting_in was) (scene_in was) c.args.at s c.push_reserved.new.self.items
-    (subst (λ (q : Route). AreEndsOf (answer_of was.span.cut was.outages.now q.receiver) was.span.cut c.args.at 0 t.notices c.in-Ok.ends.items) route
-    (subst (λ (u : TicketData). AreEndsOf (answer_of was.span.cut was.outages.now c.route_of.result.now.receiver) was.span.cut c.args.at 0 u.notices c.in-Ok.ends.items) ticket c.in-Ok.ensures))
-    c.push_reserved.ensures.items
+    let ends : AreEndsOf (answer_of was.span.cut was.outages.now (route_of was.board.board.config t.group).receiver) was.span.cut c.args.at 0 t.notices c.in-Ok.ends.items =
+    subst (λ (q : Route). AreEndsOf (answer_of was.span.cut was.outages.now q.receiver) was.span.cut c.args.at 0 t.notices c.in-Ok.ends.items) route
+    (subst (λ (u : TicketData). AreEndsOf (answer_of was.span.cut was.outages.now c.route_of.result.now.receiver) was.span.cut c.args.at 0 u.notices c.in-Ok.ends.items) ticket c.in-Ok.ensures)
+    in
+    on_ok_weaker c.add.result (λ added. (s, refl, refl, ends, added)) c.add.ensures.added

@@ -15,7 +15,7 @@ end-requires c =
 pub finish-requires : goal.finish-requires
 finish-requires c =
     let was = c.args.self.now in
-    omega (arith, was.sendings.ok.0, there_for (setting_in was) (scene_in was) c.args.coming (Finish c.in-Finish.position) c.requires.comes c.in-Finish.is)
+    there_for (setting_in was) (scene_in was) c.args.coming (Finish c.in-Finish.position) c.requires.comes c.in-Finish.is
 
 pub begin-requires : goal.begin-requires
 begin-requires c =

@@ -1,0 +1,18 @@
+-- words about what is there, if anything is
+pub mod Words
+-- the group that is due next comes first
+pub mod FirstDue
+-- the open flushes, a call later
+pub mod OpenFlights
+-- when the next step comes
+pub mod Timing
+-- what a step does: the board accepts a call, or it doesn't change
+pub mod Moves
+-- what is true in each scene
+pub mod Sound
+-- nothing due is passed over, and none is left
+pub mod PassedOver
+-- a flush that is closed is finished
+pub mod Closing
+-- where flushes never wait, each group is begun when it is due
+pub mod OnTime

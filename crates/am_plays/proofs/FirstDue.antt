@@ -1,5 +1,5 @@
 -- The group that is due next: no group without open flush is due sooner.
-use Rattle.std.proofs.Common.{◌≡◌, ℕ, ◌<◌, ◌≤◌, Bool, true, false, true≢false, cond, not, ◌&&◌, nat_le, Option, Some, None, List, [], ◌∷◌, refl, sym, ap, ◌∙◌, subst, arith, if◌then◌else◌}
+use Rattle.std.proofs.Common.{◌≡◌, ℕ, ◌<◌, ◌≤◌, Bool, true, false, true≢false, cond, not, ◌&&◌, Option, Some, None, List, [], ◌∷◌, refl, sym, ap, ◌∙◌, arith, if◌then◌else◌}
 use Rattle.std.specs.Prelude.{find, filter}
 use Rattle.std.specs.List.{AllByRecursion}
 use Rattle.std.specs.Option.{IsSomeAnd, option_map}
@@ -12,7 +12,7 @@ use Rattle.am_model.specs.declared.group.GroupName.{GroupName}
 use Rattle.am_model.specs.declared.notice.TheConstants.{MAX_DEADLINE}
 use Rattle.am_model.specs.Begin.{due_cmp, may_begin, taken, next_due}
 use Rattle.am_model.specs.Lists.{least, lesser}
-use Rattle.am_model.specs.State.{GroupState, State, is_named, same_name, is_flushing, name_cmp}
+use Rattle.am_model.specs.State.{GroupState, State, is_named, is_flushing, name_cmp}
 use Rattle.am_model.proofs.lists.Distinct.{all-find, all-weaker, find-passes}
 use Rattle.am_model.proofs.states.Alike.{same_name-is}
 

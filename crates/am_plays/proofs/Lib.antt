@@ -16,3 +16,5 @@ pub mod PassedOver
 pub mod Closing
 -- where flushes never wait, each group is begun when it is due
 pub mod OnTime
+-- worked plays: the hypotheses are met, and a limit of open flushes breaks the laws
+pub mod Examples

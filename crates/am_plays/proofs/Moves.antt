@@ -36,7 +36,7 @@ use Rattle.am_terms.specs.declared.rehearsal.Action.{Action}
 use Rattle.am_terms.specs.declared.rehearsal.Action.TheVariants.{Insert, Silence, Load}
 use Rattle.am_terms.specs.declared.rehearsal.TimedAction.{TimedAction}
 use Rattle.am_plays.proofs.Words.{if_same, some_both, some_of}
-use Rattle.am_plays.proofs.OpenFlights.{Key, key_of, keys_after, keys-differ, number-found, open_keys, remove-without}
+use Rattle.am_plays.proofs.OpenFlights.{Key, keys_after, keys-differ, number-found, open_keys, remove-without}
 
 -- the number and the group of a flush in flight
 abbrev pub flight : SendingData → Key

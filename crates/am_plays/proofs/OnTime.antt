@@ -1,5 +1,5 @@
--- Where as many flushes may be open as there may be groups, each group is begun when it is due and its last flush is finished.
-use Rattle.std.proofs.Common.{◌≡◌, ℕ, ◌+◌, ◌≤◌, ◌<◌, max, min, Bool, true, false, not, ◌&&◌, ◌||◌, nat_le, nat_lt, cond, Option, Some, None, List, [], ◌∷◌, length, ◌⊎◌, inl, inr, refl, sym, ap, ◌∙◌, subst, arith, if◌then◌else◌}
+-- Where the limit of open flushes isn't below that of groups, each group is begun when it is due and its last flush is finished.
+use Rattle.std.proofs.Common.{◌≡◌, ℕ, ◌+◌, ◌≤◌, ◌<◌, max, min, Bool, true, false, not, ◌&&◌, ◌||◌, nat_le, nat_lt, cond, Option, Some, None, List, [], ◌∷◌, length, inl, inr, refl, sym, ap, subst, arith, if◌then◌else◌}
 use Rattle.std.specs.Prelude.{find}
 use Rattle.std.specs.Option.{IfSome}
 use Rattle.std.proofs.lemmas.Bool.{le-leb, leb-true, leb-false}
@@ -12,15 +12,11 @@ use Rattle.am_model.specs.look_back.Laws.{IsOneFlushAtATime, has_open}
 use Rattle.am_model.specs.look_back.Past.{AtEach, past_of, replay_past, time_at}
 use Rattle.am_model.proofs.looking_back.LooksBack.{histories_look_back}
 use Rattle.am_model.proofs.looking_back.Pasts.{IsLegalPast, legal_past, replay_of_past}
-use Rattle.am_board.specs.History.{BoardData}
 use Rattle.am_paging.specs.InTime.{ended_at, is_finish_of}
 use Rattle.am_paging.proofs.GroupSteps.{Has, IsKept, group_after, group-step}
 use Rattle.am_paging.proofs.Standing.{ended-before}
-use Rattle.am_rehearsal.specs.Play.{PlaysTo}
 use Rattle.am_rehearsal.specs.Scene.{Setting}
 use Rattle.am_rehearsal.specs.declared.limits.TheConstants.{BOARD_ID}
-use Rattle.am_terms.specs.declared.event.Event.{Event}
-use Rattle.am_terms.specs.declared.rehearsal.TimedAction.{TimedAction}
 use Rattle.am_plays.specs.Plays.{BeginsWhenDue, ComesBy, EveryPlay, PassesOverNone, has_place}
 use Rattle.am_plays.proofs.Closing.{finished-now}
 use Rattle.am_plays.proofs.PassedOver.{nothing_due_is_passed_over}

@@ -1,11 +1,11 @@
 -- The numbers and the groups of the open flushes, a call later.
-use Rattle.std.proofs.Common.{◌≡◌, ℕ, zero, suc, ◌≤◌, ◌+◌, max, min, Bool, true, false, true≢false, cond, not, Option, Some, None, List, [], ◌∷◌, ◌++◌, length, map, remove, refl, sym, ap, ◌∙◌, subst, arith, if◌then◌else◌}
-use Rattle.std.specs.Prelude.{find, filter, slice_get, ◌==◌}
+use Rattle.std.proofs.Common.{◌≡◌, ℕ, zero, suc, max, min, Bool, true, false, true≢false, cond, not, Some, List, [], ◌∷◌, ◌++◌, map, remove, refl, sym, ap, ◌∙◌, subst, if◌then◌else◌}
+use Rattle.std.specs.Prelude.{slice_get, ◌==◌}
 use Rattle.std.specs.List.{AllByRecursion, IsDistinct}
 use Rattle.std.specs.Option.{IsSomeAnd}
 use Rattle.std.proofs.lemmas.Bool.{eqb-true}
 use Rattle.std.proofs.lemmas.Cmp.{nat_eq_equiv}
-use Rattle.std.proofs.lemmas.List.{length-map, map-append}
+use Rattle.std.proofs.lemmas.List.{map-append}
 use Rattle.std.proofs.lemmas.Map.Keys.{IsDistinct-head, IsDistinct-tail}
 use Rattle.am_alerts.specs.declared.limits.TheConstants.{MAX_TIME}
 use Rattle.am_model.specs.declared.config.Config.{Config}
@@ -16,7 +16,7 @@ use Rattle.am_model.specs.declared.record.Call.TheVariants.{Insert, Silence, Beg
 use Rattle.am_model.specs.declared.record.Reply.{Reply}
 use Rattle.am_model.specs.declared.record.Reply.TheVariants as reply_is
 use Rattle.am_model.specs.Begin.{after_notifying, reply_notifying}
-use Rattle.am_model.specs.Laws.{IsConsistent, same_number}
+use Rattle.am_model.specs.Laws.{IsConsistent}
 use Rattle.am_model.specs.Lists.{without, changed_where}
 use Rattle.am_model.specs.Note.{with_note}
 use Rattle.am_model.specs.Replay.{reply, after_call}

@@ -1,12 +1,12 @@
 -- Nothing that is due is passed over, and nothing that is due by the end is left.
-use Rattle.std.proofs.Common.{◌≡◌, ℕ, zero, suc, ◌+◌, ◌≤◌, ◌<◌, max, min, Bool, true, false, true≢false, ◌||◌, List, [], ◌∷◌, ◌++◌, length, map, reverse, Option, Some, None, ◌⊎◌, inl, inr, refl, sym, ap, ◌∙◌, subst, arith, nat_le, nat_lt}
+use Rattle.std.proofs.Common.{◌≡◌, ℕ, zero, suc, ◌+◌, ◌≤◌, ◌<◌, max, min, Bool, true, false, true≢false, ◌||◌, List, [], ◌∷◌, length, map, Option, Some, None, inl, inr, refl, sym, ap, ◌∙◌, subst, arith, nat_le, nat_lt}
 use Rattle.std.specs.Prelude.{find}
-use Rattle.std.specs.Option.{IfSome, IsSomeAnd}
+use Rattle.std.specs.Option.{IfSome}
 use Rattle.std.proofs.lemmas.Bool.{leb-true, leb-false}
 use Rattle.std.proofs.lemmas.Bool.Decides.{nat_tests}
 use Rattle.std.proofs.lemmas.List.{length-map, reverse-append, reverse-reverse}
 use Rattle.am_alerts.specs.declared.limits.TheConstants.{MAX_TIME}
-use Rattle.am_board.specs.History.{BoardData, state_at, with_record}
+use Rattle.am_board.specs.History.{BoardData, state_at}
 use Rattle.am_model.proofs.legal.Histories.{after_clock}
 use Rattle.am_model.proofs.looking_back.Pasts.{IsLegalPast, legal_past, replay_is_past, state_after}
 use Rattle.am_model.proofs.looking_back.alerts.FoundAlerts.{finds_past}
@@ -32,8 +32,8 @@ use Rattle.am_terms.specs.declared.event.Event.{Event}
 use Rattle.am_terms.specs.declared.rehearsal.TimedAction.{TimedAction}
 use Rattle.am_plays.specs.Plays.{ComesBy, EveryPlay, NothingDueIsLeft, NothingDueIsPassedOver, PassesOverNone, has_place}
 use Rattle.am_plays.proofs.Moves.{IsMove, IsRecorded, IsSilent, flight, flying}
-use Rattle.am_plays.proofs.OpenFlights.{key_of, open_keys}
-use Rattle.am_plays.proofs.Sound.{IsSound, kept-as, more, move-sound, moves, opening-sound, kept-sound, state-more}
+use Rattle.am_plays.proofs.OpenFlights.{key_of}
+use Rattle.am_plays.proofs.Sound.{IsSound, kept-as, more, move-sound, moves, opening-sound, state-more}
 use Rattle.am_plays.proofs.Timing.{next_before, none_before}
 use Rattle.am_plays.proofs.Words.{if_at, if_each, some_of}
 
@@ -97,7 +97,7 @@ module _ (r : Setting) where
       by true is = let past : r.until + 1 ≤ max last due = leb-true (r.until + 1) (max last due) is in inr (omega (arith, past))
       by false is = let within : max last due < r.until + 1 = leb-false (r.until + 1) (max last due) is in inl (omega (arith, within, near))
 
-  -- where a flush more may be open, begins don't wait
+  -- where a flush more is allowed, begins don't wait
   unblocked : (c : Scene) → IsPunctual c → has_place c.board.config (state_at c.board) ≡ true → c.blocked ≡ false
   unblocked c was place = by c.blocked refl (nat_le c.board.config.limits.groups c.board.config.limits.flushes) refl place
     where

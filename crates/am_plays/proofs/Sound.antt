@@ -1,13 +1,12 @@
 -- What is true in each scene that a play reaches: its history is legal, its flushes in flight are the open ones, and begins wait only where
 -- as many are open as the limit allows.
-use Rattle.std.proofs.Common.{◌≡◌, ◌≢◌, ℕ, zero, suc, ◌+◌, ◌≤◌, ◌<◌, Bool, true, false, true≢false, cond, List, [], ◌∷◌, ◌++◌, length, map, Option, Some, None, ◌⊎◌, inl, inr, refl, sym, ap, ◌∙◌, subst, arith, if◌then◌else◌, ◌&&◌, nat_le}
+use Rattle.std.proofs.Common.{◌≡◌, ℕ, zero, suc, ◌≤◌, Bool, true, false, true≢false, List, [], ◌∷◌, length, Option, Some, None, inl, inr, refl, sym, ap, ◌∙◌, subst, arith, if◌then◌else◌, ◌&&◌, nat_le}
 use Rattle.std.specs.Option.{IsSomeAnd}
 use Rattle.std.proofs.lemmas.Bool.{leb-true}
 use Rattle.std.proofs.lemmas.List.{length-append, length-map}
-use Rattle.am_alerts.specs.AlertData.{AlertData}
-use Rattle.am_board.specs.History.{BoardData, records_at, state_at, with_record, opening}
+use Rattle.am_board.specs.History.{BoardData, records_at, state_at, with_record}
 use Rattle.am_model.proofs.legal.Consistent.{consistent_replay}
-use Rattle.am_model.proofs.legal.FewGroups.{IsInsert, few_inserted, few_others}
+use Rattle.am_model.proofs.legal.FewGroups.{few_inserted, few_others}
 use Rattle.am_model.proofs.legal.Histories.{legal_appends, replay_appends}
 use Rattle.am_model.proofs.legal.NeverWait.{flushes_never_wait}
 use Rattle.am_model.specs.declared.config.Config.{Config}
@@ -15,22 +14,20 @@ use Rattle.am_model.specs.declared.fault.Fault.{Fault}
 use Rattle.am_model.specs.declared.fault.Fault.TheVariants as fault
 use Rattle.am_model.specs.declared.record.Call.{Call}
 use Rattle.am_model.specs.declared.record.Call.TheVariants as call
-use Rattle.am_model.specs.declared.record.Record.{Record}
 use Rattle.am_model.specs.declared.record.Reply.{Reply}
 use Rattle.am_model.specs.declared.record.Reply.TheVariants as reply
-use Rattle.am_model.specs.Causes.{insert_cause, is_alert_too_many, is_full, makes_too_many, opens_by}
+use Rattle.am_model.specs.Causes.{is_alert_too_many, is_full, opens_by}
 use Rattle.am_model.specs.Begin.{taken}
 use Rattle.am_model.specs.Laws.{IsConsistent}
 use Rattle.am_model.specs.Records.{entry}
-use Rattle.am_model.specs.Replay.{IsLegal, after_call, replay, reply as reply_to}
-use Rattle.am_model.specs.State.{FlushState, State, time}
+use Rattle.am_model.specs.Replay.{IsLegal, after_call, reply as reply_to}
+use Rattle.am_model.specs.State.{State, time}
 use Rattle.am_rehearsal.specs.Next.{next}
-use Rattle.am_rehearsal.specs.Play.{LeadsIn, PlaysTo}
-use Rattle.am_rehearsal.specs.Scene.{Scene, SendingData, Setting, opening_scene}
+use Rattle.am_rehearsal.specs.Play.{LeadsIn}
+use Rattle.am_rehearsal.specs.Scene.{Scene, Setting, opening_scene}
 use Rattle.am_rehearsal.specs.Steps.{Steps}
 use Rattle.am_rehearsal.specs.Taking.{cause_of_none}
 use Rattle.am_rehearsal.specs.declared.limits.TheConstants.{BOARD_ID}
-use Rattle.am_terms.specs.declared.event.Event.{Event}
 use Rattle.am_terms.specs.declared.rehearsal.TimedAction.{TimedAction}
 use Rattle.am_plays.specs.Plays.{EveryPlay, IsLegalPlay, NothingBlocks}
 use Rattle.am_plays.proofs.Words.{some_of}

@@ -27,7 +27,7 @@ EveryPlay P =
 abbrev pub IsLegalPlay : Setting → Config → List Record → Type 0
 IsLegalPlay r config history = IsLegal config BOARD_ID history
 
--- law: where as many flushes may be open as there may be groups, begins wait for a finish in no scene of a rehearsal
+-- law: where the limit of open flushes isn't below that of groups, begins wait for a finish in no scene of a rehearsal
 abbrev pub NothingBlocks : Type 0
 NothingBlocks =
     (r : Setting) (config : Config) (plans : List TimedAction) (c : Scene) → config.limits.groups ≤ config.limits.flushes
@@ -39,11 +39,11 @@ NothingBlocks =
 abbrev pub ComesBy : Setting → ℕ → ℕ → Type 0
 ComesBy r bound t = (t ≤ bound) ⊎ (r.until < bound)
 
--- whether a flush more may be open: fewer are than the limit, or as many may be as there may be groups
+-- whether a flush more is allowed: fewer are open than the limit, or the limit isn't below that of groups
 abbrev pub has_place : Config → State → Bool
 has_place config s = nat_le config.limits.groups config.limits.flushes || nat_lt (length s.flushes) config.limits.flushes
 
--- where a flush more may be open, time goes on with a record only as far as each group without an open flush is due
+-- where a flush more is allowed, time goes on with a record only as far as each group without an open flush is due
 abbrev pub PassesOverNone : Setting → Config → Record → Past → Type 0
 PassesOverNone r config q past =
     has_place config (replay_past config past) ≡ true → (name : GroupName) → has_open name past ≡ false
@@ -62,8 +62,8 @@ NothingDueIsLeft r config history =
     → (name : GroupName) → IfSome (find (is_named name) (replay config history).groups)
     (λ g. r.until < max (time_at (past_of history)) g.due))
 
--- where as many flushes may be open as there may be groups, each record comes by when each group without an open flush is due and its last
--- flush is finished
+-- where the limit of open flushes isn't below that of groups, each record comes by when each group without an open flush is due and its
+-- last flush is finished
 abbrev pub BeginsWhenDue : Setting → Config → List Record → Type 0
 BeginsWhenDue r config history =
     config.limits.groups ≤ config.limits.flushes

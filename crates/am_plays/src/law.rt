@@ -1,4 +1,5 @@
-//! The laws of plays, as calls that verifiers read. Each has an empty body: its `ensures` is the statement.
+//! The laws of plays, as calls that verifiers read. Each has an empty body: its `ensures` is the
+//! statement.
 ghost use Rattle.am_plays.specs.Plays.{BeginsWhenDue, EveryPlay, IsLegalPlay, NothingBlocks, NothingDueIsLeft, NothingDueIsPassedOver};
 
 /// States that the history of each play is legal.
@@ -11,8 +12,8 @@ pub fn plays_are_legal()
 
 /// States that flushes don't wait for each other, in any rehearsal.
 ///
-/// Where as many flushes may be open as there may be groups, begins wait for a finish in no scene
-/// that a rehearsal reaches. So an outage of one receiver delays no other.
+/// Where `limits.flushes` isn't below `limits.groups`, begins wait for a finish in no scene that a
+/// rehearsal reaches. So an outage of one receiver delays no other.
 pub fn nothing_blocks()
     ensures { NothingBlocks }
 {}
@@ -20,8 +21,8 @@ pub fn nothing_blocks()
 /// States that a play passes over nothing that is due, until the rehearsal's end.
 ///
 /// Clause `passed`: take a record, and a group that has no open flush before it. Where a flush more
-/// may be open, the record comes no later than the group is due, or than the record before. Or the
-/// rehearsal's end comes before that. A flush more may be open where fewer are than
+/// is allowed, the record comes no later than the group is due, or than the record before. Or the
+/// rehearsal's end comes before that. A flush more is allowed where fewer are open than
 /// `limits.flushes`, or where that isn't below `limits.groups`. Clause `left`: after the last record
 /// no flush is open and no group is due by the end, unless the history goes on after the end. Clause
 /// `begun`: where `limits.flushes` isn't below `limits.groups`, the record comes no later than both

@@ -6,6 +6,8 @@ pub mod FirstDue
 pub mod OpenFlights
 -- when the next step comes
 pub mod Timing
+-- the kinds of steps
+pub mod StepKinds
 -- what a step does: the board accepts a call, or it doesn't change
 pub mod Moves
 -- what is true in each scene
@@ -18,3 +20,7 @@ pub mod Closing
 pub mod OnTime
 -- worked plays: the hypotheses are met, and a limit of open flushes breaks the laws
 pub mod Examples
+-- sendings without an outage are over at once
+pub mod Instant
+-- while a flush without an outage is open, time stands still
+pub mod InFlight

@@ -35,6 +35,7 @@ use Rattle.am_rehearsal.specs.Taking.{cause_of_none}
 use Rattle.am_terms.specs.declared.rehearsal.Action.{Action}
 use Rattle.am_terms.specs.declared.rehearsal.Action.TheVariants.{Insert, Silence, Load}
 use Rattle.am_terms.specs.declared.rehearsal.TimedAction.{TimedAction}
+use Rattle.am_plays.proofs.StepKinds.{step_by}
 use Rattle.am_plays.proofs.Words.{if_same, some_both, some_of}
 use Rattle.am_plays.proofs.OpenFlights.{Key, keys_after, keys-differ, number-found, open_keys, remove-without}
 
@@ -118,19 +119,6 @@ reported_key (Some r) t = elim (is_some (report_fault t r)) as (λ b. key_in (if
 
 -- ---- each kind of step
 
--- what holds of both holds of the earlier
-earlier_keeps : (P : _ → Type 0) (a b : Option _) → IfSome a P → IfSome b P → IfSome (earlier a b) P
-earlier_keeps P None b p q = q
-earlier_keeps P (Some n) None p q = p
-earlier_keeps P (Some n) (Some m) p q = elim (nat_lt m.at n.at) as (λ t. IfSome (if t then Some m else Some n) P) [ true ↦ q | false ↦ p ]
-
-in_time_keeps : (until at : ℕ) (what : _) (P : _ → Type 0) → P (next_at at what) → IfSome (in_time until at what) P
-in_time_keeps until at what P h = elim (nat_le at until) as (λ b. IfSome (if b then Some (next_at at what) else None) P) [ true ↦ h | false ↦ tt ]
-
--- what is said of what is there
-said : {X : Type 0} (o : Option X) (x : X) → o ≡ Some x → (P : X → Type 0) → IsSomeAnd o P → P x
-said o x is P h = subst (λ p. IsSomeAnd p P) is h
-
 -- a call that isn't an insert or a finish, and opens no flush: only its record is new
 abbrev IsPlain : Call → Type 0
 IsPlain (call.Insert now alert) = ⊥
@@ -210,13 +198,8 @@ module _ (r : Setting) (c d : Scene) where
       noted_move at t index (is_none (note_cause c.board.config c.board.id (records_at c.board) (state_at c.board) t index)) (slice_get t.notices index) board flights waits
   ended_move false at t index board flights waits = inr (record { board = board; flights = flights; waits = inl waits })
 
-  ended : (position index : ℕ) (s : SendingData) (e : _) → slice_get c.sendings position ≡ Some s → slice_get s.ends index ≡ Some e
-      → IsSomeAnd (slice_get c.sendings position) (λ t. IsSomeAnd (slice_get t.ends index) (λ x. d ≡ after_end c position t index x)) → IsMove c d e.at
-  ended position index s e here there done =
-      let is : d ≡ after_end c position s index e =
-      said (slice_get s.ends index) e there (λ x. d ≡ after_end c position s index x)
-      (said (slice_get c.sendings position) s here (λ t. IsSomeAnd (slice_get t.ends index) (λ x. d ≡ after_end c position t index x)) done)
-      in
+  ended : (position index : ℕ) (s : SendingData) (e : _) → slice_get c.sendings position ≡ Some s → d ≡ after_end c position s index e → IsMove c d e.at
+  ended position index s e here is =
       let flights : flying d ≡ flying c =
       ap flying is ∙ flights_set c.sendings position s (after_end_of s index e.report) here (reported_key e.report s.ticket)
       in
@@ -226,32 +209,30 @@ module _ (r : Setting) (c d : Scene) where
       }
 
   -- the finish of a flush, which is open
-  finished_move : (position : ℕ) → flying c ≡ open_keys (state_at c.board) → IsConsistent (state_at c.board)
-      → IsSomeAnd (slice_get c.sendings position) (λ s. d ≡ after_finish c position s) → IsMove c d c.clock
-  finished_move position same sound done =
-      let here = some_of (slice_get c.sendings position) (λ s. d ≡ after_finish c position s) done in
-      let s : SendingData = here.0 in
+  finished_move : (position : ℕ) → flying c ≡ open_keys (state_at c.board) → IsConsistent (state_at c.board) → (s : SendingData)
+      → slice_get c.sendings position ≡ Some s → d ≡ after_finish c position s → IsMove c d c.clock
+  finished_move position same sound s here is =
       let n : ℕ = s.ticket.number in
-      let there : slice_get (flying c) position ≡ Some (flight s) = flight_at c.sendings position s here.1 in
+      let there : slice_get (flying c) position ≡ Some (flight s) = flight_at c.sendings position s here in
       let open_there : slice_get (open_keys (state_at c.board)) position ≡ Some (flight s) = ap (λ (l : List Key). slice_get l position) (sym same) ∙ there in
       let f = some_of (flush_numbered (state_at c.board).flushes n) (λ g. g.number ≡ n) (number-found (state_at c.board).flushes position (flight s) open_there) in
       let p : Reply = reply.Finished (finished (state_at c.board) s.ticket.outcomes f.0) in
       let x : Call = call.Finish c.clock n s.ticket.outcomes in
-      let is : reply_to c.board.config c.board.id (state_at c.board) x ≡ Some p =
+      let returned : reply_to c.board.config c.board.id (state_at c.board) x ≡ Some p =
       ap (option_map (λ (g : FlushState). reply.Finished (finished (state_at c.board) s.ticket.outcomes g))) f.1
       in
       record {
-        clock = ap (λ (y : Scene). y.clock) here.2;
+        clock = ap (λ (y : Scene). y.clock) is;
         does = inl (record {
           accepted = x;
           returned = p;
           now = refl;
-          replied = is;
+          replied = returned;
           allowed = tt;
-          board = ap (λ (y : Scene). y.board) here.2 ∙ with_call_is x p is;
-          flights = ap flying here.2 ∙ flights_remove c.sendings position
+          board = ap (λ (y : Scene). y.board) is ∙ with_call_is x p returned;
+          flights = ap flying is ∙ flights_remove c.sendings position
               ∙ subst (λ (l : List Key). remove l position ≡ keys_after x p l) (sym same) (remove-without (open_keys (state_at c.board)) position (flight s) (keys-differ (state_at c.board) sound) open_there);
-          waits = ap (λ (y : Scene). y.blocked) here.2;
+          waits = ap (λ (y : Scene). y.blocked) is;
         });
       }
 
@@ -352,69 +333,8 @@ module _ (r : Setting) (c d : Scene) where
   begins : (at : ℕ) → IsBegun r c at d (cause_of_none c.board at) → IsMove c d at
   begins at done = begun_by at (cause_of_none c.board at) refl done
 
-  module _ (same : flying c ≡ open_keys (state_at c.board)) (sound : IsConsistent (state_at c.board)) where
-    -- the ends of the flush at a position, from an index on
-    ends_move : (position : ℕ) (s : SendingData) → slice_get c.sendings position ≡ Some s → (index : ℕ) (es : List _)
-        → ((k : ℕ) (e : _) → slice_get es k ≡ Some e → slice_get s.ends (index + k) ≡ Some e)
-        → IfSome (next_end_of position index es) (λ n. IsDone r c n.at d n.what → IsMove c d n.at)
-    ends_move position s here index [] from = tt
-    ends_move position s here index (e ∷ es) from =
-        earlier_keeps (λ n. IsDone r c n.at d n.what → IsMove c d n.at) (next_end_of position index (e ∷ [])) (next_end_of position (index + 1) es)
-        (λ done. ended position index s e here (subst (λ (k : ℕ). slice_get s.ends k ≡ Some e) (add-zero index) (from 0 e refl)) done)
-        (ends_move position s here (index + 1) es
-        (λ k x at. let more : index + suc k ≡ index + 1 + k = omega arith in subst (λ (n : ℕ). slice_get s.ends n ≡ Some x) more (from (suc k) x at)))
-
-    -- these flushes are those of the scene from a position on
-    abbrev AreFrom : ℕ → List SendingData → Type 0
-    AreFrom position ss = (k : ℕ) (s : SendingData) → slice_get ss k ≡ Some s → slice_get c.sendings (position + k) ≡ Some s
-
-    sendings_move : (position : ℕ) (ss : List SendingData) → AreFrom position ss → IfSome (next_end position ss) (λ n. IsDone r c n.at d n.what → IsMove c d n.at)
-    sendings_move position [] from = tt
-    sendings_move position (s ∷ ss) from =
-        let here : slice_get c.sendings position ≡ Some s = subst (λ (k : ℕ). slice_get c.sendings k ≡ Some s) (add-zero position) (from 0 s refl) in
-        earlier_keeps (λ n. IsDone r c n.at d n.what → IsMove c d n.at) (next_end_of position 0 s.ends) (next_end (position + 1) ss)
-        (ends_move position s here 0 s.ends (λ k e at. let more : k ≡ 0 + k = omega arith in subst (λ (n : ℕ). slice_get s.ends n ≡ Some e) more at))
-        (sendings_move (position + 1) ss
-        (λ k t is. let more : position + suc k ≡ position + 1 + k = omega arith in subst (λ (n : ℕ). slice_get c.sendings n ≡ Some t) more (from (suc k) t is)))
-
-    finish_moves : (position : ℕ) (ss : List SendingData) → IfSome (next_finish c.clock position ss) (λ n. IsDone r c n.at d n.what → IsMove c d n.at)
-    finish_moves position [] = tt
-    finish_moves position (s ∷ ss) = by s.ends (finish_moves (position + 1) ss)
-      where
-        by : (es : List _) → IfSome (next_finish c.clock (position + 1) ss) (λ n. IsDone r c n.at d n.what → IsMove c d n.at)
-            → IfSome (next_finish c.clock position (record { ticket = s.ticket; begin = s.begin; ends = es } ∷ ss)) (λ n. IsDone r c n.at d n.what → IsMove c d n.at)
-        by [] later = λ done. finished_move position same sound done
-        by (e ∷ es) later = later
-
-    plan_moves : (ps : List TimedAction) → c.plans ≡ ps → IfSome (next_plan r.until ps) (λ n. IsDone r c n.at d n.what → IsMove c d n.at)
-    plan_moves [] is = tt
-    plan_moves (p ∷ ps) is =
-        in_time_keeps r.until p.at _ (λ n. IsDone r c n.at d n.what → IsMove c d n.at) (λ done. acted p ps (subst (IsPlanDone c d) is done))
-
-    begin_moves : (blocked : Bool) (due : Option ℕ) → IfSome (if blocked then None else begin_due r.until c.clock due) (λ n. IsDone r c n.at d n.what → IsMove c d n.at)
-    begin_moves true due = tt
-    begin_moves false None = tt
-    begin_moves false (Some due) = in_time_keeps r.until (max due c.clock) _ (λ n. IsDone r c n.at d n.what → IsMove c d n.at) (λ done. begins (max due c.clock) done)
-
-    of_all_move : IfSome (next_of_all r c) (λ n. IsDone r c n.at d n.what → IsMove c d n.at)
-    of_all_move =
-        let all : AreFrom 0 c.sendings = λ k s is. let e : k ≡ 0 + k = omega arith in subst (λ (n : ℕ). slice_get c.sendings n ≡ Some s) e is in
-        earlier_keeps (λ n. IsDone r c n.at d n.what → IsMove c d n.at) (next_but_begins r c) (next_begin r c)
-        (earlier_keeps (λ n. IsDone r c n.at d n.what → IsMove c d n.at) (earlier (next_end 0 c.sendings) (next_finish c.clock 0 c.sendings))
-        (earlier (next_plan r.until c.plans) (in_time r.until c.maintenance _))
-        (earlier_keeps (λ n. IsDone r c n.at d n.what → IsMove c d n.at) (next_end 0 c.sendings) (next_finish c.clock 0 c.sendings) (sendings_move 0 c.sendings all) (finish_moves 0 c.sendings))
-        (earlier_keeps (λ n. IsDone r c n.at d n.what → IsMove c d n.at) (next_plan r.until c.plans) (in_time r.until c.maintenance _) (plan_moves c.plans refl)
-        (in_time_keeps r.until c.maintenance _ (λ n. IsDone r c n.at d n.what → IsMove c d n.at) (λ done. maintained_move c.maintenance done))))
-        (begin_moves c.blocked (next_due (state_at c.board)))
-
-    some_moves : IfSome (next r c) (λ n. IsDone r c n.at d n.what → IsMove c d n.at)
-    some_moves = by (begins_on r c) refl
-      where
-        by : (b : Bool) → begins_on r c ≡ b → IfSome (next r c) (λ n. IsDone r c n.at d n.what → IsMove c d n.at)
-        by true is = if_same (next r c) _ (sym (next_on r c is)) (λ n. IsDone r c n.at d n.what → IsMove c d n.at) (λ done. begins c.clock done)
-        by false is = if_same (next r c) (next_of_all r c) (sym (next_else r c is)) (λ n. IsDone r c n.at d n.what → IsMove c d n.at) of_all_move
-
-    -- a step is such a move, at the time of what comes next
-    pub step_moves : Steps r c d → IsSomeAnd (next r c) (λ n. IsMove c d n.at)
-    unfolding Steps
-    step_moves steps = some_both (next r c) (λ n. IsDone r c n.at d n.what) (λ n. IsMove c d n.at) some_moves steps
+  -- a step is such a move, at the time of what comes next
+  pub step_moves : flying c ≡ open_keys (state_at c.board) → IsConsistent (state_at c.board) → Steps r c d → IsSomeAnd (next r c) (λ n. IsMove c d n.at)
+  step_moves same sound steps =
+      step_by r c d (IsMove c d) (λ position index s e here there done. ended position index s e here done) (λ position s here done. finished_move position same sound s here done)
+      (λ p ps done. acted p ps done) (λ at done. maintained_move at done) (λ at within done. begins at done) steps

@@ -49,7 +49,7 @@ deadline-after = omega arith
 -- ---- a board's history, from its end
 
 module _ (b : BoardData) (legal : IsLegal b.config b.id b.history) where
-  abbrev pub past : List Record
+  abbrev past : List Record
   past = past_of b.history
 
   pub past-legal : IsLegalPast b.config b.id past

@@ -200,10 +200,10 @@ module _ (r : Setting) where
   kept-sound (suc k) c d sound led = step-sound r led.0 d (kept-sound k c led.0 sound led.1) led.2
 
   -- the board keeps its configuration and its id
-  abbrev IsAs : BoardData → BoardData → Type 0
+  abbrev pub IsAs : BoardData → BoardData → Type 0
   IsAs b e = (e.config ≡ b.config) × (e.id ≡ b.id)
 
-  step-as : (c d : Scene) → IsSound c → Steps r c d → IsAs c.board d.board
+  pub step-as : (c d : Scene) → IsSound c → Steps r c d → IsAs c.board d.board
   step-as c d sound steps =
       let m = some_of (next r c) (λ n. IsMove c d n.at) (moves r c d sound steps) in
       of-move m.0.at m.2

@@ -1,5 +1,6 @@
--- A flush of a group that is open before a record and isn't after it is finished by the record.
-use Rattle.std.proofs.Common.{◌≡◌, ℕ, Bool, true, false, cond, not, ◌&&◌, ◌||◌, List, [], ◌∷◌, refl, sym, ◌∙◌}
+-- A flush of a group that is open before a record and isn't after it is finished by the record; one that is open after it was open before,
+-- if the record doesn't begin the group.
+use Rattle.std.proofs.Common.{◌≡◌, ℕ, Bool, true, false, cond, not, ◌&&◌, ◌||◌, List, [], ◌∷◌, refl, sym, ap, ◌∙◌}
 use Rattle.std.specs.Prelude.{◌==◌}
 use Rattle.std.specs.List.{list_any}
 use Rattle.std.proofs.lemmas.Bool.{false≢true, or_left, or_right, and_parts}
@@ -13,7 +14,7 @@ use Rattle.am_model.specs.declared.record.Reply.TheVariants as reply_is
 use Rattle.am_model.specs.State.{same_name}
 use Rattle.am_model.specs.look_back.Entry.{begins_group}
 use Rattle.am_model.specs.look_back.Laws.{number_in, has_open, IsOneFlushAtATime}
-use Rattle.am_model.specs.look_back.Past.{AtEach, is_flush, is_flush_of, is_finish, begin_of, has_begun, has_finished}
+use Rattle.am_model.specs.look_back.Past.{AtEach, is_flush, is_flush_of, is_finish, begin_of, has_begun, has_finished, is_quiet, takes}
 use Rattle.am_paging.specs.InTime.{is_finish_of}
 use Rattle.am_paging.proofs.OpenFlushes.{neither}
 
@@ -96,3 +97,25 @@ module _ (name : GroupName) where
       close (Forget now) e = absurd (none past e)
       close (Load now row) e = absurd (none past e)
       close (Note now k integration outcome) e = absurd (none past e)
+
+  -- a flush that is open after a record that begins none of the group was open before
+  pub open-before : (r : Record) (past : List Record) → takes name r.reply ≡ false → has_open name (r ∷ past) ≡ true → has_open name past ≡ true
+  open-before r past other opens = rest past (ap (λ b. (b && not (has_finished (number_in r.reply) (r ∷ past))) || list_any (λ q. is_flush_of name q.reply && not (has_finished (number_in q.reply) (r ∷ past))) past) (sym (none (is_quiet name r.reply) (is_flush_of name r.reply) other)) ∙ opens)
+    where
+      none : (a b : Bool) → (a || b) ≡ false → b ≡ false
+      none true b e = absurd (false≢true (sym e))
+      none false b e = e
+
+      one : (a b c : Bool) → (a && not (b || c)) ≡ true → (a && not c) ≡ true
+      one true true c e = absurd (false≢true e)
+      one true false c e = e
+      one false b c e = absurd (false≢true e)
+
+      rest : (qs : List Record) → list_any (λ q. is_flush_of name q.reply && not (has_finished (number_in q.reply) (r ∷ past))) qs ≡ true → list_any (λ q. is_flush_of name q.reply && not (has_finished (number_in q.reply) past)) qs ≡ true
+      rest [] e = absurd (false≢true e)
+      rest (q ∷ qs) e =
+          let later = is_flush_of name q.reply && not (has_finished (number_in q.reply) (r ∷ past)) in
+          elim later as (λ b. later ≡ b → (b || list_any (λ q. is_flush_of name q.reply && not (has_finished (number_in q.reply) (r ∷ past))) qs) ≡ true → list_any (λ q. is_flush_of name q.reply && not (has_finished (number_in q.reply) past)) (q ∷ qs) ≡ true) [
+            | true ↦ λ is _. or_left (is_flush_of name q.reply && not (has_finished (number_in q.reply) past)) (list_any (λ q. is_flush_of name q.reply && not (has_finished (number_in q.reply) past)) qs) (one (is_flush_of name q.reply) (is_finish (number_in q.reply) r.call) (has_finished (number_in q.reply) past) is)
+            | false ↦ λ _ e. or_right (is_flush_of name q.reply && not (has_finished (number_in q.reply) past)) (list_any (λ q. is_flush_of name q.reply && not (has_finished (number_in q.reply) past)) qs) (rest qs e)
+          ] refl e

@@ -1,24 +1,29 @@
 -- Worked plays: a play that meets all hypotheses, and one whose flushes have to wait, which blocks and passes over a group that is due.
-use Rattle.std.proofs.Common.{◌≡◌, ℕ, ◌≤◌, ◌<◌, ◌⊎◌, inl, inr, true, false, Some, None, [], ◌∷◌, ◌++◌, refl, arith}
+use Rattle.std.proofs.Common.{◌≡◌, ℕ, ◌+◌, ◌≤◌, ◌<◌, ◌⊎◌, inl, inr, true, false, Some, None, List, [], ◌∷◌, ◌++◌, refl, arith}
 use Rattle.std.specs.Prelude.{codes, find, max}
 use Rattle.std.specs.Option.{IfSome}
 use Rattle.std.proofs.lemmas.List.Elements.{All-cons, All-nil}
 use Rattle.am_retry.specs.declared.outcome.Answer.TheVariants.{Done, Never}
 use Rattle.am_retry.specs.declared.outcome.Outcome.TheVariants.{Delivered, Refused}
 use Rattle.am_alerts.specs.AlertData.{AlertData}
+use Rattle.am_alerts.specs.declared.labels.Label.{Label}
 use Rattle.am_model.specs.declared.config.Config.{Config}
 use Rattle.am_model.specs.declared.group.GroupName.{GroupName}
 use Rattle.am_model.specs.declared.notice.Report.{Report}
+use Rattle.am_model.specs.declared.record.Record.{Record}
 use Rattle.am_model.specs.declared.record.Call.TheVariants as call
 use Rattle.am_model.specs.declared.record.Reply.TheVariants.{Noted}
+use Rattle.am_model.specs.Configured.{route_of}
 use Rattle.am_model.specs.Notice.{NoticeData}
-use Rattle.am_model.specs.Records.{entry, flush_reply}
+use Rattle.am_model.specs.Records.{entry, flush_reply, now_of}
 use Rattle.am_model.specs.State.{is_named}
 use Rattle.am_model.specs.Ticket.{TicketData}
 use Rattle.am_model.specs.look_back.Laws.{has_open}
-use Rattle.am_model.specs.look_back.Past.{past_of, replay_past, time_at}
+use Rattle.am_model.specs.look_back.Past.{AtEach, past_of, replay_past, time_at}
 use Rattle.am_model.proofs.examples.Base.{a, base, fires, group, group_a, named}
 use Rattle.am_board.specs.History.{state_at}
+use Rattle.am_paging.specs.InTime.{IsOnTime, begun_by, past_until}
+use Rattle.am_paging.specs.Paging.{is_due_a_page}
 use Rattle.am_pool.specs.Sendings.{IsAnsweredBy}
 use Rattle.am_rehearsal.specs.Answers.{AreEndsOf}
 use Rattle.am_rehearsal.specs.Next.{next}
@@ -29,6 +34,7 @@ use Rattle.am_terms.specs.declared.event.Event.TheVariants.{Sent}
 use Rattle.am_terms.specs.declared.rehearsal.Action.TheVariants.{Insert}
 use Rattle.am_terms.specs.declared.rehearsal.Outage.{Outage}
 use Rattle.am_terms.specs.declared.rehearsal.TimedAction.{TimedAction}
+use Rattle.am_plays.specs.PlaysInTime.{IsServed, has_no_outage}
 use Rattle.am_plays.specs.Plays.{ComesBy, has_place}
 
 -- a configuration with this limit of open flushes, and 64 groups
@@ -279,3 +285,89 @@ c_passed comes = by comes
     by : (70_000 ≤ 30_000) ⊎ (100_000 < 30_000) → ⊥
     by (inl within) = absurd (omega (arith, within))
     by (inr after) = absurd (omega (arith, after))
+
+-- ---- the first play serves A's group, and pages in time
+
+served : IsServed minute enough group_a
+served = record { reached = refl; runs = refl; ends = omega arith; places = omega arith }
+
+abbrev labels_a : List Label
+labels_a = named (codes "A")
+
+due_a : AtEach (λ q past. 0 < time_at (q ∷ past) → time_at (q ∷ past) ≤ minute.until → is_due_a_page enough group_a labels_a (time_at (q ∷ past)) past ≡ true) (past_of finished.board.history)
+due_a = (λ after within. refl, (λ after within. refl, (λ after within. refl, (λ after within. refl, (λ after within. absurd (omega (arith, after)), tt)))))
+
+due_at_end : is_due_a_page enough group_a labels_a minute.until (past_until minute.until (past_of finished.board.history)) ≡ true
+due_at_end = refl
+
+by_then : begun_by enough group_a 0 0 (past_of finished.board.history) ≡ 30_000
+by_then = refl
+
+before_end : 30_000 < minute.until
+before_end = omega arith
+
+-- ---- left out: that no outage is of the receiver; a flush that hangs for forty seconds isn't over at its begin
+
+abbrev hanging_start : Scene
+hanging_start = opening_scene held_up enough (insert_of a ∷ [])
+
+abbrev hanging_inserted : Scene
+hanging_inserted = after_plan hanging_start (insert_of a) []
+
+abbrev hanging_flushed : Scene
+hanging_flushed = with_sending hanging (after_taking hanging_inserted 30_000 (flush_reply 1 group_a 330_000 (notice_a ∷ [])))
+
+abbrev hanging_idle : Scene
+hanging_idle = after_nothing hanging_flushed 30_000
+
+abbrev hanging_failed : Scene
+hanging_failed = record hanging_idle { events = hanging_idle.events ++ Sent 0 refused ∷ []; sendings = refused_sending ∷ []; clock = 70_000 }
+
+abbrev hanging_freed : Scene
+hanging_freed = after_finish hanging_failed 0 refused_sending
+
+to_hanging_inserted : Steps held_up hanging_start hanging_inserted
+unfolding Steps next
+to_hanging_inserted = (refl, refl)
+
+to_hanging_flushed : Steps held_up hanging_inserted hanging_flushed
+unfolding Steps next
+to_hanging_flushed = (hanging, refl, refl, hanging_ends, refl)
+
+to_hanging_idle : Steps held_up hanging_flushed hanging_idle
+unfolding Steps next
+to_hanging_idle = refl
+
+to_hanging_failed : Steps held_up hanging_idle hanging_failed
+unfolding Steps next
+to_hanging_failed = refl
+
+to_hanging_freed : Steps held_up hanging_failed hanging_freed
+unfolding Steps next
+to_hanging_freed = refl
+
+hanging_over : next held_up hanging_freed ≡ None
+unfolding next
+hanging_over = refl
+
+hanging_play : PlaysTo held_up enough (insert_of a ∷ []) hanging_freed.board hanging_freed.events
+hanging_play =
+    record {
+      last = hanging_freed;
+      reached = (5, (hanging_failed, (hanging_idle, (hanging_flushed, (hanging_inserted, (hanging_start, refl, to_hanging_inserted), to_hanging_flushed), to_hanging_idle), to_hanging_failed), to_hanging_freed));
+      over = hanging_over;
+      board_is = refl;
+      events_are = refl;
+    }
+
+hanging_unserved : has_no_outage (route_of enough group_a).receiver held_up.outages ≡ false
+hanging_unserved = refl
+
+hanging_opened : has_open group_a (past_of hanging_failed.board.history) ≡ true
+hanging_opened = refl
+
+hanging_late : (q : Record) → now_of q.call ≡ 70_000 → IsOnTime 0 0 enough group_a q (past_of hanging_failed.board.history) → ⊥
+hanging_late q is on = by (on.ends refl)
+  where
+    by : time_at (q ∷ past_of hanging_failed.board.history) ≤ 30_000 + 0 → ⊥
+    by h = absurd (omega (arith, is, h))

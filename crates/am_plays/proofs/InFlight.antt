@@ -1,12 +1,12 @@
 -- While a flush of a group is open whose receiver no outage names, time stands still.
-use Rattle.std.proofs.Common.{◌≡◌, ℕ, zero, suc, ◌+◌, ◌<◌, ◌≤◌, max, min, Bool, true, false, ◌&&◌, ◌||◌, nat_le, nat_lt, List, [], ◌∷◌, ◌++◌, map, remove, Option, Some, None, ◌⊎◌, inl, inr, refl, sym, ap, ◌∙◌, subst, arith, if◌then◌else◌}
+use Rattle.std.proofs.Common.{◌≡◌, ℕ, zero, suc, ◌+◌, ◌<◌, ◌≤◌, max, min, Bool, true, false, ◌||◌, nat_le, nat_lt, List, [], ◌∷◌, map, remove, Option, Some, None, ◌⊎◌, inl, inr, refl, sym, ap, ◌∙◌, subst, arith, if◌then◌else◌}
 use Rattle.std.specs.Prelude.{is_some, slice_get, slice_set}
 use Rattle.std.specs.List.{AllByRecursion, list_any}
 use Rattle.std.specs.Option.{IsSomeAnd}
 use Rattle.std.proofs.lemmas.Bool.{false≢true, le-leb, leb-true}
 use Rattle.std.proofs.lemmas.Bool.Decides.{nat_tests}
 use Rattle.am_alerts.specs.declared.limits.TheConstants.{MAX_TIME}
-use Rattle.am_board.specs.History.{BoardData, state_at, with_record}
+use Rattle.am_board.specs.History.{BoardData, state_at}
 use Rattle.am_model.proofs.legal.EachCall.{inside}
 use Rattle.am_model.proofs.legal.Histories.{after_clock}
 use Rattle.am_model.proofs.lists.Distinct.{all-both, all-push, all-weaker}
@@ -19,22 +19,20 @@ use Rattle.am_model.specs.declared.record.Call.{Call}
 use Rattle.am_model.specs.declared.record.Call.TheVariants as call
 use Rattle.am_model.specs.declared.notice.Report.{Report}
 use Rattle.am_model.specs.declared.record.Opened.{Opened}
-use Rattle.am_model.specs.declared.record.Record.{Record}
 use Rattle.am_model.specs.declared.record.Reply.{Reply}
 use Rattle.am_model.specs.declared.record.Reply.TheVariants as reply
 use Rattle.am_model.specs.Begin.{begun}
 use Rattle.am_model.specs.Configured.{route_of}
 use Rattle.am_model.specs.Notice.{NoticeData}
 use Rattle.am_model.specs.Records.{entry, now_of}
-use Rattle.am_model.specs.State.{FlushState, State, is_flushing, same_name, time}
+use Rattle.am_model.specs.State.{State, is_flushing, same_name, time}
 use Rattle.am_model.specs.Ticket.{TicketData, recorded, report_fault}
 use Rattle.am_model.specs.look_back.Laws.{has_open}
 use Rattle.am_model.specs.look_back.Past.{AtEach, past_of, time_at}
 use Rattle.am_paging.proofs.Standing.{one-is}
-use Rattle.am_pool.specs.declared.courier.Sent.{Sent}
 use Rattle.am_rehearsal.proofs.Coming.{next_else, next_on}
-use Rattle.am_rehearsal.specs.Answers.{AreEndsOf, tried_by, tried_until}
-use Rattle.am_rehearsal.specs.Next.{begins_on, comes_by, earlier, in_time, next, next_begin, next_but_begins, next_end, next_end_of, next_finish, next_of_all, next_plan, none_left}
+use Rattle.am_rehearsal.specs.Answers.{tried_until}
+use Rattle.am_rehearsal.specs.Next.{begins_on, comes_by, earlier, in_time, next, next_begin, next_but_begins, next_end, next_end_of, next_finish, next_of_all, next_plan}
 use Rattle.am_rehearsal.specs.Play.{LeadsIn, PlaysTo}
 use Rattle.am_rehearsal.specs.Scene.{Scene, SendingData, Setting, opening_scene}
 use Rattle.am_rehearsal.specs.Steps.{IsBegun, IsReplied, Steps, after_end_of, answers_for, is_success, with_report}
@@ -43,10 +41,10 @@ use Rattle.am_terms.specs.declared.event.Event.{Event}
 use Rattle.am_terms.specs.declared.rehearsal.TimedAction.{TimedAction}
 use Rattle.am_plays.specs.PlaysInTime.{IsServed, has_no_outage, runs_past}
 use Rattle.am_plays.proofs.Instant.{AreLater, IsDoneAtOnce, answer-done, begun-later, ends-instant}
-use Rattle.am_plays.proofs.Moves.{IsMove, IsRecorded, IsSilent, flight, flying}
-use Rattle.am_plays.proofs.OpenFlights.{Key, key_of, open_keys}
+use Rattle.am_plays.proofs.Moves.{IsMove, IsRecorded, IsSilent, flight}
+use Rattle.am_plays.proofs.OpenFlights.{Key, key_of}
 use Rattle.am_plays.proofs.PassedOver.{clock-is, open-is, past-more}
-use Rattle.am_plays.proofs.Sound.{IsSound, more, move-sound, moves, opening-sound, state-more, step-as}
+use Rattle.am_plays.proofs.Sound.{IsSound, move-sound, moves, opening-sound, state-more, step-as}
 use Rattle.am_plays.proofs.StepKinds.{step_by}
 use Rattle.am_plays.proofs.Words.{some_of}
 

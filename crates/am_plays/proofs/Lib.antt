@@ -24,3 +24,7 @@ pub mod Examples
 pub mod Instant
 -- while a flush without an outage is open, time stands still
 pub mod InFlight
+-- a play is on time for each group that is served
+pub mod Served
+-- and pages it in time
+pub mod PagesInPlays

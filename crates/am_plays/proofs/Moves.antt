@@ -1,7 +1,7 @@
 -- What a step does, as far as these laws ask: the board accepts a call, or it doesn't change.
-use Rattle.std.proofs.Common.{◌≡◌, ℕ, zero, suc, Bool, true, false, max, nat_le, nat_lt, ◌+◌, List, [], ◌∷◌, ◌++◌, map, remove, Option, Some, None, ◌⊎◌, inl, inr, refl, sym, ap, ◌∙◌, subst, add-zero, arith, if◌then◌else◌}
+use Rattle.std.proofs.Common.{◌≡◌, ℕ, zero, suc, Bool, true, false, List, [], ◌∷◌, ◌++◌, map, remove, Option, Some, None, ◌⊎◌, inl, inr, refl, sym, ap, ◌∙◌, subst, if◌then◌else◌}
 use Rattle.std.specs.Prelude.{is_none, is_some, slice_get, slice_set}
-use Rattle.std.specs.Option.{IfSome, IsSomeAnd, option_map, option_map_or}
+use Rattle.std.specs.Option.{IsSomeAnd, option_map, option_map_or}
 use Rattle.std.proofs.lemmas.List.{map-append}
 use Rattle.am_board.specs.History.{BoardData, records_at, state_at, with_record}
 use Rattle.am_model.proofs.legal.EachCall.{inside}
@@ -12,7 +12,7 @@ use Rattle.am_model.specs.declared.record.Call.{Call}
 use Rattle.am_model.specs.declared.record.Call.TheVariants as call
 use Rattle.am_model.specs.declared.record.Reply.{Reply}
 use Rattle.am_model.specs.declared.record.Reply.TheVariants as reply
-use Rattle.am_model.specs.Begin.{begun, next_due}
+use Rattle.am_model.specs.Begin.{begun}
 use Rattle.am_model.specs.Causes.{insert_cause, note_cause}
 use Rattle.am_model.specs.Finish.{finished}
 use Rattle.am_model.specs.Insert.{inserted}
@@ -25,18 +25,17 @@ use Rattle.am_model.specs.State.{FlushState, flush_numbered, time}
 use Rattle.am_model.specs.Ticket.{TicketData, recorded, report_fault}
 use Rattle.am_mute.specs.Silence.{silence_of}
 use Rattle.am_pool.specs.Sendings.{note_at}
-use Rattle.am_rehearsal.proofs.Coming.{next_else, next_on}
 use Rattle.am_rehearsal.proofs.Loading.{load_taken, load_reply, no_cause}
-use Rattle.am_rehearsal.specs.Next.{begin_due, begins_on, earlier, in_time, next, next_at, next_begin, next_but_begins, next_end, next_end_of, next_finish, next_of_all, next_plan}
+use Rattle.am_rehearsal.specs.Next.{next}
 use Rattle.am_rehearsal.specs.Planned.{call_of, refuses}
 use Rattle.am_rehearsal.specs.Scene.{Scene, SendingData, Setting}
-use Rattle.am_rehearsal.specs.Steps.{IsBegun, IsDone, IsPlanDone, IsReplied, Steps, after_end, after_end_of, after_finish, after_maintenance, is_success, with_call, with_note, with_report}
+use Rattle.am_rehearsal.specs.Steps.{IsBegun, IsPlanDone, IsReplied, Steps, after_end, after_end_of, after_finish, after_maintenance, is_success, with_call, with_note, with_report}
 use Rattle.am_rehearsal.specs.Taking.{cause_of_none}
 use Rattle.am_terms.specs.declared.rehearsal.Action.{Action}
 use Rattle.am_terms.specs.declared.rehearsal.Action.TheVariants.{Insert, Silence, Load}
 use Rattle.am_terms.specs.declared.rehearsal.TimedAction.{TimedAction}
 use Rattle.am_plays.proofs.StepKinds.{step_by}
-use Rattle.am_plays.proofs.Words.{if_same, some_both, some_of}
+use Rattle.am_plays.proofs.Words.{some_of}
 use Rattle.am_plays.proofs.OpenFlights.{Key, keys_after, keys-differ, number-found, open_keys, remove-without}
 
 -- the number and the group of a flush in flight

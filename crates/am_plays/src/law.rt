@@ -1,5 +1,6 @@
 //! The laws of plays, as calls that verifiers read. Each has an empty body: its `ensures` is the
 //! statement.
+ghost use Rattle.am_plays.specs.PlaysInTime.{PlaysAreOnTime, PlaysPageInTime};
 ghost use Rattle.am_plays.specs.Plays.{BeginsWhenDue, EveryPlay, IsLegalPlay, NothingBlocks, NothingDueIsLeft, NothingDueIsPassedOver};
 
 /// States that the history of each play is legal.
@@ -31,4 +32,19 @@ pub fn nothing_due_is_passed_over()
     ensures passed { EveryPlay NothingDueIsPassedOver }
     ensures left { EveryPlay NothingDueIsLeft }
     ensures begun { EveryPlay BeginsWhenDue }
+{}
+
+/// States that a play pages in time, with no premise on a driver.
+///
+/// Take a group that is served: no outage is of its receiver, its dispatcher isn't stopped by the
+/// rehearsal's end, and `limits.flushes` isn't below `limits.groups`. Clause `on_time`: each record
+/// up to the end is on time for the group, without any slack or hold. So it comes no later than the
+/// group is due and its last flush is finished, and each flush of it is over at the time of its
+/// begin. Clause `paged`: an alert is due a page there at each record after a time x, and at the end.
+/// If the latest time comes before the end, a begin by then has a notice to each integration that
+/// lists the alert, or the integration has heard of it. The latest time is `group_wait` after x in a
+/// group that wasn't begun yet, else `group_interval` after its last begin.
+pub fn plays_page_in_time()
+    ensures on_time { EveryPlay PlaysAreOnTime }
+    ensures paged { EveryPlay PlaysPageInTime }
 {}

@@ -1,4 +1,4 @@
--- While a flush of a group is open whose receiver no outage names, time stands still.
+-- While a flush of a group is open whose receiver no outage names, time doesn't move on.
 use Rattle.std.proofs.Common.{◌≡◌, ℕ, zero, suc, ◌+◌, ◌<◌, ◌≤◌, max, min, Bool, true, false, ◌||◌, nat_le, nat_lt, List, [], ◌∷◌, map, remove, Option, Some, None, ◌⊎◌, inl, inr, refl, sym, ap, ◌∙◌, subst, arith, if◌then◌else◌}
 use Rattle.std.specs.Prelude.{is_some, slice_get, slice_set}
 use Rattle.std.specs.List.{AllByRecursion, list_any}
@@ -300,9 +300,9 @@ module _ (r : Setting) (name : GroupName) (receiver : List ℕ) (none : has_no_o
         sym (any-map flight (λ (k : Key). same_name name k.1) c.sendings) ∙ ap (list_any (λ (k : Key). same_name name k.1)) was.sound.airborne
         ∙ any-map key_of (λ (k : Key). same_name name k.1) (state_at c.board).flushes ∙ flushing
 
-    stands : (at : ℕ) → IsEarly at → (x : Call) (p : Reply) → now_of x ≡ at
+    unmoved : (at : ℕ) → IsEarly at → (x : Call) (p : Reply) → now_of x ≡ at
         → has_open name (past_of c.board.history) ≡ true → time_at (entry 0 x p ∷ past_of c.board.history) ≤ time_at (past_of c.board.history)
-    stands at early x p is opened =
+    unmoved at early x p is opened =
         let soon : at ≤ now = one-is is_own (at ≤ now) c.sendings early (own_flies (sym (open-is c.board was.sound.legal name) ∙ opened)) in
         let clock : now ≡ time_at (past_of c.board.history) = clock-is c.board was.sound.legal in
         omega (arith, soon, clock, is)
@@ -321,7 +321,7 @@ module _ (r : Setting) (name : GroupName) (receiver : List ℕ) (none : has_no_o
             in (
               subst IsStill (sym did.board)
                   (subst (AtEach (λ q past. has_open name past ≡ true → time_at (q ∷ past) ≤ time_at past)) (sym (past-more c.board did.accepted did.returned))
-                  (stands at early did.accepted did.returned did.now, was.still)),
+                  (unmoved at early did.accepted did.returned did.now, was.still)),
               omega (arith, since),
             )
 
@@ -350,10 +350,10 @@ module _ (r : Setting) (name : GroupName) (receiver : List ℕ) (none : has_no_o
   opening-prompt : (config : Config) (plans : List TimedAction) → IsReceiver config → IsPrompt (opening_scene r config plans)
   opening-prompt config plans receives = record { sound = opening-sound r config plans; receives = receives; swift = tt; still = tt }
 
--- while a flush of a group that is served is open, time stands still in a play
-pub time_stands : (r : Setting) (config : Config) (plans : List TimedAction) (board : BoardData) (events : List Event) → PlaysTo r config plans board events
+-- while a flush of a group that is served is open, time doesn't move on in a play
+pub time_is_still : (r : Setting) (config : Config) (plans : List TimedAction) (board : BoardData) (events : List Event) → PlaysTo r config plans board events
     → (name : GroupName) → IsServed r config name → AtEach (λ q past. has_open name past ≡ true → time_at (q ∷ past) ≤ time_at past) (past_of board.history)
-time_stands r config plans board events play name served =
+time_is_still r config plans board events play name served =
     let receiver : List ℕ = (route_of config name).receiver in
     let last = kept-prompt r name receiver served.reached served.runs served.ends play.reached.0 (opening_scene r config plans) play.last
     (opening-prompt r name receiver served.reached served.runs served.ends config plans refl) play.reached.1

@@ -22,7 +22,7 @@ pub mod OnTime
 pub mod Examples
 -- sendings without an outage are over at once
 pub mod Instant
--- while a flush without an outage is open, time stands still
+-- while a flush without an outage is open, time doesn't move on
 pub mod InFlight
 -- a play is on time for each group that is served
 pub mod Served

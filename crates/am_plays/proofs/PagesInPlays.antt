@@ -107,7 +107,7 @@ module _ (r : Setting) (config : Config) (id : ℕ) (name : GroupName) where
   -- before a record after the end
   rest-before : (q : Record) (past : List Record) → Still r config id name q past → Due r config id name q past → r.until < time_at (q ∷ past) → time_at past ≤ r.until → IsAtRest past
   rest-before q past still due late within =
-      let closed : has_open name past ≡ false = not-open (has_open name past) (λ opened. let stands : time_at (q ∷ past) ≤ time_at past = still opened in absurd (omega (arith, stands, late, within))) in
+      let closed : has_open name past ≡ false = not-open (has_open name past) (λ opened. let unmoved : time_at (q ∷ past) ≤ time_at past = still opened in absurd (omega (arith, unmoved, late, within))) in
       record {
         closed = closed;
         later = if_weaker (find (is_named name) (replay_past config past).groups) (λ g. ComesBy r (max g.due (ended_at name past)) (time_at (q ∷ past)))

@@ -21,13 +21,13 @@ use Rattle.am_terms.specs.declared.rehearsal.TimedAction.{TimedAction}
 use Rattle.am_plays.specs.Plays.{ComesBy, EveryPlay}
 use Rattle.am_plays.specs.PlaysInTime.{IsServed, PlaysAreOnTime}
 use Rattle.am_plays.proofs.Closing.{open-before}
-use Rattle.am_plays.proofs.InFlight.{time_stands}
+use Rattle.am_plays.proofs.InFlight.{time_is_still}
 use Rattle.am_plays.proofs.OnTime.{begins_when_due}
 use Rattle.am_plays.proofs.Sound.{plays_are_legal}
 use Rattle.am_plays.proofs.Words.{if_weaker}
 
 module _ (r : Setting) (config : Config) (id : ℕ) (name : GroupName) where
-  -- while a flush of the group is open, time stands still
+  -- while a flush of the group is open, time doesn't move on
   abbrev pub Still : Record → List Record → Type 0
   Still q past = has_open name past ≡ true → time_at (q ∷ past) ≤ time_at past
 
@@ -48,17 +48,17 @@ module _ (r : Setting) (config : Config) (id : ℕ) (name : GroupName) where
       by false is true earlier = tt
       by false is false earlier =
           let before : has_open name past ≡ true = open-before name q past is opened in
-          let stands : time_at (q ∷ past) ≤ time_at past = still.0 before in
-          if_weaker (begun_at config name past) (λ u. time_at past ≤ u) (λ u. time_at (q ∷ past) ≤ u) (λ u h. let up : time_at past ≤ u = h in omega (arith, up, stands)) (earlier before)
+          let unmoved : time_at (q ∷ past) ≤ time_at past = still.0 before in
+          if_weaker (begun_at config name past) (λ u. time_at past ≤ u) (λ u. time_at (q ∷ past) ≤ u) (λ u h. let up : time_at past ≤ u = h in omega (arith, up, unmoved)) (earlier before)
 
   on-time : (q : Record) (past : List Record) → IsLegalPast config id past → AtEach Still past → Still q past → Due q past → time_at (q ∷ past) ≤ r.until → IsOnTime 0 0 config name q past
-  on-time q past legal still stands due within =
+  on-time q past legal still unmoved due within =
       record {
         begins = λ closed. if_weaker (find (is_named name) (replay_past config past).groups) (λ g. ComesBy r (max g.due (ended_at name past)) (time_at (q ∷ past)))
             (λ g. time_at (q ∷ past) ≤ max g.due (ended_at name past) + 0)
             (λ g h. by (max g.due (ended_at name past)) h) (due closed);
         ends = λ opened. if_weaker (begun_at config name past) (λ u. time_at past ≤ u) (λ u. time_at (q ∷ past) ≤ u + 0)
-            (λ u h. let up : time_at past ≤ u = h in let now : time_at (q ∷ past) ≤ time_at past = stands opened in omega (arith, up, now)) (begun-now past legal still opened);
+            (λ u h. let up : time_at past ≤ u = h in let now : time_at (q ∷ past) ≤ time_at past = unmoved opened in omega (arith, up, now)) (begun-now past legal still opened);
       }
     where
       by : (bound : ℕ) → ComesBy r bound (time_at (q ∷ past)) → time_at (q ∷ past) ≤ bound + 0
@@ -77,7 +77,7 @@ one-name P name (q ∷ past) each = (each.0 name, one-name P name past each.1)
 module _ (r : Setting) (config : Config) (plans : List TimedAction) (board : BoardData) (events : List Event) (play : PlaysTo r config plans board events)
     (name : GroupName) (served : IsServed r config name) where
   pub still-play : AtEach (Still r config BOARD_ID name) (past_of board.history)
-  still-play = time_stands r config plans board events play name served
+  still-play = time_is_still r config plans board events play name served
 
   pub due-play : AtEach (Due r config BOARD_ID name) (past_of board.history)
   due-play =

@@ -42,7 +42,8 @@ PlaysAreOnTime r config history =
 abbrev pub PlaysPageInTime : Setting → Config → List Record → Type 0
 PlaysPageInTime r config history =
     (name : GroupName) (labels : List Label) (x : ℕ) → IsServed r config name
-    → AtEach (λ q past. x < time_at (q ∷ past) → time_at (q ∷ past) ≤ r.until → is_due_a_page config name labels (time_at (q ∷ past)) past ≡ true) (past_of history)
+    → AtEach (λ q past. x < time_at (q ∷ past) → time_at (q ∷ past) ≤ r.until
+    → is_due_a_page config name labels (time_at (q ∷ past)) past ≡ true) (past_of history)
     → is_due_a_page config name labels r.until (past_until r.until (past_of history)) ≡ true
     → begun_by config name 0 x (past_of history) < r.until
     → AtSome (IsBegunFor config name labels x (begun_by config name 0 x (past_of history))) (past_of history)

@@ -1,0 +1,361 @@
+-- While a flush of a group is open whose receiver no outage names, time doesn't move on.
+use Rattle.std.proofs.Common.{◌≡◌, ℕ, zero, suc, ◌+◌, ◌<◌, ◌≤◌, max, min, Bool, true, false, ◌||◌, nat_le, nat_lt, List, [], ◌∷◌, map, remove, Option, Some, None, ◌⊎◌, inl, inr, refl, sym, ap, ◌∙◌, subst, arith, if◌then◌else◌}
+use Rattle.std.specs.Prelude.{is_some, slice_get, slice_set}
+use Rattle.std.specs.List.{AllByRecursion, list_any}
+use Rattle.std.specs.Option.{IsSomeAnd}
+use Rattle.std.proofs.lemmas.Bool.{false≢true, le-leb, leb-true}
+use Rattle.std.proofs.lemmas.Bool.Decides.{nat_tests}
+use Rattle.am_alerts.specs.declared.limits.TheConstants.{MAX_TIME}
+use Rattle.am_board.specs.History.{BoardData, state_at}
+use Rattle.am_model.proofs.legal.EachCall.{inside}
+use Rattle.am_model.proofs.legal.Histories.{after_clock}
+use Rattle.am_model.proofs.lists.Distinct.{all-both, all-push, all-weaker}
+use Rattle.am_model.proofs.states.Alike.{same_name-is}
+use Rattle.am_model.specs.declared.config.Config.{Config}
+use Rattle.am_model.specs.declared.fault.Fault.{Fault}
+use Rattle.am_model.specs.declared.fault.Fault.TheVariants as fault
+use Rattle.am_model.specs.declared.group.GroupName.{GroupName}
+use Rattle.am_model.specs.declared.record.Call.{Call}
+use Rattle.am_model.specs.declared.record.Call.TheVariants as call
+use Rattle.am_model.specs.declared.notice.Report.{Report}
+use Rattle.am_model.specs.declared.record.Opened.{Opened}
+use Rattle.am_model.specs.declared.record.Reply.{Reply}
+use Rattle.am_model.specs.declared.record.Reply.TheVariants as reply
+use Rattle.am_model.specs.Begin.{begun}
+use Rattle.am_model.specs.Configured.{route_of}
+use Rattle.am_model.specs.Notice.{NoticeData}
+use Rattle.am_model.specs.Records.{entry, now_of}
+use Rattle.am_model.specs.State.{State, is_flushing, same_name, time}
+use Rattle.am_model.specs.Ticket.{TicketData, recorded, report_fault}
+use Rattle.am_model.specs.look_back.Laws.{has_open}
+use Rattle.am_model.specs.look_back.Past.{AtEach, past_of, time_at}
+use Rattle.am_paging.proofs.Standing.{one-is}
+use Rattle.am_rehearsal.proofs.Coming.{next_else, next_on}
+use Rattle.am_rehearsal.specs.Answers.{tried_until}
+use Rattle.am_rehearsal.specs.Next.{begins_on, comes_by, earlier, in_time, next, next_begin, next_but_begins, next_end, next_end_of, next_finish, next_of_all, next_plan}
+use Rattle.am_rehearsal.specs.Play.{LeadsIn, PlaysTo}
+use Rattle.am_rehearsal.specs.Scene.{Scene, SendingData, Setting, opening_scene}
+use Rattle.am_rehearsal.specs.Steps.{IsBegun, IsReplied, Steps, after_end_of, answers_for, is_success, with_report}
+use Rattle.am_rehearsal.specs.Taking.{cause_of_none}
+use Rattle.am_terms.specs.declared.event.Event.{Event}
+use Rattle.am_terms.specs.declared.rehearsal.TimedAction.{TimedAction}
+use Rattle.am_plays.specs.PlaysInTime.{IsServed, has_no_outage, runs_past}
+use Rattle.am_plays.proofs.Instant.{AreLater, IsDoneAtOnce, answer-done, begun-later, ends-instant}
+use Rattle.am_plays.proofs.Moves.{IsMove, IsRecorded, IsSilent, flight}
+use Rattle.am_plays.proofs.OpenFlights.{Key, key_of}
+use Rattle.am_plays.proofs.PassedOver.{clock-is, open-is, past-more}
+use Rattle.am_plays.proofs.Sound.{IsSound, move-sound, moves, opening-sound, state-more, step-as}
+use Rattle.am_plays.proofs.StepKinds.{step_by}
+use Rattle.am_plays.proofs.Words.{some_of}
+
+-- ---- what comes by a time
+
+by_first : (t : ℕ) (a b : Option _) → comes_by t a ≡ true → comes_by t (earlier a b) ≡ true
+by_first t None b h = absurd (false≢true h)
+by_first t (Some n) None h = h
+by_first t (Some n) (Some m) h = by (nat_lt m.at n.at) refl
+  where
+    by : (b : Bool) → nat_lt m.at n.at ≡ b → comes_by t (if b then Some m else Some n) ≡ true
+    by true is = grind (arith, nat_tests, is, h)
+    by false is = h
+
+by_second : (t : ℕ) (a b : Option _) → comes_by t b ≡ true → comes_by t (earlier a b) ≡ true
+by_second t None b h = h
+by_second t (Some n) None h = absurd (false≢true h)
+by_second t (Some n) (Some m) h = by (nat_lt m.at n.at) refl
+  where
+    by : (b : Bool) → nat_lt m.at n.at ≡ b → comes_by t (if b then Some m else Some n) ≡ true
+    by true is = h
+    by false is = grind (arith, nat_tests, is, h)
+
+module _ (r : Setting) (c : Scene) where
+  -- a flush in flight at a time: its ends come by then, or its finish does
+  abbrev Comes : ℕ → List SendingData → SendingData → Type 0
+  Comes position ss s =
+      (t : ℕ) → c.clock ≤ t → AllByRecursion (λ e. e.at ≤ t) s.ends
+      → (comes_by t (next_end position ss) ≡ true) ⊎ (comes_by t (next_finish c.clock position ss) ≡ true)
+
+  each_comes : (position : ℕ) (ss : List SendingData) → AllByRecursion (Comes position ss) ss
+  each_comes position [] = tt
+  each_comes position (s ∷ ss) = (
+    λ t soon ends. first t s.ends refl ends (le-leb c.clock t soon),
+    all-weaker (Comes (position + 1) ss) (Comes position (s ∷ ss)) (λ x comes t soon ends. later t (le-leb c.clock t soon) (comes t soon ends)) ss (each_comes (position + 1) ss),
+  )
+    where
+      first : (t : ℕ) (es : List _) → s.ends ≡ es → AllByRecursion (λ e. e.at ≤ t) es → nat_le c.clock t ≡ true
+          → (comes_by t (next_end position (record { ticket = s.ticket; begin = s.begin; ends = es } ∷ ss)) ≡ true)
+          ⊎ (comes_by t (next_finish c.clock position (record { ticket = s.ticket; begin = s.begin; ends = es } ∷ ss)) ≡ true)
+      first t [] is ends soon = inr soon
+      first t (e ∷ es) is ends soon =
+          inl (by_first t (next_end_of position 0 (e ∷ es)) (next_end (position + 1) ss)
+          (by_first t (next_end_of position 0 (e ∷ [])) (next_end_of position (0 + 1) es) (le-leb e.at t ends.0)))
+
+      by_finish : (t : ℕ) (es : List _) → s.ends ≡ es → nat_le c.clock t ≡ true → comes_by t (next_finish c.clock (position + 1) ss) ≡ true
+          → comes_by t (next_finish c.clock position (record { ticket = s.ticket; begin = s.begin; ends = es } ∷ ss)) ≡ true
+      by_finish t [] is soon h = soon
+      by_finish t (e ∷ es) is soon h = h
+
+      later : (t : ℕ) → nat_le c.clock t ≡ true → (comes_by t (next_end (position + 1) ss) ≡ true) ⊎ (comes_by t (next_finish c.clock (position + 1) ss) ≡ true)
+          → (comes_by t (next_end position (s ∷ ss)) ≡ true) ⊎ (comes_by t (next_finish c.clock position (s ∷ ss)) ≡ true)
+      later t soon (inl h) = inl (by_second t (next_end_of position 0 s.ends) (next_end (position + 1) ss) h)
+      later t soon (inr h) = inr (by_finish t s.ends refl soon h)
+
+  -- so does the next step
+  next_comes : (t : ℕ) → c.clock ≤ t → (comes_by t (next_end 0 c.sendings) ≡ true) ⊎ (comes_by t (next_finish c.clock 0 c.sendings) ≡ true) → comes_by t (next r c) ≡ true
+  next_comes t soon h = by (begins_on r c) refl
+    where
+      same : (o p : Option _) → p ≡ o → comes_by t p ≡ true → comes_by t o ≡ true
+      same o p is h = subst (λ q. comes_by t q ≡ true) is h
+
+      flights : comes_by t (earlier (next_end 0 c.sendings) (next_finish c.clock 0 c.sendings)) ≡ true
+      flights =
+          elim h [
+            | inl ends ↦ by_first t (next_end 0 c.sendings) (next_finish c.clock 0 c.sendings) ends
+            | inr finish ↦ by_second t (next_end 0 c.sendings) (next_finish c.clock 0 c.sendings) finish
+          ]
+
+      by : (b : Bool) → begins_on r c ≡ b → comes_by t (next r c) ≡ true
+      by true is = same (next r c) _ (sym (next_on r c is)) (le-leb c.clock t soon)
+      by false is =
+          same (next r c) (next_of_all r c) (sym (next_else r c is))
+          (by_first t (next_but_begins r c) (next_begin r c)
+          (by_first t (earlier (next_end 0 c.sendings) (next_finish c.clock 0 c.sendings)) (earlier (next_plan r.until c.plans) (in_time r.until c.maintenance _)) flights))
+
+-- what is said of what is there
+said : {X : Type 0} (o : Option X) (x : X) → o ≡ Some x → (P : X → Type 0) → IsSomeAnd o P → P x
+said o x is P h = subst (λ p. IsSomeAnd p P) is h
+
+-- a report leaves a ticket its group
+reported_group : (o : Option Report) (t : TicketData) → (with_report o t).group ≡ t.group
+reported_group None t = refl
+reported_group (Some p) t = elim (is_some (report_fault t p)) as (λ b. (if b then t else recorded t p).group ≡ t.group) [ true ↦ refl | false ↦ refl ]
+
+-- ---- lists of flushes in flight
+
+module _ {X : Type 0} (P : X → Type 0) where
+  all-set : (xs : List X) (position : ℕ) (x : X) → AllByRecursion P xs → P x → AllByRecursion P (slice_set xs position x)
+  all-set [] position x all h = tt
+  all-set (y ∷ ys) zero x all h = (h, all.1)
+  all-set (y ∷ ys) (suc position) x all h = (all.0, all-set ys position x all.1 h)
+
+  all-remove : (xs : List X) (position : ℕ) → AllByRecursion P xs → AllByRecursion P (remove xs position)
+  all-remove [] zero all = tt
+  all-remove [] (suc position) all = tt
+  all-remove (y ∷ ys) zero all = all.1
+  all-remove (y ∷ ys) (suc position) all = (all.0, all-remove ys position all.1)
+
+  all-get : (xs : List X) (position : ℕ) (x : X) → slice_get xs position ≡ Some x → AllByRecursion P xs → P x
+  all-get [] position x is all = absurd (cc)
+  all-get (y ∷ ys) zero x is all = subst P (inside y x is) all.0
+  all-get (y ∷ ys) (suc position) x is all = all-get ys position x is all.1
+
+any-map : {X Y : Type 0} (f : X → Y) (test : Y → Bool) (xs : List X) → list_any test (map f xs) ≡ list_any (λ x. test (f x)) xs
+any-map f test [] = refl
+any-map f test (x ∷ xs) = λ i. test (f x) || any-map f test xs i
+
+module _ (r : Setting) (name : GroupName) (receiver : List ℕ) (none : has_no_outage receiver r.outages ≡ true) (runs : runs_past r.until r.span.cut ≡ true) (ends : r.until < MAX_TIME) where
+  -- whether a flush in flight is the group's
+  abbrev is_own : SendingData → Bool
+  is_own s = same_name name s.ticket.group
+
+  -- where it is, its ends come by t, and it is no later
+  abbrev IsSwift : ℕ → ℕ → SendingData → Type 0
+  IsSwift t clock s = is_own s ≡ true → (clock ≤ t) × AllByRecursion (λ e. e.at ≤ t) s.ends
+
+  -- the receiver is the group's
+  abbrev IsReceiver : Config → Type 0
+  IsReceiver config = (route_of config name).receiver ≡ receiver
+
+  pub record IsPrompt (c : Scene) : Type 0 where
+    pub sound : IsSound c
+    pub receives : IsReceiver c.board.config
+    pub swift : AllByRecursion (IsSwift (state_at c.board).clock c.clock) c.sendings
+    pub still : AtEach (λ q past. has_open name past ≡ true → time_at (q ∷ past) ≤ time_at past) (past_of c.board.history)
+
+  module _ (c d : Scene) (was : IsPrompt c) where
+    -- the time of the board
+    abbrev now : ℕ
+    now = (state_at c.board).clock
+
+    abbrev new : ℕ
+    new = (state_at d.board).clock
+
+    -- while a flush of the group is in flight, a step at this time isn't after now
+    abbrev IsEarly : ℕ → Type 0
+    IsEarly at = AllByRecursion (λ s. is_own s ≡ true → at ≤ now) c.sendings
+
+    early-next : (n : _) → next r c ≡ Some n → IsEarly n.at
+    early-next n is =
+        all-both (IsSwift now c.clock) (Comes r c 0 c.sendings) (λ s. is_own s ≡ true → n.at ≤ now)
+        (λ s swift comes own. by (next_comes r c now (swift own).0 (comes now (swift own).0 (swift own).1)))
+        c.sendings was.swift (each_comes r c 0 c.sendings)
+      where
+        by : comes_by now (next r c) ≡ true → n.at ≤ now
+        by h = leb-true n.at now (subst (λ o. comes_by now o ≡ true) is h)
+
+    -- ---- the flushes in flight after a step
+
+    abbrev Goal : ℕ → Type 0
+    Goal at = IsEarly at → now ≤ new → AllByRecursion (IsSwift new at) d.sendings
+
+    moved : (at : ℕ) → IsEarly at → now ≤ new → AllByRecursion (IsSwift new at) c.sendings
+    moved at early grows =
+        all-both (IsSwift now c.clock) (λ s. is_own s ≡ true → at ≤ now) (IsSwift new at)
+        (λ s swift soon own. (later at (soon own), all-weaker (λ e. e.at ≤ now) (λ e. e.at ≤ new) (λ e come. later e.at come) s.ends (swift own).1)) c.sendings was.swift early
+      where
+        later : (t : ℕ) → t ≤ now → t ≤ new
+        later t come = omega (arith, come, grows)
+
+    same_flights : (at : ℕ) → d.sendings ≡ c.sendings → Goal at
+    same_flights at is early grows = subst (AllByRecursion (IsSwift new at)) (sym is) (moved at early grows)
+
+    on_end : (position index : ℕ) (s : SendingData) (report : Option Report) (at : ℕ) → slice_get c.sendings position ≡ Some s
+        → d.sendings ≡ slice_set c.sendings position (after_end_of s index report) → Goal at
+    on_end position index s report at here is early grows =
+        let all = moved at early grows in
+        let own : IsSwift new at s = all-get (IsSwift new at) c.sendings position s here all in
+        subst (AllByRecursion (IsSwift new at)) (sym is)
+        (all-set (IsSwift new at) c.sendings position (after_end_of s index report) all
+        (λ same. let swift = own (sym (ap (same_name name) (reported_group report s.ticket)) ∙ same) in (swift.0, all-remove (λ e. e.at ≤ new) s.ends index swift.1)))
+
+    on_finish : (position at : ℕ) → d.sendings ≡ remove c.sendings position → Goal at
+    on_finish position at is early grows =
+        subst (AllByRecursion (IsSwift new at)) (sym is) (all-remove (IsSwift new at) c.sendings position (moved at early grows))
+
+    module _ (at : ℕ) (within : at ≤ r.until) where
+      -- each notice of a flush of the group is done at once
+      at_once : (group : GroupName) (opened : Opened) → begun c.board.config c.board.id (state_at c.board) (time (state_at c.board) at) ≡ reply.Flush group opened
+          → same_name name group ≡ true → AllByRecursion (IsDoneAtOnce (answers_for r c.board group) r.span.cut at) opened.notices
+      at_once group opened is own =
+          all-weaker (λ (n : NoticeData). time (state_at c.board) at < n.deadline) (IsDoneAtOnce (answers_for r c.board group) r.span.cut at)
+          (λ n after. record {
+            early = early_by n.deadline (before n.deadline after) r.span.cut runs;
+            answers = answer-done r.until at n.ticket n.integration 1 r.span.cut r.outages (route_of c.board.config group).receiver within runs reached;
+          }) opened.notices
+          (subst (AreLater (time (state_at c.board) at)) is (begun-later c.board.config c.board.id (state_at c.board) (time (state_at c.board) at)))
+        where
+          reached : has_no_outage (route_of c.board.config group).receiver r.outages ≡ true
+          reached =
+              subst (λ (g : GroupName). has_no_outage (route_of c.board.config g).receiver r.outages ≡ true) (same_name-is name group own)
+              (subst (λ (l : List ℕ). has_no_outage l r.outages ≡ true) (sym was.receives) none)
+
+          before : (deadline : ℕ) → time (state_at c.board) at < deadline → at < deadline
+          before deadline after = omega (arith, after, within, ends)
+
+          early_by : (deadline : ℕ) → at < deadline → (cut : Option ℕ) → runs_past r.until cut ≡ true → nat_lt at (tried_until cut deadline) ≡ true
+          early_by deadline soon None runs = grind (arith, nat_tests, soon)
+          early_by deadline soon (Some k) runs = grind (arith, nat_tests, soon, runs, within)
+
+      flushed : (group : GroupName) (opened : Opened) → begun c.board.config c.board.id (state_at c.board) (time (state_at c.board) at) ≡ reply.Flush group opened
+          → IsReplied r c at d (reply.Flush group opened) → Goal at
+      flushed group opened is sent early grows =
+          subst (AllByRecursion (IsSwift new at)) (sym (ap (λ (x : Scene). x.sendings) sent.4))
+          (all-push (IsSwift new at) c.sendings sent.0 (moved at early grows) added)
+        where
+          since : new ≡ max now (min at MAX_TIME)
+          since =
+              ap (λ (x : Scene). (state_at x.board).clock) sent.4
+              ∙ ap (λ (s : State). s.clock) (state-more c.board (call.Begin at) (reply.Flush group opened)) ∙ after_clock c.board.config (state_at c.board) (call.Begin at)
+
+          added : IsSwift new at sent.0
+          added own =
+              let here : same_name name group ≡ true = sym (ap (λ (t : TicketData). same_name name t.group) sent.1) ∙ own in (
+                omega (arith, since, within, ends),
+                all-weaker (λ e. (e.at ≡ at) × (is_success e.report ≡ true)) (λ e. e.at ≤ new) (λ e h. let is_at : e.at ≡ at = h.0 in omega (arith, is_at, since, within, ends)) (sent.0).ends
+                    (ends-instant (answers_for r c.board group) r.span.cut at 0 opened.notices (sent.0).ends sent.3 (at_once group opened is here)),
+              )
+
+      replied : (p : Reply) → begun c.board.config c.board.id (state_at c.board) (time (state_at c.board) at) ≡ p → IsReplied r c at d p → Goal at
+      replied reply.NothingDue is done = same_flights at (ap (λ (x : Scene). x.sendings) done)
+      replied (reply.Quiet group removed) is done = same_flights at (ap (λ (x : Scene). x.sendings) done)
+      replied (reply.Flush group opened) is sent = flushed group opened is sent
+      replied (reply.Inserted inserted) is done = absurd done
+      replied (reply.Silenced silenced) is done = absurd done
+      replied (reply.Finished finished) is done = absurd done
+      replied (reply.Maintained maintained) is done = absurd done
+      replied (reply.Forgotten forgotten) is done = absurd done
+      replied (reply.Loaded loaded) is done = absurd done
+      replied reply.Noted is done = absurd done
+
+      begun_by : (cause : Option Fault) → IsBegun r c at d cause → Goal at
+      begun_by None done = replied (begun c.board.config c.board.id (state_at c.board) (time (state_at c.board) at)) refl done
+      begun_by (Some fault.TooManyOpen) done = same_flights at (ap (λ (x : Scene). x.sendings) done)
+      begun_by (Some fault.NoMemory) done = absurd done
+      begun_by (Some fault.TooManyAlerts) done = absurd done
+      begun_by (Some fault.TooManyGroups) done = absurd done
+      begun_by (Some fault.TooManySilences) done = absurd done
+      begun_by (Some fault.HistoryFull) done = absurd done
+
+    flights : Steps r c d → IsSomeAnd (next r c) (λ n. Goal n.at)
+    flights steps =
+        step_by r c d Goal (λ position index s e here there done. on_end position index s e.report e.at here (ap (λ (x : Scene). x.sendings) done))
+        (λ position s here done. on_finish position c.clock (ap (λ (x : Scene). x.sendings) done)) (λ p ps done. same_flights p.at (ap (λ (x : Scene). x.sendings) done.1))
+        (λ at done. same_flights at (ap (λ (x : Scene). x.sendings) done)) (λ at within done. begun_by at within (cause_of_none c.board at) done) steps
+
+    -- ---- a step
+
+    -- while a flush of the group is open, one is in flight
+    own_flies : is_flushing (state_at c.board).flushes name ≡ true → list_any is_own c.sendings ≡ true
+    own_flies flushing =
+        sym (any-map flight (λ (k : Key). same_name name k.1) c.sendings) ∙ ap (list_any (λ (k : Key). same_name name k.1)) was.sound.airborne
+        ∙ any-map key_of (λ (k : Key). same_name name k.1) (state_at c.board).flushes ∙ flushing
+
+    unmoved : (at : ℕ) → IsEarly at → (x : Call) (p : Reply) → now_of x ≡ at
+        → has_open name (past_of c.board.history) ≡ true → time_at (entry 0 x p ∷ past_of c.board.history) ≤ time_at (past_of c.board.history)
+    unmoved at early x p is opened =
+        let soon : at ≤ now = one-is is_own (at ≤ now) c.sendings early (own_flies (sym (open-is c.board was.sound.legal name) ∙ opened)) in
+        let clock : now ≡ time_at (past_of c.board.history) = clock-is c.board was.sound.legal in
+        omega (arith, soon, clock, is)
+
+    -- what is true of the board after a move
+    abbrev IsStill : BoardData → Type 0
+    IsStill b = AtEach (λ q past. has_open name past ≡ true → time_at (q ∷ past) ≤ time_at past) (past_of b.history)
+
+    still-after : (at : ℕ) → IsEarly at → IsMove c d at → IsStill d.board × (now ≤ new)
+    still-after at early m = elim m.does [ inl did ↦ recorded did | inr did ↦ silent did ]
+      where
+        recorded : IsRecorded c d at → IsStill d.board × (now ≤ new)
+        recorded did =
+            let since : new ≡ max now (min (now_of did.accepted) MAX_TIME) =
+            ap (λ (b : BoardData). (state_at b).clock) did.board ∙ ap (λ (s : State). s.clock) (state-more c.board did.accepted did.returned) ∙ after_clock c.board.config (state_at c.board) did.accepted
+            in (
+              subst IsStill (sym did.board)
+                  (subst (AtEach (λ q past. has_open name past ≡ true → time_at (q ∷ past) ≤ time_at past)) (sym (past-more c.board did.accepted did.returned))
+                  (unmoved at early did.accepted did.returned did.now, was.still)),
+              omega (arith, since),
+            )
+
+        silent : IsSilent c d at → IsStill d.board × (now ≤ new)
+        silent did =
+            let same : new ≡ now = ap (λ (b : BoardData). (state_at b).clock) did.board in
+            (subst IsStill (sym did.board) was.still, omega (arith, same))
+
+    prompt : Steps r c d → IsPrompt d
+    prompt steps =
+        let m = some_of (next r c) (λ n. IsMove c d n.at) (moves r c d was.sound steps) in
+        let early = early-next m.0 m.1 in
+        let after = still-after m.0.at early m.2 in
+        let goal : Goal m.0.at = said (next r c) m.0 m.1 (λ n. Goal n.at) (flights steps) in
+        record {
+          sound = move-sound c d was.sound m.0.at m.2;
+          receives = ap (λ (x : Config). (route_of x name).receiver) (step-as r c d was.sound steps).0 ∙ was.receives;
+          swift = subst (λ (t : ℕ). AllByRecursion (IsSwift new t) d.sendings) (sym m.2.clock) (goal early after.1);
+          still = after.0;
+        }
+
+  kept-prompt : (k : ℕ) (c d : Scene) → IsPrompt c → LeadsIn r k c d → IsPrompt d
+  kept-prompt zero c d was same = subst IsPrompt same was
+  kept-prompt (suc k) c d was led = prompt led.0 d (kept-prompt k c led.0 was led.1) led.2
+
+  opening-prompt : (config : Config) (plans : List TimedAction) → IsReceiver config → IsPrompt (opening_scene r config plans)
+  opening-prompt config plans receives = record { sound = opening-sound r config plans; receives = receives; swift = tt; still = tt }
+
+-- while a flush of a group that is served is open, time doesn't move on in a play
+pub time_is_still : (r : Setting) (config : Config) (plans : List TimedAction) (board : BoardData) (events : List Event) → PlaysTo r config plans board events
+    → (name : GroupName) → IsServed r config name → AtEach (λ q past. has_open name past ≡ true → time_at (q ∷ past) ≤ time_at past) (past_of board.history)
+time_is_still r config plans board events play name served =
+    let receiver : List ℕ = (route_of config name).receiver in
+    let last = kept-prompt r name receiver served.reached served.runs served.ends play.reached.0 (opening_scene r config plans) play.last
+    (opening-prompt r name receiver served.reached served.runs served.ends config plans refl) play.reached.1
+    in
+    subst (λ (b : BoardData). AtEach (λ q past. has_open name past ≡ true → time_at (q ∷ past) ≤ time_at past) (past_of b.history)) (sym play.board_is) last.still

@@ -1,0 +1,254 @@
+-- In a play, pages come in time to a group that is served.
+use Rattle.std.proofs.Common.{◌≡◌, ℕ, ◌+◌, ◌<◌, ◌≤◌, max, Bool, true, false, cond, ◌||◌, nat_le, nat_lt, List, [], ◌∷◌, ◌++◌, length, reverse, inl, inr, refl, sym, ap, ◌∙◌, subst, arith, add-zero}
+use Rattle.std.specs.Prelude.{find}
+use Rattle.std.specs.Option.{IfSome}
+use Rattle.std.proofs.lemmas.Bool.{false≢true, le-leb, leb-true, leb-false}
+use Rattle.std.proofs.lemmas.List.{reverse-append, reverse-reverse}
+use Rattle.am_alerts.specs.declared.labels.Label.{Label}
+use Rattle.am_alerts.specs.declared.limits.TheConstants.{MAX_TIME}
+use Rattle.am_board.specs.History.{BoardData}
+use Rattle.am_model.specs.declared.config.Config.{Config}
+use Rattle.am_model.specs.declared.group.GroupName.{GroupName}
+use Rattle.am_model.specs.declared.record.Call.TheVariants as call
+use Rattle.am_model.specs.declared.record.Record.{Record}
+use Rattle.am_model.specs.declared.record.Reply.TheVariants as reply
+use Rattle.am_model.specs.Forget.{forgotten}
+use Rattle.am_model.specs.Records.{entry}
+use Rattle.am_model.specs.Replay.{IsLegal, replay}
+use Rattle.am_model.specs.State.{FlushState, State, is_flushing, is_named, time}
+use Rattle.am_model.specs.look_back.Laws.{begun_at, has_open}
+use Rattle.am_model.specs.look_back.Past.{AtEach, past_of, replay_past, time_at}
+use Rattle.am_model.proofs.legal.Histories.{beginnings_are_legal, legal_appends}
+use Rattle.am_model.proofs.looking_back.Pasts.{legal_past, replay_is_past, state_after}
+use Rattle.am_model.proofs.looking_back.flushes.FlushesOnce.{open-group}
+use Rattle.am_paging.specs.InTime.{AtSome, IsBegunFor, IsDueOnTime, IsOnTime, begun_by, ended_at, latest, past_until}
+use Rattle.am_paging.specs.Paging.{is_due_a_page}
+use Rattle.am_paging.proofs.Counted.{counts_past}
+use Rattle.am_paging.proofs.PagesInTime.{pages_come_in_time}
+use Rattle.am_rehearsal.specs.Play.{PlaysTo}
+use Rattle.am_rehearsal.specs.Scene.{Setting}
+use Rattle.am_rehearsal.specs.declared.limits.TheConstants.{BOARD_ID}
+use Rattle.am_terms.specs.declared.event.Event.{Event}
+use Rattle.am_terms.specs.declared.rehearsal.TimedAction.{TimedAction}
+use Rattle.am_plays.specs.Plays.{ComesBy, EveryPlay, has_place}
+use Rattle.am_plays.specs.PlaysInTime.{IsServed, PlaysPageInTime}
+use Rattle.am_plays.proofs.PassedOver.{nothing_due_is_left}
+use Rattle.am_plays.proofs.Served.{Due, Still, due-play, on-time-play, still-play}
+use Rattle.am_plays.proofs.Sound.{plays_are_legal}
+use Rattle.am_plays.proofs.Words.{if_weaker}
+
+-- ---- the records up to a time
+
+module _ (x : ℕ) where
+  -- they come by then
+  until-before : (past : List Record) → time_at (past_until x past) ≤ x
+  until-before [] = omega arith
+  until-before (q ∷ past) = by (nat_le (time_at (q ∷ past)) x) refl (until-before past)
+    where
+      by : (b : Bool) → nat_le (time_at (q ∷ past)) x ≡ b → time_at (past_until x past) ≤ x → time_at (cond b (q ∷ past) (past_until x past)) ≤ x
+      by true is before = leb-true (time_at (q ∷ past)) x is
+      by false is before = before
+
+  -- and the others after them
+  until-front : (past : List Record) → (front : List Record) × (past ≡ front ++ past_until x past)
+  until-front [] = ([], refl)
+  until-front (q ∷ past) = by (nat_le (time_at (q ∷ past)) x) (until-front past)
+    where
+      by : (b : Bool) → (front : List Record) × (past ≡ front ++ past_until x past) → (front : List Record) × ((q ∷ past) ≡ front ++ cond b (q ∷ past) (past_until x past))
+      by true before = ([], refl)
+      by false before = (q ∷ before.0, ap (λ (l : List Record). q ∷ l) before.1)
+
+  each-until : (P : Record → List Record → Type 0) (past : List Record) → AtEach P past → AtEach P (past_until x past)
+  each-until P [] each = tt
+  each-until P (q ∷ past) each = by (nat_le (time_at (q ∷ past)) x) (each-until P past each.1)
+    where
+      by : (b : Bool) → AtEach P (past_until x past) → AtEach P (cond b (q ∷ past) (past_until x past))
+      by true before = each
+      by false before = before
+
+  some-until : (P : Record → List Record → Type 0) (past : List Record) → AtSome P (past_until x past) → AtSome P past
+  some-until P [] some = some
+  some-until P (q ∷ past) some = by (nat_le (time_at (q ∷ past)) x) some (λ some. some-until P past some)
+    where
+      by : (b : Bool) → AtSome P (cond b (q ∷ past) (past_until x past)) → (AtSome P (past_until x past) → AtSome P past) → AtSome P (q ∷ past)
+      by true some later = some
+      by false some later = inr (later some)
+
+  -- of a past that comes by then, what holds up to then holds
+  each-within : (P : Record → List Record → Type 0) (past : List Record) → time_at past ≤ x → AtEach (λ q past. time_at (q ∷ past) ≤ x → P q past) past → AtEach P past
+  each-within P [] within each = tt
+  each-within P (q ∷ past) within each = (each.0 within, each-within P past (omega (arith, within)) each.1)
+
+-- a time that comes first
+until-twice : (x y : ℕ) → x ≤ y → (past : List Record) → past_until x (past_until y past) ≡ past_until x past
+until-twice x y before [] = refl
+until-twice x y before (q ∷ past) = by (nat_le (time_at (q ∷ past)) y) refl (nat_le (time_at (q ∷ past)) x) refl (until-twice x y before past)
+  where
+    by : (b : Bool) → nat_le (time_at (q ∷ past)) y ≡ b → (a : Bool) → nat_le (time_at (q ∷ past)) x ≡ a → past_until x (past_until y past) ≡ past_until x past
+        → past_until x (cond b (q ∷ past) (past_until y past)) ≡ cond a (q ∷ past) (past_until x past)
+    by true is a of_x rest = ap (λ b. cond b (q ∷ past) (past_until x past)) of_x
+    by false is true of_x rest =
+        let late : y < time_at (q ∷ past) = leb-false (time_at (q ∷ past)) y is in
+        let early : time_at (q ∷ past) ≤ x = leb-true (time_at (q ∷ past)) x of_x in
+        absurd (omega (arith, late, early, before))
+    by false is false of_x rest = rest
+
+module _ (r : Setting) (config : Config) (id : ℕ) (name : GroupName) where
+  -- ---- at the end, the group has no open flush, and is due later
+
+  pub record IsAtRest (past : List Record) : Type 0 where
+    pub closed : has_open name past ≡ false
+    pub later : IfSome (find (is_named name) (replay_past config past).groups) (λ g. r.until < max g.due (ended_at name past))
+
+  not-open : (b : Bool) → (b ≡ true → ⊥) → b ≡ false
+  not-open true isnt = absurd (isnt refl)
+  not-open false isnt = refl
+
+  -- before a record after the end
+  rest-before : (q : Record) (past : List Record) → Still r config id name q past → Due r config id name q past → r.until < time_at (q ∷ past) → time_at past ≤ r.until → IsAtRest past
+  rest-before q past still due late within =
+      let closed : has_open name past ≡ false = not-open (has_open name past) (λ opened. let unmoved : time_at (q ∷ past) ≤ time_at past = still opened in absurd (omega (arith, unmoved, late, within))) in
+      record {
+        closed = closed;
+        later = if_weaker (find (is_named name) (replay_past config past).groups) (λ g. ComesBy r (max g.due (ended_at name past)) (time_at (q ∷ past)))
+            (λ g. r.until < max g.due (ended_at name past)) (λ g h. by (max g.due (ended_at name past)) h) (due closed);
+      }
+    where
+      by : (bound : ℕ) → ComesBy r bound (time_at (q ∷ past)) → r.until < bound
+      by bound (inl come) = omega (arith, come, late)
+      by bound (inr after) = after
+
+  rests : (past : List Record) → AtEach (Still r config id name) past → AtEach (Due r config id name) past → (time_at past ≤ r.until → IsAtRest past) → IsAtRest (past_until r.until past)
+  rests [] still due last = last (omega arith)
+  rests (q ∷ past) still due last =
+      by (nat_le (time_at (q ∷ past)) r.until) refl (λ before. rests past still.1 due.1 before)
+    where
+      by : (b : Bool) → nat_le (time_at (q ∷ past)) r.until ≡ b → ((time_at past ≤ r.until → IsAtRest past) → IsAtRest (past_until r.until past)) → IsAtRest (cond b (q ∷ past) (past_until r.until past))
+      by true is earlier = last (leb-true (time_at (q ∷ past)) r.until is)
+      by false is earlier = earlier (λ within. rest-before q past still.0 due.0 (leb-false (time_at (q ∷ past)) r.until is) within)
+
+  -- ---- a record more at the end
+
+  module _ (history : List Record) (legal : IsLegal config id history) (ends : r.until < MAX_TIME) where
+    -- the records up to the end
+    abbrev upto : List Record
+    upto = past_until r.until (past_of history)
+
+    -- a forgetting at the end, after them
+    abbrev at_end : Record
+    at_end = entry 0 (call.Forget r.until) (reply.Forgotten (forgotten (replay config (reverse upto)) (time (replay config (reverse upto)) r.until)))
+
+    abbrev longer : List Record
+    longer = reverse upto ++ at_end ∷ []
+
+    upto-legal : IsLegal config id (reverse upto)
+    upto-legal =
+        let front = until-front r.until (past_of history) in
+        beginnings_are_legal config id (reverse upto) (reverse front.0)
+        (subst (IsLegal config id) (sym (reverse-reverse history) ∙ ap (λ (l : List Record). reverse l) front.1 ∙ reverse-append front.0 upto) legal)
+
+    longer-legal : IsLegal config id longer
+    longer-legal = (legal_appends config id (reverse upto) at_end).1 (upto-legal, refl)
+
+    longer-past : past_of longer ≡ at_end ∷ upto
+    longer-past = reverse-append (reverse upto) (at_end ∷ []) ∙ ap (λ (l : List Record). at_end ∷ l) (reverse-reverse upto)
+
+    end-time : time_at (at_end ∷ upto) ≡ r.until
+    end-time = let before = until-before r.until (past_of history) in omega (arith, before, ends)
+
+    end-on-time : IsAtRest upto → IsOnTime 0 0 config name at_end upto
+    end-on-time rest =
+        record {
+          begins = λ closed. if_weaker (find (is_named name) (replay_past config upto).groups) (λ g. r.until < max g.due (ended_at name upto))
+              (λ g. time_at (at_end ∷ upto) ≤ max g.due (ended_at name upto) + 0) (λ g h. let after : r.until < max g.due (ended_at name upto) = h in omega (arith, after, end-time)) rest.later;
+          ends = λ opened. absurd (false≢true (sym rest.closed ∙ opened));
+        }
+
+    module _ (labels : List Label) (x : ℕ) (rest : IsAtRest upto)
+        (on : AtEach (λ q past. time_at (q ∷ past) ≤ r.until → IsOnTime 0 0 config name q past) (past_of history))
+        (due : AtEach (λ q past. x < time_at (q ∷ past) → time_at (q ∷ past) ≤ r.until → is_due_a_page config name labels (time_at (q ∷ past)) past ≡ true) (past_of history))
+        (due_then : is_due_a_page config name labels r.until upto ≡ true) (soon : begun_by config name 0 x (past_of history) < r.until) where
+      abbrev by : ℕ
+      by = begun_by config name 0 x (past_of history)
+
+      both : (past : List Record) → AtEach (λ q past. time_at (q ∷ past) ≤ r.until → IsOnTime 0 0 config name q past) past
+          → AtEach (λ q past. x < time_at (q ∷ past) → time_at (q ∷ past) ≤ r.until → is_due_a_page config name labels (time_at (q ∷ past)) past ≡ true) past
+          → AtEach (λ q past. time_at (q ∷ past) ≤ r.until → IsDueOnTime 0 0 config name labels x q past) past
+      both [] on due = tt
+      both (q ∷ past) on due = (λ within after. (on.0 within, due.0 after within), both past on.1 due.1)
+
+      upto-due : AtEach (IsDueOnTime 0 0 config name labels x) upto
+      upto-due =
+          each-within r.until (IsDueOnTime 0 0 config name labels x) upto (until-before r.until (past_of history))
+          (each-until r.until (λ q past. time_at (q ∷ past) ≤ r.until → IsDueOnTime 0 0 config name labels x q past) (past_of history) (both (past_of history) on due))
+
+      all-due : AtEach (IsDueOnTime 0 0 config name labels x) (at_end ∷ upto)
+      all-due = (
+        λ after. (end-on-time rest, subst (λ (t : ℕ). is_due_a_page config name labels t upto ≡ true) (sym end-time) due_then),
+        upto-due,
+      )
+
+      x-before : x < r.until
+      x-before = omega (arith, soon)
+
+      same-by : begun_by config name 0 x (at_end ∷ upto) + 0 ≡ by
+      same-by =
+          let late : nat_le (time_at (at_end ∷ upto)) x ≡ false = not-open (nat_le (time_at (at_end ∷ upto)) x) (λ e. let early : time_at (at_end ∷ upto) ≤ x = leb-true (time_at (at_end ∷ upto)) x e in absurd (omega (arith, early, end-time, x-before))) in
+          add-zero (begun_by config name 0 x (at_end ∷ upto))
+          ∙ ap (λ (p : List Record). max x (latest config name 0 x (begun_at config name p)))
+          (ap (λ b. cond b (at_end ∷ upto) (past_until x upto)) late ∙ until-twice x r.until (omega (arith, x-before)) (past_of history))
+
+      -- one of the records up to the end pages
+      abbrev Pages : List Record → Type 0
+      Pages p =
+          AtEach (IsDueOnTime 0 0 config name labels x) p → begun_by config name 0 x p + 0 < time_at p
+          → AtSome (IsBegunFor config name labels x (begun_by config name 0 x p + 0)) p
+
+      longer-pages : AtSome (IsBegunFor config name labels x (begun_by config name 0 x (at_end ∷ upto) + 0)) (at_end ∷ upto)
+      longer-pages =
+          subst Pages longer-past (λ all late. pages_come_in_time config id longer longer-legal 0 0 x name labels all late) all-due
+          (subst (λ (t : ℕ). t < time_at (at_end ∷ upto)) (sym same-by) (subst (λ (t : ℕ). by < t) (sym end-time) soon))
+
+      pub paged : AtSome (IsBegunFor config name labels x by) (past_of history)
+      paged =
+          some-until r.until (IsBegunFor config name labels x by) (past_of history)
+          (not-end (subst (λ (t : ℕ). AtSome (IsBegunFor config name labels x t) (at_end ∷ upto)) same-by longer-pages))
+        where
+          not-end : AtSome (IsBegunFor config name labels x by) (at_end ∷ upto) → AtSome (IsBegunFor config name labels x by) upto
+          not-end (inl begun) = absurd (false≢true begun.taken)
+          not-end (inr some) = some
+
+-- ---- the law
+
+module _ (r : Setting) (config : Config) (plans : List TimedAction) (board : BoardData) (events : List Event) (play : PlaysTo r config plans board events)
+    (name : GroupName) (served : IsServed r config name) where
+  legal : IsLegal config BOARD_ID board.history
+  legal = plays_are_legal r config plans board events play
+
+  left : ((replay config board.history).flushes ≡ [])
+      × (r.until < MAX_TIME → has_place config (replay config board.history) ≡ true
+      → (n : GroupName) → IfSome (find (is_named n) (replay config board.history).groups) (λ g. r.until < max (time_at (past_of board.history)) g.due))
+  left = nothing_due_is_left r config plans board events play
+
+  last-rest : time_at (past_of board.history) ≤ r.until → IsAtRest r config BOARD_ID name (past_of board.history)
+  last-rest within =
+      record {
+        closed = open-group config (state_after config (past_of board.history)) (past_of board.history) (counts_past config BOARD_ID (past_of board.history) (legal_past config BOARD_ID board.history legal)) name
+            ∙ ap (λ (s : State). is_flushing s.flushes name) (sym (replay_is_past config board.history)) ∙ ap (λ (fs : List FlushState). is_flushing fs name) left.0;
+        later = subst (λ (s : State). IfSome (find (is_named name) s.groups) (λ g. r.until < max g.due (ended_at name (past_of board.history)))) (sym (ap (replay config) (reverse-reverse board.history)))
+            (if_weaker (find (is_named name) (replay config board.history).groups) (λ g. r.until < max (time_at (past_of board.history)) g.due)
+            (λ g. r.until < max g.due (ended_at name (past_of board.history))) (λ g h. let after : r.until < max (time_at (past_of board.history)) g.due = h in omega (arith, after, within))
+            (left.1 served.ends (ap (λ b. b || nat_lt (length (replay config board.history).flushes) config.limits.flushes) (le-leb config.limits.groups config.limits.flushes served.places)) name));
+      }
+
+  pages : (labels : List Label) (x : ℕ)
+      → AtEach (λ q past. x < time_at (q ∷ past) → time_at (q ∷ past) ≤ r.until → is_due_a_page config name labels (time_at (q ∷ past)) past ≡ true) (past_of board.history)
+      → is_due_a_page config name labels r.until (past_until r.until (past_of board.history)) ≡ true → begun_by config name 0 x (past_of board.history) < r.until
+      → AtSome (IsBegunFor config name labels x (begun_by config name 0 x (past_of board.history))) (past_of board.history)
+  pages labels x due due_then soon =
+      paged r config BOARD_ID name board.history legal served.ends labels x
+      (rests r config BOARD_ID name (past_of board.history) (still-play r config plans board events play name served) (due-play r config plans board events play name served) last-rest)
+      (on-time-play r config plans board events play name served) due due_then soon
+
+pub plays_page_in_time : EveryPlay PlaysPageInTime
+plays_page_in_time r config plans board events play name labels x served due due_then soon = pages r config plans board events play name served labels x due due_then soon

@@ -1,0 +1,4 @@
+-- what every play has: it is legal, and nothing that is due is passed over
+pub mod Plays
+-- pages come in time to a receiver that no outage names
+pub mod PlaysInTime

@@ -1,0 +1,50 @@
+//! The laws of plays, as calls that verifiers read. Each has an empty body: its `ensures` is the
+//! statement.
+ghost use Rattle.am_plays.specs.PlaysInTime.{PlaysAreOnTime, PlaysPageInTime};
+ghost use Rattle.am_plays.specs.Plays.{BeginsWhenDue, EveryPlay, IsLegalPlay, NothingBlocks, NothingDueIsLeft, NothingDueIsPassedOver};
+
+/// States that the history of each play is legal.
+///
+/// Each reply in it is the one that the definitions give. So each law of legal histories is true of
+/// each play.
+pub fn plays_are_legal()
+    ensures { EveryPlay IsLegalPlay }
+{}
+
+/// States that flushes don't wait for each other, in any rehearsal.
+///
+/// Where `limits.flushes` isn't below `limits.groups`, begins wait for a finish in no scene that a
+/// rehearsal reaches. So an outage of one receiver delays no other.
+pub fn nothing_blocks()
+    ensures { NothingBlocks }
+{}
+
+/// States that a play passes over nothing that is due, until the rehearsal's end.
+///
+/// Clause `passed`: take a record, and a group that has no open flush before it. Where a flush more
+/// is allowed, the record comes no later than the group is due, or than the record before. Or the
+/// rehearsal's end comes before that. A flush more is allowed where fewer are open than
+/// `limits.flushes`, or where that isn't below `limits.groups`. Clause `left`: after the last record
+/// no flush is open and no group is due by the end, unless the history goes on after the end. Clause
+/// `begun`: where `limits.flushes` isn't below `limits.groups`, the record comes no later than both
+/// the group is due and its last flush is finished.
+pub fn nothing_due_is_passed_over()
+    ensures passed { EveryPlay NothingDueIsPassedOver }
+    ensures left { EveryPlay NothingDueIsLeft }
+    ensures begun { EveryPlay BeginsWhenDue }
+{}
+
+/// States that a play pages in time, with no premise on a driver.
+///
+/// Take a group that is served: no outage is of its receiver, its dispatcher isn't stopped by the
+/// rehearsal's end, and `limits.flushes` isn't below `limits.groups`. Clause `on_time`: each record
+/// up to the end is on time for the group, without any slack or hold. So it comes no later than the
+/// group is due and its last flush is finished, and each flush of it is over at the time of its
+/// begin. Clause `paged`: an alert is due a page there at each record after a time x, and at the end.
+/// If the latest time comes before the end, a begin by then has a notice to each integration that
+/// lists the alert, or the integration has heard of it. The latest time is `group_wait` after x in a
+/// group that wasn't begun yet, else `group_interval` after its last begin.
+pub fn plays_page_in_time()
+    ensures on_time { EveryPlay PlaysAreOnTime }
+    ensures paged { EveryPlay PlaysPageInTime }
+{}

@@ -165,8 +165,8 @@ pub(crate) fn is_go_duration(text: &str) -> bool {
     let mut rest = text;
     let mut nanoseconds = 0u64;
     for _ in 0..text.len() {
-        let (number, behind) = leading(rest, is_digit_or_point);
-        let (unit, behind) = leading(behind, is_of_unit);
+        let (number, behind) = leading_number(rest);
+        let (unit, behind) = leading_unit(behind);
         match in_nanoseconds(number, unit) {
             None => return false,
             Some(part) => nanoseconds = nanoseconds.saturating_add(part),
@@ -186,13 +186,17 @@ fn is_digit_or_point(character: char) -> bool {
     character.is_ascii_digit() || character == '.'
 }
 
-fn is_of_unit(character: char) -> bool {
-    !is_digit_or_point(character)
+/// The digits and points with which a text begins, and what is behind them.
+fn leading_number(text: &str) -> (&str, &str) {
+    match text.find(|character: char| !is_digit_or_point(character)) {
+        None => (text, ""),
+        Some(index) => text.split_at(index),
+    }
 }
 
-/// The first characters that are so, and what is behind them.
-fn leading(text: &str, is_so: fn(char) -> bool) -> (&str, &str) {
-    match text.find(|character| !is_so(character)) {
+/// What is before the first digit or point of a text, and what is behind that.
+fn leading_unit(text: &str) -> (&str, &str) {
+    match text.find(|character: char| is_digit_or_point(character)) {
         None => (text, ""),
         Some(index) => text.split_at(index),
     }

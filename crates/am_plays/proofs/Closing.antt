@@ -7,7 +7,7 @@ use Rattle.std.proofs.lemmas.Bool.{false≢true, or_left, or_right, and_parts}
 use Rattle.std.proofs.lemmas.Cmp.{nat_eq_equiv}
 use Rattle.am_model.specs.declared.group.GroupName.{GroupName}
 use Rattle.am_model.specs.declared.record.Call.{Call}
-use Rattle.am_model.specs.declared.record.Call.TheVariants.{Insert, Silence, Begin, Finish, Maintain, Forget, Load, Note}
+use Rattle.am_model.specs.declared.record.Call.TheVariants.{Insert, Silence, Begin, Finish, Maintain, RemoveEmptyGroups, Forget, Load, Note}
 use Rattle.am_model.specs.declared.record.Record.{Record}
 use Rattle.am_model.specs.declared.record.Reply.{Reply}
 use Rattle.am_model.specs.declared.record.Reply.TheVariants as reply_is
@@ -34,6 +34,7 @@ module _ (name : GroupName) where
       numbered (reply_is.Flush group opened) e = nat_eq_equiv.symm opened.number k ∙ (and_parts (same_name name group) (k == opened.number) e).1
       numbered (reply_is.Finished finished) e = absurd (false≢true e)
       numbered (reply_is.Maintained maintained) e = absurd (false≢true e)
+      numbered (reply_is.EmptyGroupsRemoved removed) e = absurd (false≢true e)
       numbered (reply_is.Forgotten forgotten) e = absurd (false≢true e)
       numbered (reply_is.Loaded loaded) e = absurd (false≢true e)
       numbered reply_is.Noted e = absurd (false≢true e)
@@ -94,6 +95,7 @@ module _ (name : GroupName) where
       close (Begin now) e = absurd (none past e)
       close (Finish now k outcomes) e = found-begin k past once e
       close (Maintain now) e = absurd (none past e)
+      close (RemoveEmptyGroups now) e = absurd (none past e)
       close (Forget now) e = absurd (none past e)
       close (Load now row) e = absurd (none past e)
       close (Note now k integration outcome) e = absurd (none past e)

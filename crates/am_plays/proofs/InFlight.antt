@@ -273,6 +273,7 @@ module _ (r : Setting) (name : GroupName) (receiver : List ℕ) (none : has_no_o
       replied (reply.Silenced silenced) is done = absurd done
       replied (reply.Finished finished) is done = absurd done
       replied (reply.Maintained maintained) is done = absurd done
+      replied (reply.EmptyGroupsRemoved removed) is done = absurd done
       replied (reply.Forgotten forgotten) is done = absurd done
       replied (reply.Loaded loaded) is done = absurd done
       replied reply.Noted is done = absurd done

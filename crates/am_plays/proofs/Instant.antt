@@ -122,6 +122,7 @@ AreLater t reply.NothingDue = Unit {0}
 AreLater t (reply.Quiet group removed) = Unit {0}
 AreLater t (reply.Finished finished) = Unit {0}
 AreLater t (reply.Maintained maintained) = Unit {0}
+AreLater t (reply.EmptyGroupsRemoved removed) = Unit {0}
 AreLater t (reply.Forgotten forgotten) = Unit {0}
 AreLater t (reply.Loaded loaded) = Unit {0}
 AreLater t reply.Noted = Unit {0}

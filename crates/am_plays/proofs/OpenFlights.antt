@@ -12,7 +12,7 @@ use Rattle.am_model.specs.declared.config.Config.{Config}
 use Rattle.am_model.specs.declared.config.Integration.{Integration}
 use Rattle.am_model.specs.declared.group.GroupName.{GroupName}
 use Rattle.am_model.specs.declared.record.Call.{Call}
-use Rattle.am_model.specs.declared.record.Call.TheVariants.{Insert, Silence, Begin, Finish, Maintain, Forget, Load, Note}
+use Rattle.am_model.specs.declared.record.Call.TheVariants.{Insert, Silence, Begin, Finish, Maintain, RemoveEmptyGroups, Forget, Load, Note}
 use Rattle.am_model.specs.declared.record.Reply.{Reply}
 use Rattle.am_model.specs.declared.record.Reply.TheVariants as reply_is
 use Rattle.am_model.specs.Begin.{after_notifying, reply_notifying}
@@ -95,12 +95,14 @@ keys_after (Begin now) reply_is.NothingDue ks = ks
 keys_after (Begin now) (reply_is.Quiet group removed) ks = ks
 keys_after (Begin now) (reply_is.Finished finished) ks = ks
 keys_after (Begin now) (reply_is.Maintained maintained) ks = ks
+keys_after (Begin now) (reply_is.EmptyGroupsRemoved removed) ks = ks
 keys_after (Begin now) (reply_is.Forgotten forgotten) ks = ks
 keys_after (Begin now) (reply_is.Loaded loaded) ks = ks
 keys_after (Begin now) reply_is.Noted ks = ks
 keys_after (Insert now alert) p ks = ks
 keys_after (Silence now id matchers start end) p ks = ks
 keys_after (Maintain now) p ks = ks
+keys_after (RemoveEmptyGroups now) p ks = ks
 keys_after (Forget now) p ks = ks
 keys_after (Load now row) p ks = ks
 keys_after (Note now number integration outcome) p ks = ks

@@ -169,12 +169,7 @@ pub fn put_flush(
 }
 
 /// Writes one count, with its name.
-fn write_count(
-    name: &str,
-    first: &str,
-    count: usize,
-    answer: &mut Answer,
-) -> Result<(), AllocError>
+fn write_count(name: &str, first: &str, count: usize, answer: &mut Answer) -> Result<(), AllocError>
     ensures { OnOk result (answer.new ≡ answer.old ++ count_tokens name.now first.now count) }
 {
     begin(name, answer)?;

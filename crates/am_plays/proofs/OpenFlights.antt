@@ -144,6 +144,7 @@ module _ (config : Config) (id : ℕ) (s : State) where
             let own : f.number ≡ number = eqb-true f.number number (find-passes (λ (h : FlushState). h.number == number) f s.flushes is) in
             map-without f.number s.flushes ∙ ap (λ n. without (λ k. k.0 == n) (open_keys s)) own;
         maintain = λ now. refl;
+        remove_empty_groups = λ now. refl;
         forget = λ now. refl;
         load = λ now row may. refl;
         note = λ now number i outcome f is may. map-noted (λ g. g.number == f.number) i s.flushes;

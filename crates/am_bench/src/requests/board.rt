@@ -2,6 +2,7 @@
 ghost use Rattle.std.specs.Prelude.{◌≡◌};
 ghost use Rattle.am_bench.specs.declared.requests.board.TheConstants.{BOARD_ID};
 
+use crate::config::INTERVAL;
 use crate::requests::probe::Probe;
 use crate::requests::ticket;
 use crate::requests::values::{alert, config, row};
@@ -71,11 +72,11 @@ impl Desk {
         look(probe, &self.board);
         self.flush(probe, alloc, 30_000)?;
         self.insert_two(probe, alloc, Some(40_000))?;
-        self.flush(probe, alloc, 330_000)?;
+        self.flush(probe, alloc, 30_000 + INTERVAL)?;
         look(probe, &self.board);
         self.take(probe, alloc);
         self.insert_two(probe, alloc, None)?;
-        self.flush_elsewhere(probe, alloc, 630_000)
+        self.flush_elsewhere(probe, alloc, 30_000 + 2 * INTERVAL)
     }
 
     /// Inserts two alerts of one group.
@@ -249,4 +250,7 @@ fn look(probe: &Probe, board: &Board) {
     probe.ask("Board::summary");
     let summary = board.summary();
     probe.show(&summary);
+    probe.ask("Board::has_empty_groups");
+    let has_empty = board.has_empty_groups();
+    probe.show(&has_empty);
 }

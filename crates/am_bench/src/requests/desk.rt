@@ -2,6 +2,7 @@
 ghost use Rattle.std.specs.Prelude.{◌≡◌};
 ghost use Rattle.am_desk.specs.Terms.{terms};
 
+use crate::config::INTERVAL;
 use crate::requests::probe::Probe;
 use crate::requests::values::{alert, config, matchers};
 use crate::words::both;
@@ -86,7 +87,7 @@ fn play<N: Name, R: Wait>(
     flush(probe, rt, alloc, desk, zero, BEGIN, 30_000);
     look(probe, desk, zero, one);
     insert(probe, rt, alloc, desk, one, INSERT, ended);
-    flush(probe, rt, alloc, desk, one, BEGIN, 330_000);
+    flush(probe, rt, alloc, desk, one, BEGIN, 30_000 + INTERVAL);
     look(probe, desk, zero, one);
     refuse_all(probe, rt, alloc, desk, zero)
 }
@@ -119,10 +120,13 @@ fn refuse_all<N: Name, R: Wait>(
     let call = "without memory: Desk::silence, the history is full";
     silence(probe, rt, alloc, desk, pass, call, silence_of(alloc, 1)?);
     let call = "without memory: Desk::begin, the history is full";
-    flush(probe, rt, alloc, desk, pass, call, 630_000);
+    flush(probe, rt, alloc, desk, pass, call, 30_000 + 2 * INTERVAL);
     probe.ask("without memory: Desk::maintain, the history is full");
-    let maintained = desk.maintain(rt, alloc, pass, 630_000);
+    let maintained = desk.maintain(rt, alloc, pass, 30_000 + 2 * INTERVAL);
     probe.show(&maintained);
+    probe.ask("without memory: Desk::remove_empty_groups, the history is full");
+    let removed = desk.remove_empty_groups(rt, alloc, pass, 30_000 + 2 * INTERVAL);
+    probe.show(&removed);
     Ok(())
 }
 

@@ -33,9 +33,12 @@ fn accept_zones<R: Files + Eprint + AllocGlobal>(
         return Ok(());
     }
     let mut files = SystemZones::new(rt);
-    match missing_zones(rt.alloc(), &document.value, &mut files) {
-        Ok(faults) if faults.is_empty() => Ok(()),
-        Ok(faults) => Err(console.complain_of_faults(rt, document, &faults)),
-        Err(_) => Err(console.complain_of_memory(rt)),
+    let missing = missing_zones(rt.alloc(), &document.value, &mut files);
+    let Ok(faults) = missing else {
+        return Err(console.complain_of_memory(rt));
+    };
+    if faults.is_empty() {
+        return Ok(());
     }
+    Err(console.complain_of_faults(rt, document, &faults))
 }

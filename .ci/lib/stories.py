@@ -19,8 +19,9 @@ def rehearse(program: Program, text: str, *words: str, limits: Limits = LIMITS) 
 
 
 def faults_in(lines: str) -> list[str]:
-    """The places and kinds of faults that are printed as JSON."""
-    return [f"{it.get('pointer', '')}: {it['kind']}" for it in map(json.loads, lines.splitlines())]
+    """The places and kinds of faults that are printed as JSON. A line on settings that are ignored is none."""
+    faults = [json.loads(line) for line in lines.splitlines() if not line.startswith("ignored: ")]
+    return [f"{it.get('pointer', '')}: {it['kind']}" for it in faults]
 
 
 def config(group_by: Iterable[str] = ("alertname",), **more: Json) -> Json:

@@ -20,7 +20,7 @@ def rehearse(program: Program, text: str, *words: str, limits: Limits = LIMITS) 
 
 def faults_in(lines: str) -> list[str]:
     """The places and kinds of faults that are printed as JSON. A line on settings that are ignored is none."""
-    faults = [json.loads(line) for line in lines.splitlines() if not line.startswith("ignored: ")]
+    faults = [json.loads(line) for line in lines.splitlines() if ": ignored: " not in line]
     return [f"{it.get('pointer', '')}: {it['kind']}" for it in faults]
 
 

@@ -19,8 +19,9 @@ from typing import Any
 
 CONFIG = {"receivers": [{"name": "ops", "integrations": [{"kind": "mail"}]}],
           "route": {"receiver": "ops", "group_by": ["alertname"], "group_wait": "30s"}}
-# How many calls the history keeps before it is taken, and how many milliseconds lie between two maintenances.
-HISTORY, UPKEEP = 10_000, 900_000
+# How many calls the history keeps before it is taken. How many milliseconds lie between two removals of empty groups, and between two
+# maintenances.
+HISTORY, TICK, UPKEEP = 10_000, 30_000, 900_000
 
 
 class Board:
@@ -79,23 +80,26 @@ def begin(board: Board) -> None:
         board.call("finish", now=now(), ticket=flush["ticket"])
 
 
-def wake(board: Board, upkeep: int) -> int:
-    """When there is something to do: at the next flush, and for upkeep at the latest."""
+def wake(board: Board, tick: int) -> int:
+    """When there is something to do: at the next flush, and at the next tick at the latest."""
     due: int | None = board.call("next_due")["next_due"]["at"]
-    return upkeep if due is None else min(due, upkeep)
+    return tick if due is None else min(due, tick)
 
 
 def main() -> None:
     board = Board(sys.argv[1] if len(sys.argv) > 1 else "tools/am-dispatch")
     board.call("config", **CONFIG)
-    alerts, upkeep = open(0, "rb", buffering=0), 0
+    alerts, tick, upkeep = open(0, "rb", buffering=0), 0, 0
     while True:
-        if select.select([alerts], [], [], max(0, wake(board, upkeep) - now()) / 1000)[0]:
+        if select.select([alerts], [], [], max(0, wake(board, tick) - now()) / 1000)[0]:
             if not (line := alerts.readline()):
                 break
             insert(board, line)
-        if wake(board, upkeep) <= now():
+        if wake(board, tick) <= now():
             begin(board)
+        if now() >= tick:
+            board.call("remove_empty_groups", now=now())
+            tick = now() + TICK
         if now() >= upkeep:
             board.call("maintain", now=now())
             board.call("forget", now=now())

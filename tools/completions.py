@@ -59,7 +59,7 @@ def zsh_option(option: Option) -> str:
     text = option.text.replace("\\", "\\\\").replace("[", "\\[").replace("]", "\\]").replace(":", "\\:")
     action = f"({' '.join(option.values)})" if option.values else "" if option.value in NO_FILE else "_files"
     value = f":{option.value.replace(':', '')}:{action}" if option.value else ""
-    # (an option that may be given again)
+    # (an option that can be given again)
     return quoted(f"{'*' if 'given again' in option.text else ''}--{option.name}[{text}]{value}")
 
 

@@ -1,5 +1,5 @@
 /* Counts the requests for memory that come between two writes to the standard output. A write that
-   begins with " -> " tells the answer to a call, which the write before it named: the file COUNTS gets
+   begins with " -> " has the answer to a call, which the write before it named: the file COUNTS gets
    a line with how many requests there were between the two, and what the write before wrote. Each
    request of a call whose name begins with "without memory: " is refused. */
 #define _GNU_SOURCE
@@ -30,7 +30,7 @@ static char name[256];
 static size_t named;
 static atomic_int refusing;
 
-/* Counts a request, and tells whether it is refused. */
+/* Counts a request. Returns whether it fails. */
 static int refused(void) {
     atomic_fetch_add(&requests, 1);
     if (!refusing)

@@ -14,12 +14,12 @@ static void say(const char *text) {
     (void)written;
 }
 
-/* Kept, so that no request is left out by the compiler. */
+/* Kept: else the compiler leaves requests out. */
 static void *volatile kept;
 
 #define ASK(NAME, REQUEST) (say(NAME), kept = (void *)(REQUEST), say(" -> asked\n"))
 
-/* Tells whether the request came to what it comes to where it is refused. */
+/* Whether the request came to what it comes to where it fails. */
 #define REFUSE(NAME, REQUEST, FAILED) \
     (say("without memory: " NAME), kept = (void *)(long)(REQUEST), \
      say(kept == (void *)(long)(FAILED) ? " -> refused\n" : " -> given\n"))

@@ -1,11 +1,11 @@
 #!/usr/bin/env python3
 """What am-run does with scenarios.
 
-- `examples`: each scenario of examples/ and examples/details/ has the report beside it, or is rejected by the line there.
+- `examples`: each scenario of examples/ and examples/details/ has the report in its `.txt`, or is rejected by the line there.
 - `scenarios`: each row of .ci/data/refusals/scenario.rows is rejected at its place, and so is each front of its scenario.
 - `statuses`: each exit status has its line, also where the system has no random numbers.
 - `schedules`: scenarios whose lanes don't disturb each other have one report, whatever the schedule.
-- `lengths`: the lists of a configuration may be as long as they may, and no longer.
+- `lengths`: the lists of a configuration can have their greatest lengths, and no longer ones.
 """
 import json
 import re
@@ -29,7 +29,7 @@ MOST = 16_777_216
 # Stored reports.
 
 def examples(told: Report, programs: Programs) -> None:
-    """Each scenario has the report that is stored beside it. Where that is a line of a rejection, it is what standard error has,
+    """Each scenario has the report that is stored for it. Where that is a line of a rejection, it is what standard error has,
     with status 2."""
     scenarios = [*sorted(EXAMPLES.glob("*.json")), *sorted(EXAMPLES.glob("details/*.json"))]
     told.at_least(40, len(scenarios), "scenarios")
@@ -112,7 +112,7 @@ def statuses(told: Report, programs: Programs) -> None:
 # Schedules.
 
 def fifteen_lanes() -> str:
-    """64 alerts in 64 groups; when all are due, each of 15 lanes adds 200 alerts to them, beside flushes of eight integrations."""
+    """64 alerts in 64 groups; when all are due, each of 15 lanes adds 200 alerts to them, during flushes of eight integrations."""
     def insert(second: int, labels: list[list[str]]) -> Json:
         return {"insert": {"labels": labels, "starts": 1000 * second}}
 
@@ -135,8 +135,8 @@ def counts_of(text: str) -> dict[str, int]:
 
 
 def schedules(told: Report, programs: Programs) -> None:
-    """Four lanes beside a flush, a hundred times, have the report that was worked out by hand. Fifteen lanes of 200 inserts each,
-    beside 64 flushes of eight integrations, have one report in twenty runs."""
+    """Four lanes during a flush, a hundred times, have the report that was computed by hand. Fifteen lanes of 200 inserts each,
+    during 64 flushes of eight integrations, have one report in twenty runs."""
     program, four = programs["am_run"], LANES / "four-lanes-beside-a-flush.json"
     if told.concerns("four-lanes"):
         if told.is_written:
@@ -163,7 +163,7 @@ def play_often(told: Report, program: Program, name: str, scenario: Path, wanted
     told.ok(f"{name}, {often} times")
 
 
-# Lists that are as long as they may be.
+# Lists of the greatest lengths.
 
 def lengths(told: Report, programs: Programs) -> None:
     """Configurations with as many receivers, children and inhibition rules as they may have are accepted. Such as have one more,

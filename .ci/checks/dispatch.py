@@ -141,7 +141,7 @@ def long_lines_of(program: Program) -> list[Callable[[], None]]:
     return [no_input, no_line_feed, long_lines, long_last_line, deep]
 
 
-# Each call, with arguments that fit but for the ticket.
+# Each call, with arguments that fit, except the ticket.
 CALLS: dict[str, Json] = {
     "insert": {"now": 0, "labels": {"a": "b"}}, "silence": {"now": 0, "id": 1, "matchers": ['a="b"'], "ends": 1},
     "begin": {"now": 0}, "report": {"ticket": 1, "integration": 0, "outcome": "delivered"},
@@ -269,7 +269,7 @@ def full(board: Board, lines: list[tuple[str, str, str]]) -> None:
 def finish_all(board: Board, tickets: range) -> None:
     """Finishes these flushes, of which nothing was sent."""
     for ticket in tickets:
-        is_same(board.ask(json.dumps({"finish": {"now": 30000, "ticket": ticket}})), b'{"finished":{"logged":0,"removed":0}}')
+        is_same(board.ask(json.dumps({"finish": {"now": 30000, "ticket": ticket}})), b'{"finished":{"logged":0,"removed":0,"rows":[]}}')
 
 
 def summary(board: Board, calls: int, flushes: int) -> None:
@@ -416,7 +416,7 @@ BAD = [b"not JSON", b"[1]", b'{"labels":{}}',
 def hurried(port: int) -> str:
     """The text of examples/pager.py, with this mail server, short waits and a small history."""
     source = (ROOT / "examples/pager.py").read_text()
-    for old, new in [('SMTP("localhost",', f'SMTP("127.0.0.1", {port},'), ("10_000, 900_000", "4, 300"),
+    for old, new in [('SMTP("localhost",', f'SMTP("127.0.0.1", {port},'), ("10_000, 30_000, 900_000", "4, 100, 300"),
                      ('"group_wait": "30s"}', '"group_wait": "1s"}, "limits": {"history": 12}')]:
         is_same(source.count(old), 1, f"how often examples/pager.py has {old}")
         source = source.replace(old, new)

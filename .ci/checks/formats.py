@@ -1,5 +1,5 @@
 #!/usr/bin/env python3
-"""How am-rehearse reads YAML, routes and times, beside other readers of the same.
+"""How am-rehearse reads YAML, routes and times, compared with other readers of the same.
 
 - `yaml`: each case of .ci/data/yaml.cases has its value or its fault; and, where PyYAML is there, no document has another value
   than PyYAML's safe loader gives it with the core schema.
@@ -36,7 +36,7 @@ SEED = 20261125
 GENERATED = 3000
 # How many files one run of the program reads.
 BATCH = 200
-# What stands in a case for what an editor doesn't show.
+# What represents in a case what an editor doesn't show.
 SIGNS = (("␉", "\t"), ("␍", "\r"), ("⌂", "\ufeff"), ("∎\n", ""))
 # What the program reads of a text: whether it does, and the value as JSON, or the fault.
 Read = tuple[bool, Json]
@@ -136,7 +136,7 @@ CONFIGS = EXAMPLES / "alertmanager"
 SETS = 300
 # One of so many label sets is looked up by the command `routes` too.
 SAMPLE = 10
-# What a story needs whose routes are muted by time. The rule is the zone's, so that no file of zones is needed.
+# What a story needs whose routes are muted by time. The rule is the zone's: no file of zones is needed.
 DATED = {"start": "2026-11-24T09:00:00Z", "zones": {"Europe/Berlin": "CET-1CEST,M3.5.0,M10.5.0/3"}}
 # A label set, and its receivers.
 Row = tuple[dict[str, str], list[str]]
@@ -268,7 +268,7 @@ HOURS = ROOT / "tools/hours"
 # Milliseconds of a day, and how far behind `until` the end of a span is looked for.
 DAY = 86_400_000
 BEHIND = 366 * DAY
-# How often a group is flushed: no part of a day, so that each time of day comes.
+# How often a group is flushed: no part of a day, and so each time of day comes.
 INTERVAL = "3h37m"
 # How many refused texts are put into one configuration: the program prints a hundred faults at most, and a text may have two.
 BAD_TEXTS = 45
@@ -304,7 +304,7 @@ def muted_story(start: str, until: str, rows: list[Span]) -> Json:
 
 
 def ends(spans: list[tuple[int, int]], horizon: int, at: int) -> dict[str, int | None]:
-    """Until when the two routes of a row are muted at a moment: each an end, or None."""
+    """Until when the two routes of a row are muted at a time: each an end, or None."""
     inside = next((to for start, to in spans if start <= at < to), None)
     ahead = next((start for start, _ in spans if start > at), horizon)
     return {"mute": inside, "active": None if inside is not None else ahead}

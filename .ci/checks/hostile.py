@@ -156,14 +156,14 @@ def silenced(count: int) -> Json:
 
 
 def expected(count: int) -> Json:
-    """As many expectations as may be, each of alerts by a matcher that none of these many has but the last one."""
+    """The greatest number of expectations, each of alerts by a matcher that none of these many has but the last one."""
     alerts = [{"labels": {"cluster": "eu", "host": f"h{i}"}} for i in range(count)]
     expectations = [{"has": [f'host="h{count - 1}"']} for _ in range(1024)]
     return {"config": config(["cluster"]), "until": "5m", "alerts": alerts, "expect": expectations}
 
 
 def restarted(count: int) -> Json:
-    """A story with 64 equal routes, so that each log row goes to the groups of all of them, and a restart that keeps the log."""
+    """A story with 64 equal routes, and a restart that keeps the log: each row goes to the groups of all of them."""
     route = {"receiver": "team", "group_by": ["alertname"], "routes": [{"receiver": "team", "continue": True}] * 64}
     return {
         "alertmanager": {"route": route, "receivers": [{"name": "team", "webhook_configs": [{"url": "http://localhost/"}]}]},
@@ -198,7 +198,46 @@ def hung(count: int) -> Json:
     }
 
 
-MADE = {"two-sided": two_sided, "silenced": silenced, "expected": expected, "restarted": restarted, "hung": hung}
+def flapping(count: int) -> Json:
+    """A story in which one alert fires so often, each time for half a minute, next to sixteen that stay."""
+    own, spans = config(["cluster"]), [{"from": f"{minute}m", "to": f"{minute}m30s"} for minute in range(count)]
+    stay = [{"labels": {"cluster": "eu", "host": f"h{i}"}} for i in range(16)]
+    return {"config": own, "until": f"{count}m", "alerts": [{"labels": {"cluster": "eu", "host": "flaps"}, "spans": spans}, *stay]}
+
+
+def teams(count: int) -> Json:
+    """A story with so many receivers, of which every fifth has a route and an alert."""
+    hook = [{"url": "http://localhost/"}]
+    routes = [{"receiver": f"team{5 * team}", "matchers": [f'team="{team}"']} for team in range(count // 5)]
+    return {
+        "alertmanager": {
+            "route": {"receiver": "team0", "group_by": ["alertname"], "routes": routes},
+            "receivers": [{"name": f"team{team}", "webhook_configs": hook} for team in range(count)],
+        },
+        "until": "1h",
+        "alerts": [{"labels": {"alertname": "A", "team": f"{team}"}} for team in range(count // 5)],
+    }
+
+
+def ruled(count: int) -> Json:
+    """A story with so many inhibition rules, and 64 alerts, each of which a rule of its own mutes."""
+    rules = [{"source_matchers": ['kind="node"'], "target_matchers": [f'host="h{rule}"'], "equal": ["cluster"]} for rule in range(count)]
+    return {
+        "alertmanager": {
+            "route": {"receiver": "team", "group_by": ["cluster"]},
+            "receivers": [{"name": "team", "webhook_configs": [{"url": "http://localhost/"}]}],
+            "inhibit_rules": rules,
+        },
+        "until": "1h",
+        "alerts": [{"labels": {"cluster": "eu", "kind": "node"}},
+                   *({"labels": {"cluster": "eu", "host": f"h{host}"}} for host in range(64))],
+    }
+
+
+MADE = {
+    "two-sided": two_sided, "silenced": silenced, "expected": expected, "restarted": restarted, "hung": hung,
+    "flapping": flapping, "teams": teams, "ruled": ruled,
+}
 # What makes the lines of an input.
 LINES = {"opened": opened}
 # A name, what makes the input, its size, and the program.
@@ -207,8 +246,11 @@ GROWTH = [
     ("as many silences as fit, of many alerts", "silenced", 8000, "am_rehearse"),
     ("as many expectations as may be, of many alerts", "expected", 8000, "am_rehearse"),
     ("a restart after which each log row goes to 64 equal routes", "restarted", 32, "am_rehearse"),
+    ("an alert that fires again and again", "flapping", 1000, "am_rehearse"),
     ("groups whose flushes stay open", "opened", 8000, "am_dispatch"),
     ("groups whose receiver hangs for an hour", "hung", 2000, "am_rehearse"),
+    ("receivers, of which every fifth has a route", "teams", 512, "am_rehearse"),
+    ("inhibition rules, and alerts that they mute", "ruled", 2048, "am_rehearse"),
     ("label sets that would collide", "label sets", 16000, "am_dispatch"),
     ("values of sources that would collide", "sources", 8000, "am_dispatch"),
     ("label sets that would collide for the fixed seed", "label sets, fixed", 16000, "am_dispatch"),

@@ -1,11 +1,11 @@
 #!/usr/bin/env python3
 """examples/live/live.py does what the real Alertmanager did, and examples/live/replay audits what it kept.
 
-- `stories`: each story of .ci/data/live/stories is played by a clock that doesn't wait, and compared with what Alertmanager 0.25 did
+- `stories`: each story of .ci/data/live/stories runs on a clock that doesn't wait, and is compared with what Alertmanager 0.25 did
   (.ci/data/live/timelines, from tools/live-compare --store), to the half second. A story with a known difference has to have it.
 - `histories`: the history of a story is replayed, and replayed with one reply changed, which has to be found.
 - `boards`: what goes over to another board, and what goes by time.
-- `real`: one story is played in real time over HTTP, with reloads and a restart; and configurations that can't be followed are
+- `real`: one story runs in real time over HTTP, with reloads and a restart; and configurations that can't be followed are
   rejected.
 """
 import contextlib
@@ -68,7 +68,7 @@ def stories(told: Report, programs: Programs) -> None:
         for name, tried in tries.items():
             try:
                 found, differs = tried.result(), played[name].differs
-            except Exception as error:  # (whatever it is, the other stories are played)
+            except Exception as error:  # (whatever it is, the other stories run)
                 found, differs = [f"{type(error).__name__}: {error}"], ""
             told.holds(name, bool(found) == bool(differs), *(found or [f"no longer differs: {differs}"]))
     known = [it for it in played.values() if it.differs]

@@ -1,7 +1,7 @@
 #!/usr/bin/env python3
 """A rehearsal sends what the real Alertmanager sent.
 
-- `rehearsals`: each story of .ci/data/live/stories that a rehearsal can have is played as one, and compared with what Alertmanager 0.25
+- `rehearsals`: each story of .ci/data/live/stories that a rehearsal can have runs as one, and is compared with what Alertmanager 0.25
   did (.ci/data/live/timelines, from tools/live-compare --store), to the half second. A known difference has to occur.
 """
 import collections

@@ -1,13 +1,13 @@
 #!/usr/bin/env python3
 """What the programs do where there is no memory.
 
-- `scenarios`, `stories`: each request for memory is refused in turn, one in a run. The whole output comes, or status 3 and nothing.
-  The threads of a scenario share the count, so that the same number may be another's request in another run; how many requests
-  there are depends a little on the schedule.
+- `scenarios`, `stories`: each request for memory fails in turn, one in a run. The whole output comes, or status 3 and nothing.
+  The threads of a scenario share the count: in another run the same number can be another's request. How many requests there are
+  depends a little on the schedule.
 - `lines`: the same of the lines of am-dispatch. One that is answered `memory` has changed nothing that the board shows, and asked
   again it has its answer. One that is answered `untold` has been done: the board shows what it shows after the line.
 - `frugal`: calls that promise to take no memory ask for none, as am_bench makes them, whether it would be granted or not. Calls
-  that take memory stand among them, and each kind has to be seen; and so has each way in which a program can ask for memory. Of
+  that take memory are among them, and each kind has to be seen; and so has each way in which a program can ask for memory. Of
   these calls only an insert takes none at times: of an alert that is known and that its group has. Calls that a limit rejects are
   rejected by it where each of their requests is refused.
 """
@@ -56,7 +56,7 @@ def refuse_each(told: Report, program: Program, file: Path) -> None:
 
 
 def scenarios(told: Report, programs: Programs) -> None:
-    """Three scenarios, one with patterns and one with four lanes beside a flush."""
+    """Three scenarios, one with patterns and one with four lanes during a flush."""
     for file in (DATA / "memory/asked-again.json", DATA / "lanes/four-lanes-beside-a-flush.json",
                  EXAMPLES / "routes-and-silence-by-pattern.json"):
         refuse_each(told, programs["am_run"], file)

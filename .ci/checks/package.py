@@ -1,7 +1,8 @@
 #!/usr/bin/env python3
 """What tools/package makes works without the kit: unpacked from the archive the README's commands print what the page shows, and so they
 do from the Debian package. Versions say the commit and whether the programs are proved, manual pages and completions are there,
-live.py starts, and the same commit and programs give the same files.
+live.py starts, and the same commit and programs give the same files. Where Go and Alertmanager's packages are, fentdolmen starts from the
+second Debian package, with the board of the first.
 
 Where files were changed since the commit, or the programs aren't those of the gate (BUILT=yes), the package is an unproved one.
 """
@@ -21,6 +22,7 @@ from lib.report import Programs, Report
 
 # (the system's programs alone: no kit)
 PLAIN = {"PATH": "/usr/bin:/bin", "HOME": "/nonexistent"}
+SECOND = "fentdolmen-alertmanager_"
 CONFIG = "route: {receiver: team}\nreceivers: [{name: team, webhook_configs: [{url: 'http://127.0.0.1:9/'}]}]\n"
 
 
@@ -50,7 +52,8 @@ def shown(word: str, page: str = "README.md") -> tuple[str, str]:
 def packages(into: Path, *words: str) -> dict[str, Path]:
     """The files that tools/package makes, by what they end with."""
     ran = subprocess.run([ROOT / "tools/package", *words, "--into", into], stdout=subprocess.PIPE, text=True, check=False)
-    return {kind: Path(it) for it in ran.stdout.splitlines() for kind in re.findall(r"\.(tar\.gz|deb|sha256)$", it)}
+    kinds = re.compile(rf"{SECOND}|tar\.gz$|deb$|sha256$")
+    return {kind: Path(it) for it in ran.stdout.splitlines() for kind in kinds.findall(it)[:1]}
 
 
 def archive(told: Report, made: dict[str, Path], work: Path, is_proved: bool) -> None:
@@ -66,7 +69,7 @@ def archive(told: Report, made: dict[str, Path], work: Path, is_proved: bool) ->
     head = git("rev-parse", "--short=8", "HEAD").strip()
     for name in ("am-rehearse", "am-run", "am-dispatch"):
         status, got = output([work / "bin" / name, "--version"])
-        proved = r"proved with rattle-kit-\S+ logic \w+" if is_proved else "not proved"
+        proved = r"proved with Rattle, logic \w+" if is_proved else "not proved"
         pattern = rf"{name} \d+\.\d+\.\d+, commit {head}( with changes)?, {proved}\n"
         tell(told, f"{name} --version", status == 0 and re.fullmatch(pattern, got), got)
         packed = work / f"share/man/man1/{name}.1.gz"
@@ -84,9 +87,13 @@ def archive(told: Report, made: dict[str, Path], work: Path, is_proved: bool) ->
 
 def live(told: Report, work: Path) -> None:
     """live.py of the archive, with its board."""
+    starts(told, "live.py", [sys.executable, "share/fentdolmen/live.py"], work, '"OK"')
+
+
+def starts(told: Report, what: str, program: list[str], work: Path, wanted: str) -> None:
+    """A program with Alertmanager's options gets ready with a configuration, and ends at a signal."""
     (work / "alertmanager.yml").write_text(CONFIG)
-    words = [sys.executable, "share/fentdolmen/live.py", "--config.file", "alertmanager.yml", "--storage.path", "data",
-             "--web.listen-address", "127.0.0.1:0"]
+    words = [*program, "--config.file", "alertmanager.yml", "--storage.path", "data", "--web.listen-address", "127.0.0.1:0"]
     # (a free port, which another may take meanwhile: then it is tried once more)
     for port in range(39093, 39193, 7):
         words[-1] = f"127.0.0.1:{port}"
@@ -96,7 +103,7 @@ def live(told: Report, work: Path) -> None:
             said = ran.communicate()[1]
         if "already in use" not in said:
             break
-    tell(told, "live.py", answer == '"OK"' and ran.returncode == 0, f"{answer} {ran.returncode} {said}")
+    tell(told, what, answer == wanted and ran.returncode == 0, f"{answer} {ran.returncode} {said}")
 
 
 def ready(ran: subprocess.Popen[str], port: int) -> str:
@@ -123,6 +130,23 @@ def debian(told: Report, made: dict[str, Path], work: Path) -> None:
     told.same("it puts files below usr/ alone", [], [it for it in names if not it.startswith("./usr/") and it != "./"])
 
 
+def service(told: Report, made: dict[str, Path], work: Path) -> None:
+    """The Debian package of fentdolmen, unpacked next to the other one."""
+    packed = made[SECOND]
+    needed, version = (output(["dpkg-deb", "--field", it, name])[1].strip() for it, name in ((packed, "Depends"), (made["deb"], "Version")))
+    tell(told, "it depends on the other package of its version, and on Alertmanager 0.25",
+         f"fentdolmen (= {version})" in needed and "prometheus-alertmanager (>= 0.25)" in needed, needed)
+    subprocess.run(["dpkg-deb", "--extract", packed, work], check=True)
+    notices = {it.name for it in (work / "usr/share/fentdolmen-alertmanager/notices").iterdir()}
+    tell(told, "it has the licences", {"Apache-2.0", "prometheus-alertmanager.NOTICE"} <= notices and len(notices) > 60, sorted(notices))
+    manual = output(["gzip", "-dc", str(work / "usr/share/man/man1/fentdolmen.1.gz")])[1]
+    tell(told, "its manual page has the options", ".SH SIGNALS" in manual and "--board.history" in manual, manual)
+    unit = (work / "usr/lib/systemd/system/prometheus-alertmanager.service.d/fentdolmen.conf").read_text(encoding="utf-8")
+    tell(told, "the service runs it", "\nExecStart=\nExecStart=/usr/bin/fentdolmen $ARGS\n" in unit, unit)
+    if Path("/usr/share/prometheus/alertmanager/default.tmpl").exists():
+        starts(told, "fentdolmen with the board of the other package", ["usr/bin/fentdolmen", "--cluster.listen-address="], work, "OK")
+
+
 def package(told: Report, _: Programs) -> None:
     """The archive and the Debian package."""
     is_proved = not git("status", "--porcelain") and os.environ.get("BUILT") == "yes"
@@ -130,6 +154,8 @@ def package(told: Report, _: Programs) -> None:
         work = Path(name)
         made, again = (packages(work / it, *[] if is_proved else ["--unproved"]) for it in ("made", "again"))
         kinds = {"tar.gz", "sha256"} | ({"deb"} if output(["sh", "-c", "command -v dpkg-deb"])[0] == 0 else set())
+        if "deb" in kinds and "skipped" not in output(["bash", "-c", ". alertmanager/environment"], ROOT)[1]:
+            kinds.add(SECOND)
         if not told.same("tools/package", sorted(kinds), sorted(made)):
             return
         is_same = all(made[it].read_bytes() == again[it].read_bytes() and made[it].name == again[it].name for it in kinds)
@@ -140,6 +166,8 @@ def package(told: Report, _: Programs) -> None:
         live(told, work / "archive")
         if "deb" in made:
             debian(told, made, work / "root")
+        if SECOND in made:
+            service(told, made, work / "root")
 
 
 PARTS = {"package": package}

@@ -1,10 +1,14 @@
 #!/usr/bin/env python3
 """Checks the pages: README.md and the others at the top, docs/*.md, and the claims in docs/claims.
 
-    .ci/checks/pages.py [PART ..]         claims, examples, layers, prose, quotes, words; all without a part
+- `claims`, `examples`, `layers`: what is made of the sources is as they say, and each law has a claim.
+- `prose`: pages are short, and their links lead somewhere. `words`: crates and comments of scripts have no word that readers don't know.
+- `quotes`: what a page shows is there, and its commands print it. With BUILT=yes it runs the built programs too.
+
+    .ci/checks/pages.py [PART ..]         all parts, or these
     .ci/checks/pages.py claims --write    makes docs/claims/*.md of docs/claims/*.toml and the sources
     .ci/checks/pages.py examples --write  makes examples/README.md of the heads of the examples
-    .ci/checks/pages.py layers --write    makes the diagram of layers in docs/architecture.md
+    .ci/checks/pages.py layers --write    makes docs/crates.md of crates.txt and the heads of the crates
     .ci/checks/pages.py words --write     takes lower numbers of words to avoid over into .ci/data/words.toml
     .ci/checks/pages.py prose --measure   prints how long each page is
 """
@@ -27,6 +31,9 @@ PARTS: dict[str, Callable[[], bool]] = {
 
 
 def main() -> None:
+    if "--help" in sys.argv:
+        print(__doc__)
+        return
     wanted = [it for it in sys.argv[1:] if not it.startswith("--")] or list(PARTS)
     unknown = sorted({*wanted, *sys.argv[1:]} - {*PARTS, "--write", "--measure"})
     if unknown:

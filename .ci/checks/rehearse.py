@@ -24,7 +24,7 @@ from lib import preload, report
 from lib.program import ROOT, Program, Ran, as_text
 from lib.report import Programs, Report
 from lib.rows import Json, runs_of
-from lib.stories import PLAY, faults_in, milliseconds, rehearse
+from lib.stories import PLAY, milliseconds, rehearse
 
 EXAMPLES, REHEARSALS = ROOT / "examples", ROOT / "examples/rehearsals"
 RUNS, SCHEMA = ROOT / ".ci/data/commands.runs", ROOT / "docs/rehearsal.schema.json"
@@ -192,8 +192,8 @@ def handovers(story: Json) -> list[str]:
 
 
 def dispatchers(told: Report, programs: Programs) -> None:
-    """A story whose dispatcher is reloaded or restarted has one line on each new dispatcher, in the order of their times; no
-    page, whatever its own output; and no comparison."""
+    """A story whose dispatcher is reloaded or restarted has one line on each new dispatcher, in the order of their times, and so has its
+    page, whatever its own output."""
     program, count = programs["am_rehearse"], 0
     for name in names():
         story = value_of(program, name)
@@ -202,8 +202,8 @@ def dispatchers(told: Report, programs: Programs) -> None:
             told.same(f"{name}: a line on each new dispatcher", wanted, [it.split()[1] for it in HEAD.findall(text_of(name))])
             for output in ("html", "timeline", "json"):
                 ran = rehearse(program, json.dumps({**story, "output": output}), *PLAY, "--output", "html")
-                is_rejected = (ran.status, ran.out) == (2, "") and faults_in(ran.err) == ["/output: value"]
-                told.holds(f"{name}: no page in place of {output}", is_rejected, str(ran))
+                shown = re.findall(r'<p class="c"><span>(\w+)', ran.out)
+                told.same(f"{name}: a band for each new dispatcher, in place of {output}", wanted, shown)
     told.at_least(10, count, "stories with several dispatchers")
 
 

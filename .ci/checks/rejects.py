@@ -150,7 +150,7 @@ NOT_IN_AMTOOL = ("jira_api_url", "tracing", "/inhibit_rules/0/name", "mattermost
 
 
 def amtool(told: Report, programs: Programs) -> None:
-    """No configuration of a row is played that amtool rejects. It reads each as a file of its own."""
+    """The program accepts no configuration of a row that amtool rejects. It reads each as a file of its own."""
     if shutil.which("amtool") is None:
         told.skip("what amtool rejects", "it isn't installed")
         return
@@ -178,7 +178,7 @@ def amtool(told: Report, programs: Programs) -> None:
 # Matchers.
 
 def matcher_outcome(program: Program, text: str, labels: Json) -> str:
-    """What a matcher of one text does to a label set: a child route has it, behind which stands the root."""
+    """What a matcher of one text does to a label set: a child route has it, behind which is the root."""
     config = {
         "receivers": [{"name": "team", "integrations": [{"kind": "hook"}]}],
         "route": {"receiver": "team"},
@@ -286,7 +286,7 @@ def routes_below(widths: list[int], level: int = 1, **members: Json) -> Json:
 
 
 def trees(told: Report, program: Program) -> None:
-    """The widest tree that may be, which finds one route for an alert that each takes, or with `continue` all of the
+    """The widest tree that is allowed, which finds one route for an alert that each takes, or with `continue` all of the
     lowest level; and one of a route more, which is rejected at the last that there is no capacity for."""
     widest = routes_below([3, 4, 4, 4, 4])
     for name, routes, wanted in [

@@ -141,15 +141,15 @@ class Test(NamedTuple):
 
 def tests_of(repository: Repository) -> list[Test]:
     """All tests in the JUnit files."""
-    suites = [XML.parse(it).getroot() for it in sorted((repository.tree / "junit").glob("*.xml"))]
+    reports = [XML.parse(it).getroot() for it in sorted((repository.tree / "junit").glob("*.xml"))]
     return [Test(suite.get("name"), case.get("classname"), case.get("name"), bool(len(case)))
-            for suite in suites for case in suite.iter("testcase")]
+            for report in reports for suite in report.iter("testsuite") for case in suite.iter("testcase")]
 
 
 def check(told: Report, name: str, run: Callable[[Repository], int], made: Path) -> Repository:
     """A job on a branch whose stories are met, and on one of which one isn't."""
     good, bad = Repository(made / f"{name}-good", "3m"), Repository(made / f"{name}-bad", "1m")
-    early, late = (Test(it, it, "expect 0", False) for it in ("early", "late"))
+    early, late = (Test(it, it, "expect 0", False) for it in ("alertmanager/stories/early.yml", "alertmanager/stories/late.yml"))
     tell(told, f"{name}: all is met", run(good) == 0, good.log)
     told.same(f"{name}: a test for each story", [early, late], tests_of(good))
     body = good.body()
@@ -158,6 +158,9 @@ def check(told: Report, name: str, run: Callable[[Repository], int], made: Path)
     tell(told, f"{name}: one isn't met", run(bad) == 5, bad.log)
     told.same(f"{name}: its test failed", [early._replace(has_failed=True), late], tests_of(bad))
     tell(told, f"{name}: it has a comment too", "```diff" in bad.body(), bad.said())
+    (bad.tree / "alertmanager/stories/late.yml").write_text("until: soon\n")
+    tell(told, f"{name}: a rejected story", run(bad) == 2, bad.log)
+    told.same(f"{name}: its error", [early._replace(has_failed=True), late._replace(name="story", has_failed=True)], tests_of(bad))
     (bad.tree / "alertmanager/alertmanager.yml").write_text("route: {receiver: nobody}\n")
     tell(told, f"{name}: a rejected file", run(bad) == 2, bad.log)
     return good

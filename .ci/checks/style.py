@@ -20,7 +20,7 @@ from lib import report
 from lib.program import ROOT
 from lib.report import Programs, Report
 
-# Where Python is: folders of modules, and programs. The example of docs/live.md and its tools are left out.
+# Where Python is: folders of modules, and programs. The example in examples/live, except replay, is left out.
 PYTHON = (".ci/lib", ".ci/checks", ".ci/gate", "tools/programs.py", "tools/completions.py", "examples/pager.py")
 SCRIPTS = ("rehearse", ".ci/first-answer", "tools/am-dispatch", "tools/am-run", "tools/amtool", "tools/measure", "tools/package",
            "tools/peer-bench", "tools/picture", "examples/live/replay")

@@ -31,7 +31,7 @@ pub fn clone(ticket: &am_board::ticket::Ticket) -> am_board::ticket::Ticket {
 
 
 def tickets(told: Report, _: Programs) -> None:
-    """Each of the causes is told of the functions at the end of the module."""
+    """The compiler names each of the causes for the functions at the end of the module."""
     with tempfile.TemporaryDirectory() as folder:
         for name in ("HANDLES", "crates.txt"):
             shutil.copy(ROOT / name, folder)

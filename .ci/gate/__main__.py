@@ -2,7 +2,7 @@
 programs, side by side where one needs nothing of the other. CI calls `.ci/run`.
 
     .ci/run           takes what earlier runs on this machine kept: a proof, or a refusal of a wrong body, is made again
-                      only where something that it stands on has changed
+                      only where something that it depends on has changed (a kit without `rt ci --anew` keeps no proof)
     .ci/run --anew    keeps nothing, and proves and tries all
 
 As many tasks run at a time as there are processors and as memory holds. A line gives each part's end and its minutes. The
@@ -38,7 +38,7 @@ AFTER = [
 KEEPS = "--anew" in subprocess.run(["rt", "help"], capture_output=True, text=True, check=False).stderr
 # With at most so many crates to prove, `rt ci` itself decides how many run at a time, and gives each several processors.
 FEW = 8
-# In GB: what a proof takes at most; and the memory from which on wrong bodies are tried beside the proofs.
+# In GB: what a proof takes at most; and the memory from which on wrong bodies are tried while proofs run.
 PROOF, MUCH = 5, 18
 STARTED = time.monotonic()
 
@@ -110,22 +110,24 @@ class Gate:
         return self.end()
 
     def prove(self) -> None:
-        """Has `rt ci` prove, test and run all, and then the checks run the programs. Wrong bodies are tried beside it, those
+        """Has `rt ci` prove, test and run all, and then the checks run the programs. Wrong bodies are tried meanwhile, those
         of a crate as soon as the crates below it are proved; with few processors or little memory after it. The first answer of
-        a fresh clone is tried at its beginning, where the crates that come first leave processors idle."""
+        a fresh clone is tried at its beginning, where the crates that come first leave processors idle, and `fentdolmen` is compiled."""
         is_wide = processors() >= 4 and self.has_much
-        with tempfile.NamedTemporaryFile("w", prefix="proofs-") as proofs, ThreadPoolExecutor(2) as pool:
+        with tempfile.NamedTemporaryFile("w", prefix="proofs-") as proofs, ThreadPoolExecutor(3) as pool:
             first = pool.submit(self.part, ["nice", "-n", "5", ".ci/first-answer"], ".ci/first-answer")
+            compiled = pool.submit(self.part, ["nice", "-n", "15", ".ci/alertmanager", "--prepare"], ".ci/alertmanager --prepare")
             words = ["nice", "-n", "15", ".ci/wrong-bodies", *self.anew, "--beside", proofs.name, *["--after"] * (not is_wide)]
             tried = pool.submit(self.part, words, ".ci/wrong-bodies")
             self.part(["rt", "ci", *self.anew * KEEPS], "rt ci", proofs.file)
             if "rt ci" in self.failed:
-                for name in (".ci/first-answer", ".ci/wrong-bodies"):
+                for name in (".ci/first-answer", ".ci/wrong-bodies", ".ci/alertmanager --prepare"):
                     self.running[name].terminate()
             else:
                 os.environ["BUILT"] = "yes"
                 self.checks(AFTER)
-            print(f"== .ci/first-answer\n{first.result()}== .ci/wrong-bodies\n{tried.result()}", end="", flush=True)
+            for name, said in (("first-answer", first), ("alertmanager --prepare", compiled), ("wrong-bodies", tried)):
+                print(f"== .ci/{name}\n{said.result()}", end="", flush=True)
         if "rt ci" not in self.failed:
             # (alone, since its times count)
             self.checks(["alertmanager"])

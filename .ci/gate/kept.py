@@ -11,7 +11,7 @@ PASSED = f"{kit.KEPT}/passed.json"
 
 
 def sum_of(crate: str) -> str:
-    """The sum of a crate's files, but for its wrong bodies and what checks make."""
+    """The sum of a crate's files, without its wrong bodies and what checks make."""
     sum = hashlib.sha256()
     for at, folders, files in os.walk(f"{ROOT}/crates/{crate}"):
         folders[:] = sorted({*folders} - {"out", "wrong-bodies"})

@@ -9,6 +9,10 @@ from pathlib import Path
 from typing import NamedTuple
 
 ROOT = Path(__file__).resolve().parents[2]
+# (first, since a check has this name too)
+sys.path.insert(0, str(ROOT / "tools"))
+import programs
+
 # How many lines of a build that failed are shown.
 SHOWN = 40
 
@@ -20,7 +24,7 @@ class Limits(NamedTuple):
     memory: int | None = None
 
     def set(self, pid: int) -> None:
-        """Sets them for a process that has just begun. (In it, between fork and exec, no thread of this program may be at work.)"""
+        """Sets them for a process that has just begun. (In it, between fork and exec, no thread of this program is at work.)"""
         for kind, most in ((resource.RLIMIT_CPU, self.seconds), (resource.RLIMIT_AS, self.memory)):
             if most is not None:
                 with contextlib.suppress(ProcessLookupError):
@@ -49,9 +53,10 @@ class Cost(NamedTuple):
 
 
 def built(crate: str) -> Path:
-    """The program of a crate, proved and built. With BUILT=yes it has to be there: the gate has just built it."""
+    """The program of a crate, proved and built, unless one is there that was proved of the present sources. With BUILT=yes it has to
+    be there: the gate has just built it."""
     path = ROOT / "crates" / crate / "out" / crate
-    if os.environ.get("BUILT") != "yes":
+    if os.environ.get("BUILT") != "yes" and not (os.access(path, os.X_OK) and programs.is_proved(crate, path)):
         with open(ROOT / "crates" / crate / "stdin", "rb") as given:
             ran = subprocess.run(["rt", "run"], cwd=ROOT / "crates" / crate, stdin=given, stdout=subprocess.PIPE,
                                  stderr=subprocess.STDOUT, text=True, errors="backslashreplace", check=False)
@@ -76,13 +81,13 @@ class Program:
 
     @cached_property
     def is_checked(self) -> bool:
-        """Whether it has run-time checks, as `rt try` builds it: then it is slow and reserves more addresses than any limit, so that
-        none is set, and no preloaded library stands before its own allocator."""
+        """Whether it has run-time checks, as `rt try` builds it: then it is slow, and reserves more addresses than any limit. No
+        limit is set for it then, and no library comes before its own allocator."""
         return b"__asan_init" in self.path.read_bytes()
 
     def run(self, *words: str | Path, stdin: str | bytes | Path = b"", stdout: Path | None = None, env: dict[str, str] | None = None,
             limits: Limits = Limits(), timeout: float = 600, cwd: Path = ROOT) -> Ran:
-        """Runs it with these words, this standard input (a text, or what has this path), and these variables beside the others.
+        """Runs it with these words, this standard input (a text, or what has this path), and these variables in addition to the others.
         Its standard output goes to a file, if one is named."""
         opened = [os.open(it, how) for it, how in ((stdin, os.O_RDONLY), (stdout, os.O_WRONLY)) if isinstance(it, Path)]
         try:

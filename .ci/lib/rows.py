@@ -29,7 +29,7 @@ class Rows:
 
 
 def repeated(text: str) -> str:
-    """A text with what `<"a#",*3>` stands for: the text in it so many times, with each number from 0 for #."""
+    """A text with what `<"a#",*3>` represents: the text in it so many times, with each number from 0 for #."""
     return re.sub(r"<(.+?)\*(\d+)>", lambda it: "".join(it[1].replace("#", str(n)) for n in range(int(it[2]))), text)
 
 

@@ -2,6 +2,7 @@
 package main
 
 import (
+	"fmt"
 	"time"
 
 	"github.com/go-kit/log/level"
@@ -69,9 +70,13 @@ func (d *dispatcher) insert(s *session, alerts []*types.Alert) inserts {
 		out.alerts = append(out.alerts, a)
 		lines.add(item, isSuspect)
 	}
+	names := make([]model.Fingerprint, len(out.alerts)) // (computed before the lock)
+	for i, a := range out.alerts {
+		names[i] = a.Fingerprint()
+	}
 	d.mtx.Lock()
-	for _, a := range out.alerts {
-		d.known[a.Fingerprint()] = a
+	for i, a := range out.alerts {
+		d.known[names[i]] = a
 	}
 	d.mtx.Unlock()
 	out.batch = s.board.submit(lines.calls...)
@@ -97,7 +102,7 @@ func (d *dispatcher) insertOf(a *types.Alert) (item []byte, isSuspect bool, err 
 // settle waits for the answers to inserts. What was rejected at a limit is tried once more, after what is over was removed.
 func (d *dispatcher) settle(s *session, queued inserts) error {
 	left, kinds, err := d.rejected(s, queued)
-	if len(left) > 0 && d.makeRoom(s, kinds) {
+	if len(left) > 0 && d.makeRoom(s, kinds, queued.queued) {
 		left, _, err = d.rejected(s, d.again(s, left))
 	}
 	d.poke()
@@ -108,14 +113,18 @@ func (d *dispatcher) settle(s *session, queued inserts) error {
 	return err
 }
 
-// rejected waits for inserts. It returns the alerts that the board rejected, the kinds of refusals, and all of these as an error.
+// mostErrors is how many refusals of a request are in its answer and in the log. One request can have a million.
+const mostErrors = 10
+
+// rejected waits for inserts. It returns the alerts that the board rejected, the kinds of refusals, and the first of these as an error.
 func (d *dispatcher) rejected(s *session, queued inserts) (left []*types.Alert, kinds map[string]bool, err error) {
 	var all types.MultiError
 	kinds = map[string]bool{}
 	add := func(a *types.Alert, err error) {
 		kinds[d.count(err)] = true
-		left = append(left, a)
-		all.Add(err)
+		if left = append(left, a); len(left) <= mostErrors {
+			all.Add(err)
+		}
 	}
 	for i, a := range queued.kept {
 		add(a, queued.errs[i])
@@ -129,6 +138,9 @@ func (d *dispatcher) rejected(s *session, queued inserts) (left []*types.Alert, 
 			}
 		}
 		first += len(queued.calls[i].items)
+	}
+	if more := len(left) - all.Len(); more > 0 {
+		all.Add(fmt.Errorf("and %d others", more))
 	}
 	if all.Len() > 0 {
 		err = &all
@@ -172,10 +184,7 @@ func (d *dispatcher) retryRefused(s *session) {
 		}
 	}
 	for len(alerts) > 0 {
-		some := alerts
-		if len(some) > mostCalls {
-			some = some[:mostCalls]
-		}
+		some := alerts[:atMost(len(alerts), mostCalls)]
 		alerts = alerts[len(some):]
 		left, _, _ := d.rejected(s, d.again(s, some))
 		d.remember(left)

@@ -10,6 +10,7 @@ import (
 	"os"
 	"os/exec"
 	"sync"
+	"syscall"
 	"time"
 )
 
@@ -19,6 +20,7 @@ var errClosed = errors.New("the board was closed")
 type batch struct {
 	calls   []call
 	now     int64
+	queued  time.Time
 	answers [][]byte
 	err     error
 	done    chan struct{}
@@ -55,6 +57,8 @@ func openBoard(program, name string, timeout time.Duration, now func() int64, br
 	cmd := exec.Command(program)
 	cmd.Args[0] = name
 	cmd.Stderr = os.Stderr
+	// Ctrl-C on a terminal is for this program, which ends its boards itself.
+	cmd.SysProcAttr = &syscall.SysProcAttr{Setpgid: true}
 	pipe, err := cmd.StdinPipe()
 	if err != nil {
 		return nil, err
@@ -79,7 +83,7 @@ func (b *board) submit(calls ...call) *batch {
 	t := &batch{calls: calls, answers: make([][]byte, 0, len(calls)), done: make(chan struct{})}
 	b.mtx.Lock()
 	defer b.mtx.Unlock()
-	t.now = b.now()
+	t.now, t.queued = b.now(), time.Now()
 	if b.err != nil || b.closing || len(calls) == 0 {
 		if t.err = b.err; b.closing {
 			t.err = errClosed
@@ -157,7 +161,7 @@ func (b *board) read(out *bufio.Reader) {
 	for {
 		line, err := out.ReadBytes('\n')
 		if err != nil {
-			b.fail(fmt.Errorf("the board ended: %v", err))
+			b.fail(fmt.Errorf("the board ended: %w", err))
 			b.cmd.Wait()
 			return
 		}

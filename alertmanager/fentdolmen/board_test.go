@@ -4,6 +4,7 @@ import (
 	"encoding/json"
 	"errors"
 	"fmt"
+	"syscall"
 	"testing"
 	"time"
 
@@ -72,10 +73,18 @@ func TestAnswersComeInOrder(t *testing.T) {
 	}
 }
 
+// TestCtrlCIsForTheProgram: the terminal sends its signal to all processes of the program's group.
+func TestCtrlCIsForTheProgram(t *testing.T) {
+	b, _ := open(t, fake(t, "usual"), 10*time.Second)
+	if group, err := syscall.Getpgid(b.cmd.Process.Pid); err != nil || group == syscall.Getpgrp() {
+		t.Errorf("the board is in the group %d, %v", group, err)
+	}
+}
+
 func TestClosedBoard(t *testing.T) {
 	b, ended := open(t, realBoard(t), 10*time.Second)
 	b.close()
-	if err := b.ask(nextDueCall(), nil); err != errClosed {
+	if err := b.ask(nextDueCall(), nil); !errors.Is(err, errClosed) {
 		t.Error(err)
 	}
 	select {

@@ -66,13 +66,13 @@ func reportCall(ticket int64, integration int, outcome string) call {
 	return call{name: "report", args: []byte(args), answers: []string{"reported"}}
 }
 
-// noteCall logs the success of a notice that is reported delivered.
+// noteCall logs the success of a notice that is reported delivered. The answer has its row.
 func noteCall(ticket int64, integration int) call {
 	args := fmt.Sprintf(`"ticket":%d,"integration":%d`, ticket, integration)
 	return call{name: "note", timed: true, args: []byte(args), answers: []string{"noted"}}
 }
 
-// finishCall ends a flush, and logs the successes that weren't noted.
+// finishCall ends a flush, and logs the successes that weren't noted. The answer has their rows.
 func finishCall(ticket int64) call {
 	return call{name: "finish", timed: true, args: strconv.AppendInt([]byte(`"ticket":`), ticket, 10), answers: []string{"finished"}}
 }

@@ -13,8 +13,8 @@ import (
 type clock struct {
 	// wall and steady are the clocks of the machine, in milliseconds. steady counts from anywhere, and also while the machine sleeps.
 	wall, steady func() int64
-	origin       int64 // the board's time when steady was 0
-	held         int64 // the offset that is in use
+	origin       int64        // the board's time when steady was 0
+	held         atomic.Int64 // the offset that is in use
 }
 
 // newClock starts at the present time of the wall clock.
@@ -31,9 +31,9 @@ const drift = 250
 
 // offset is what a time of the wall clock lacks to be one of the board.
 func (c *clock) offset() int64 {
-	held, present := atomic.LoadInt64(&c.held), c.now()-c.wall()
+	held, present := c.held.Load(), c.now()-c.wall()
 	if present-held > drift || held-present > drift {
-		atomic.StoreInt64(&c.held, present)
+		c.held.Store(present)
 		return present
 	}
 	return held

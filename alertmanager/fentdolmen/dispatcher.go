@@ -56,6 +56,7 @@ type dispatcher struct {
 	mtx     sync.RWMutex
 	current *session
 	down    error // why there is no board, if one ended
+	counted summary
 	// known has the last of each label set, with its annotations. refused are the alerts that the board rejected.
 	known   map[model.Fingerprint]*types.Alert
 	refused map[model.Fingerprint]struct{}
@@ -153,27 +154,47 @@ func (d *dispatcher) run() {
 
 // flushDue begins all that is due, and returns how long nothing else will be.
 func (d *dispatcher) flushDue() time.Duration {
+	for count := 1; !d.isStopped(); {
+		began := time.Now()
+		if wait, goesOn := d.flushSome(count); !goesOn {
+			return wait
+		}
+		if time.Since(began) > beginsWithin {
+			count = 1
+		} else {
+			count = atMost(2*count, mostBegins)
+		}
+	}
+	return longest
+}
+
+// flushSome begins so many flushes at most if one is due, and returns whether others can follow at once. It holds `flushing` for these
+// alone: where something is always due, a reload that waits for it comes next all the same.
+func (d *dispatcher) flushSome(count int) (wait time.Duration, goesOn bool) {
 	d.flushing.Lock()
 	defer d.flushing.Unlock()
 	s := d.session()
 	if s == nil {
-		return longest
+		return longest, false
 	}
-	for !d.isStopped() {
-		var next nextDue
-		if s.board.ask(nextDueCall(), &next) != nil || next.At == nil {
-			return longest
-		}
-		if wait := d.clock.until(*next.At); wait > longest {
-			return longest
-		} else if wait > 0 {
-			return wait
-		}
-		if !d.begin(s) {
-			return longest
-		}
+	var next nextDue
+	if s.board.ask(nextDueCall(), &next) != nil || next.At == nil {
+		return longest, false
 	}
-	return longest
+	if wait := d.clock.until(*next.At); wait > longest {
+		return longest, false
+	} else if wait > 0 {
+		return wait, false
+	}
+	return longest, d.begin(s, count)
+}
+
+// atMost is a number, or the bound if that is less.
+func atMost(number, bound int) int {
+	if number > bound {
+		return bound
+	}
+	return number
 }
 
 // isStopped returns whether close was called.
@@ -186,26 +207,39 @@ func (d *dispatcher) isStopped() bool {
 	}
 }
 
-// begin begins a flush. It returns whether another one can follow at once.
-func (d *dispatcher) begin(s *session) bool {
-	c := beginCall()
-	answers, err := s.board.submit(c).wait()
+// mostBegins is how many flushes are begun at a time where many are due: two processes that wake each other for each one take longer for
+// that than for the flush. Where nothing else is due, a call for another flush changes nothing. The success of a notification waits behind
+// them to be logged: a board that takes longer than beginsWithin gets one at a time.
+const mostBegins, beginsWithin = 32, 2 * time.Millisecond
+
+// begin begins so many flushes at most. It returns whether it did anything: then others can be due at once, or soon.
+func (d *dispatcher) begin(s *session, count int) bool {
+	calls := make([]call, count)
+	for i := range calls {
+		calls[i] = beginCall()
+	}
+	answers, err := s.board.submit(calls...).wait()
 	if err != nil {
 		return false
 	}
-	line := answers[0]
-	switch {
-	case bytes.HasPrefix(line, flushField):
-		d.isHeldUp = false
-		s.sending.Add(1)
-		go d.send(s, c, line)
-		return true
-	case bytes.HasPrefix(line, quietField):
-		return true
-	case bytes.HasPrefix(line, errorField):
-		return d.beginRejected(s, s.board.decode(c, line, nil))
+	hasBegun := false
+	var rejected error
+	for i, line := range answers {
+		switch {
+		case bytes.HasPrefix(line, flushField):
+			d.isHeldUp, hasBegun = false, true
+			s.sending.Add(1)
+			go d.send(s, calls[i], line)
+		case bytes.HasPrefix(line, quietField):
+			hasBegun = true
+		case bytes.HasPrefix(line, errorField):
+			rejected = s.board.decode(calls[i], line, nil)
+		}
 	}
-	return false
+	if rejected != nil {
+		return d.beginRejected(s, rejected)
+	}
+	return hasBegun
 }
 
 // beginRejected makes room for the history, which makes another try worth while. Without memory the group stays due.

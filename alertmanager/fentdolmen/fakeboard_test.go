@@ -20,6 +20,8 @@ import (
 //   - `unnamed`: it doesn't name the routes
 //   - `unopened`: it ends at its configuration
 //   - `mute`: it answers nothing after its configuration
+//   - `due`, `slow`: fakeDue groups are due, and its summary counts flushes that were finished; `slow` takes its time to begin each
+//   - `always`: as `due`, without an end
 //   - `counts`, `old`: its summary counts calls, and `old` doesn't know the one that removes empty groups alone
 type fakeBoard struct {
 	how string
@@ -54,6 +56,11 @@ func (f *fakeBoard) answer(name string, args json.RawMessage) (string, bool) {
 	if f.how == "mute" && name != "alertmanager" && name != "remove_empty_groups" {
 		time.Sleep(time.Minute)
 	}
+	if f.how == "due" || f.how == "slow" || f.how == "always" {
+		if answer, ok := f.due(name); ok {
+			return answer, true
+		}
+	}
 	switch name {
 	case "alertmanager":
 		return f.open(args), f.how != "unopened"
@@ -84,6 +91,31 @@ func (f *fakeBoard) answer(name string, args json.RawMessage) (string, bool) {
 		}
 	}
 	return usual, true
+}
+
+// fakeDue groups are due, and another one some time later.
+const fakeDue, fakeNext = 100, 300 * time.Millisecond
+
+// due is a board with groups that are due, each without a notice.
+func (f *fakeBoard) due(name string) (string, bool) {
+	left := fakeDue - f.calls["begin"]
+	if f.how == "always" {
+		left = fakeDue
+	}
+	switch {
+	case name == "next_due" && left > 0:
+		return `{"next_due":{"at":0}}`, true
+	case name == "next_due":
+		return fmt.Sprintf(`{"next_due":{"at":%d}}`, time.Now().Add(fakeNext).UnixMilli()), true
+	case name == "begin" && left >= 0: // (this one counts)
+		if f.how == "slow" {
+			time.Sleep(2 * beginsWithin)
+		}
+		return fmt.Sprintf(`{"flush":{"ticket":%d,"group":{"route":"route 0","labels":{}},"receiver":"team","deadline":0,"notices":[]}}`, left), true
+	case name == "summary":
+		return fmt.Sprintf(`{"summary":{"groups":%d,"entries":%d}}`, f.calls["finish"], f.calls["begin"]), true
+	}
+	return "", false
 }
 
 // fault is a refusal of this kind.

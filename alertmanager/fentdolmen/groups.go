@@ -50,20 +50,45 @@ func (d *dispatcher) Groups(hasRoute func(*dispatch.Route) bool, hasAlert func(*
 
 // knownOf is the alerts as they were inserted last.
 func (d *dispatcher) knownOf(alerts []boardAlert) (out []*types.Alert) {
+	names := make([]model.Fingerprint, len(alerts)) // (computed before the lock)
+	for i, b := range alerts {
+		names[i] = b.Labels.Fingerprint()
+	}
 	d.mtx.RLock()
 	defer d.mtx.RUnlock()
-	for _, b := range alerts {
-		if a, ok := d.known[b.Labels.Fingerprint()]; ok {
+	for _, name := range names {
+		if a, ok := d.known[name]; ok {
 			out = append(out, a)
 		}
 	}
 	return out
 }
 
-// summary is what the board counts. Without a board all is 0.
+// summaryWithin is how long the metrics wait for the board.
+const summaryWithin = time.Second
+
+// summary is what the board counts, or what it counted last if it doesn't answer in time: the metrics that say what is wrong mustn't wait
+// for it. Without a board all is 0.
 func (d *dispatcher) summary() (out summary) {
-	if s := d.session(); s != nil {
-		s.board.ask(summaryCall(), &out)
+	s := d.session()
+	if s == nil {
+		return out
 	}
+	c := summaryCall()
+	t, timer := s.board.submit(c), time.NewTimer(summaryWithin)
+	defer timer.Stop()
+	select {
+	case <-t.done:
+	case <-timer.C:
+		d.mtx.RLock()
+		defer d.mtx.RUnlock()
+		return d.counted
+	}
+	if t.err != nil || s.board.decode(c, t.answers[0], &out) != nil {
+		return summary{}
+	}
+	d.mtx.Lock()
+	defer d.mtx.Unlock()
+	d.counted = out
 	return out
 }

@@ -12,8 +12,9 @@ type room struct {
 	last map[string]time.Time
 }
 
-// makeRoom does what can help against these refusals, at most every ten seconds. It returns whether anything was done.
-func (d *dispatcher) makeRoom(s *session, kinds map[string]bool) bool {
+// makeRoom does what can help against these refusals of calls that were queued then, at most every ten seconds. It returns whether
+// anything was done since, also for another request: then they are worth another try.
+func (d *dispatcher) makeRoom(s *session, kinds map[string]bool, queued time.Time) bool {
 	done := false
 	for kind, remedy := range map[string]func(){
 		tooManyNames:    func() { d.try(s, forgetCall()) },
@@ -25,6 +26,7 @@ func (d *dispatcher) makeRoom(s *session, kinds map[string]bool) bool {
 			remedy()
 			done = true
 		}
+		done = done || kinds[kind] && d.room.wasSince(kind, queued)
 	}
 	return done
 }
@@ -43,9 +45,16 @@ func (r *room) isTime(kind string) bool {
 	return true
 }
 
+// wasSince returns whether there was a removal for this kind of refusal since then.
+func (r *room) wasSince(kind string, then time.Time) bool {
+	r.mtx.Lock()
+	defer r.mtx.Unlock()
+	return r.last[kind].After(then)
+}
+
 // culprits knows the inserts and silences at which boards ended. Those of a line with several are suspects: each is tried alone from then
 // on. After two boards that ended at one alone it is kept from the next ones, so that no request can end all of them. After an hour it is
-// tried again: a machine that stands still can end boards too.
+// tried again: a machine that stops for a while can end boards too.
 type culprits struct {
 	mtx   sync.Mutex
 	known map[string]suspicion

@@ -39,12 +39,53 @@ func TestAtALimitWhatIsOverIsRemoved(t *testing.T) {
 			}
 			if how == "names" {
 				d.forget(d.session())
+			} else {
+				d.removeGroups(d.session())
 			}
 			d.lookAgain(d.session())
 			if len(d.refused) != 0 {
 				t.Error("they aren't tried again")
 			}
 		})
+	}
+}
+
+// TestManyRejectedAlertsHaveAShortError: in the answer and in the log.
+func TestManyRejectedAlertsHaveAShortError(t *testing.T) {
+	d := testDispatcher(t, fake(t, "names"), oneReceiver)
+	d.room.isTime(tooManyNames) // (the last removal was just now)
+	var all []*types.Alert
+	for i := 0; i < 2000; i++ {
+		all = append(all, alert(fmt.Sprint("alertname=", i)))
+	}
+	err := dispatched{d.alerts, d}.Put(all...)
+	if err == nil || len(err.Error()) > 2000 || !strings.Contains(err.Error(), "and 1987 others") {
+		t.Errorf("%.3000v", err)
+	}
+	if len(d.refused) != 1997 {
+		t.Errorf("%d alerts wait", len(d.refused))
+	}
+}
+
+// TestARequestIsTriedAgainAfterTheRemovalForAnother: it was queued before that, and rejected.
+func TestARequestIsTriedAgainAfterTheRemovalForAnother(t *testing.T) {
+	d := testDispatcher(t, fake(t, "names"), oneReceiver)
+	s, put := d.session(), dispatched{d.alerts, d}
+	if err := put.Put(alert("alertname=1"), alert("alertname=2"), alert("alertname=3")); err != nil {
+		t.Fatal(err)
+	}
+	_, queued, err := put.store([]*types.Alert{alert("alertname=4")})
+	if err != nil {
+		t.Fatal(err)
+	}
+	if err := put.Put(alert("alertname=5")); err != nil {
+		t.Error("the first request at the limit: ", err)
+	}
+	if err := d.settle(s, queued); err != nil {
+		t.Error("the second one: ", err)
+	}
+	if _, queued, _ = put.store([]*types.Alert{alert("alertname=6"), alert("alertname=7")}); d.settle(s, queued) == nil {
+		t.Error("it isn't too early for another removal")
 	}
 }
 
@@ -166,10 +207,10 @@ func TestSuspicionsEnd(t *testing.T) {
 // TestAFullHistoryIsTaken: a flush that the board can't begin for its history is begun after that was taken.
 func TestAFullHistoryIsTaken(t *testing.T) {
 	d := testDispatcher(t, fake(t, "full"), oneReceiver)
-	if !d.begin(d.session()) {
+	if !d.begin(d.session(), 3) {
 		t.Error("the flush isn't tried again at once")
 	}
-	if d.begin(d.session()) { // (nothing is due)
+	if d.begin(d.session(), 3) { // (nothing is due)
 		t.Error("it goes on without an end")
 	}
 	if got := testutil.ToFloat64(d.metrics.refused.WithLabelValues("begin", historyFull)); got != 1 {

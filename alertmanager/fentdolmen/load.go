@@ -12,7 +12,7 @@ import (
 	"github.com/prometheus/alertmanager/types"
 )
 
-// mostCalls is how many calls are queued at a time, so that what comes between doesn't wait for all.
+// mostCalls is how many calls a batch has where there are many.
 const mostCalls = 500
 
 // load begins a session with a configuration. With an error nothing has changed, and the old session goes on.
@@ -43,6 +43,7 @@ func (d *dispatcher) replace(old *session, p *plan, mark func(model.LabelSet)) e
 	d.mirror.reset()
 	// Most rows come before alerts have to wait. Those that peers send meanwhile are in the logbook, and come after.
 	later := d.loadRows(next, 0)
+	go d.cleanUp(next, tick)
 	inserts, err := d.fill(next)
 	d.loadRows(next, later)
 	d.syncSilences(next)
@@ -110,19 +111,24 @@ func (d *dispatcher) fill(s *session) ([]inserts, error) {
 // returns the number for the next time.
 func (d *dispatcher) loadRows(s *session, since int64) int64 {
 	lines, next := d.book.lines(since)
-	calls, loaded := d.loadCalls(s, lines), 0
-	for len(calls) > 0 {
-		some := calls
-		if len(some) > mostCalls {
-			some = some[:mostCalls]
-		}
-		calls = calls[len(some):]
-		loaded += d.checkAll(s, s.board.submit(some...), "row of the log not taken over")
+	loaded := 0
+	for _, t := range d.submitRows(s, lines) {
+		loaded += d.checkAll(s, t, "row of the log not taken over")
 	}
 	if len(lines) > 0 {
 		level.Info(d.logger).Log("msg", "notification log taken over", "rows", len(lines), "loaded", loaded)
 	}
 	return next
+}
+
+// submitRows queues the calls that load these lines of the logbook, mostCalls at a time.
+func (d *dispatcher) submitRows(s *session, lines [][]byte) (out []*batch) {
+	for calls := d.loadCalls(s, lines); len(calls) > 0; {
+		some := calls[:atMost(len(calls), mostCalls)]
+		calls = calls[len(some):]
+		out = append(out, s.board.submit(some...))
+	}
+	return out
 }
 
 // loadCalls is the calls that load these lines of the logbook.
@@ -167,18 +173,19 @@ func (d *dispatcher) isHistoryLong() {
 // broken begins a new session with the same configuration in place of the one whose board ended. A board that ended before it had a
 // session is only counted: who opened it sees to that.
 func (d *dispatcher) broken(b *board, fault error) {
-	d.metrics.restarts.Inc()
 	d.culprits.add(b.culprits, time.Now())
 	d.loading.Lock()
 	defer d.loading.Unlock()
 	s := d.session()
 	if s == nil || s.board != b {
+		d.metrics.restarts.Inc()
 		return
 	}
 	level.Error(d.logger).Log("msg", "the board is gone: a new one goes on from the notification log", "err", fault)
 	d.mtx.Lock()
 	d.down = fault
 	d.mtx.Unlock()
+	d.metrics.restarts.Inc() // (after it is said that there is none: who saw it counted, and then a board, saw the new one)
 	for wait := 100 * time.Millisecond; ; wait *= 2 {
 		if d.isStopped() {
 			return

@@ -8,7 +8,6 @@ import (
 	"io"
 	"os"
 	"path/filepath"
-	"sync"
 	"time"
 
 	"github.com/go-kit/log"
@@ -36,10 +35,7 @@ type logFile struct {
 	dirty chan *os.File
 	stop  chan struct{}
 	ended chan struct{}
-
-	mtx   sync.Mutex
-	fault error
-	since time.Time
+	saved
 }
 
 // openLogFile reads the file into the logbook, and drops a last line that is torn.
@@ -54,7 +50,6 @@ func openLogFile(path string, book *logbook, now func() int64, logger log.Logger
 	if torn := len(text) - int(f.good); torn > 0 {
 		level.Warn(f.logger).Log("msg", "the last line of the notification log is torn: dropped", "bytes", torn)
 	}
-	removeParts(path)
 	rows, bad := decodeRows(bytes.SplitAfter(text[:f.good], []byte("\n")))
 	if bad > 1 { // (behind the last line feed there is an empty line)
 		level.Error(f.logger).Log("msg", "lines of the notification log aren't rows: dropped", "lines", bad-1)
@@ -80,39 +75,17 @@ func (f *logFile) cut() error {
 	return err
 }
 
-// state is what is wrong with the file, and since when. Without a fault it is nil.
-func (f *logFile) state() (error, time.Time) {
-	f.mtx.Lock()
-	defer f.mtx.Unlock()
-	return f.fault, f.since
-}
-
-// isFailed returns whether the last attempt to write or sync failed.
-func (f *logFile) isFailed() bool {
-	fault, _ := f.state()
-	return fault != nil
-}
-
-// failed counts and logs a fault. Its time is that of the first one in a row.
+// failed notes, counts and logs a fault.
 func (f *logFile) failed(err error) {
-	f.mtx.Lock()
-	if f.fault == nil {
-		f.since = time.Now()
-	}
-	f.fault = err
-	f.mtx.Unlock()
+	f.fail(err)
 	f.faults()
 	level.Error(f.logger).Log("msg", "notification log not saved: after a restart, notifications can come again", "err", err)
 }
 
 // mended ends a fault, if there was one.
 func (f *logFile) mended() {
-	f.mtx.Lock()
-	wasFailed := f.fault != nil
-	f.fault = nil
-	f.mtx.Unlock()
 	f.retry = retryFirst
-	if wasFailed {
+	if f.mend() {
 		level.Info(f.logger).Log("msg", "notification log saved")
 	}
 }
@@ -204,9 +177,10 @@ func (f *logFile) shorten() time.Duration {
 	return shortenEvery
 }
 
-// replaceFile puts a file with this text in place of the one of this name, so that at any time one of both is there whole.
+// replaceFile puts a file with this text in place of the one of this name, so that at any time one of both is there whole. A path has one
+// writer at a time: the new file always has the same name, so that one that a killed process left behind is overwritten.
 func replaceFile(path string, text []byte) (*os.File, error) {
-	file, err := os.CreateTemp(filepath.Dir(path), filepath.Base(path)+".*")
+	file, err := os.OpenFile(path+".part", os.O_CREATE|os.O_TRUNC|os.O_RDWR, 0o666)
 	if err != nil {
 		return nil, err
 	}
@@ -222,15 +196,11 @@ func replaceFile(path string, text []byte) (*os.File, error) {
 		os.Remove(file.Name())
 		return nil, err
 	}
-	return file, syncFolder(filepath.Dir(path))
-}
-
-// removeParts removes the new files that a killed process left behind.
-func removeParts(path string) {
-	parts, _ := filepath.Glob(path + ".*")
-	for _, it := range parts {
-		os.Remove(it)
+	if err := syncFolder(filepath.Dir(path)); err != nil {
+		file.Close()
+		return nil, err
 	}
+	return file, nil
 }
 
 // syncFolder has a rename in the folder reach the disk.

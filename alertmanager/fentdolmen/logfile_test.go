@@ -80,6 +80,8 @@ func TestTheLastLineCounts(t *testing.T) {
 
 func TestRowsAreWrittenAndTheFileIsShortened(t *testing.T) {
 	path := filepath.Join(t.TempDir(), "log")
+	os.WriteFile(path+".part", []byte("of a killed process, and longer than the rows"), 0o666)
+	os.WriteFile(path+".old", nil, 0o666)
 	f, _ := openedFile(t, path)
 	go f.run()
 	f.book.put(kept("over", 1, 900), 0)
@@ -91,8 +93,8 @@ func TestRowsAreWrittenAndTheFileIsShortened(t *testing.T) {
 	if text := textOf(path); text != string(lineOf(kept("A", 2, 5000))) {
 		t.Errorf("%q", text)
 	}
-	if parts, _ := filepath.Glob(path + ".*"); len(parts) > 0 {
-		t.Error(parts)
+	if others, _ := filepath.Glob(path + ".*"); len(others) != 1 || others[0] != path+".old" {
+		t.Error("beside it there are ", others)
 	}
 }
 

@@ -4,6 +4,7 @@ package main
 
 import (
 	"context"
+	"errors"
 	"fmt"
 	"net/http"
 	"os"
@@ -42,7 +43,8 @@ func run(args []string) int {
 		fmt.Fprintf(os.Stderr, "fentdolmen: %v; --help lists the options\n", err)
 		return 1
 	}
-	p := &program{options: o, logger: promlog.New(&o.log), reg: prometheus.DefaultRegisterer}
+	p := &program{options: o, logger: promlog.New(&o.log), reg: prometheus.DefaultRegisterer, hup: make(chan os.Signal, 1)}
+	signal.Notify(p.hup, syscall.SIGHUP) // (from here on: a reload that comes during the start mustn't end the program)
 	level.Info(p.logger).Log("msg", "starting", "version", version.Info())
 	defer p.close()
 	if err := p.build(); err != nil {
@@ -72,6 +74,7 @@ type program struct {
 	inhibitor   *inhibit.Inhibitor
 	api         *api.API
 	coordinator *config.Coordinator
+	hup         chan os.Signal
 	closers     []func()
 }
 
@@ -112,7 +115,7 @@ func (p *program) buildSilences() (err error) {
 	go p.saver.run()
 	p.closing(p.saver.close)
 	go func() {
-		p.silences.Maintenance(p.maintenance, path, stop, nil)
+		p.silences.Maintenance(p.maintenance, "", stop, p.saver.maintain)
 		close(stopped)
 	}()
 	p.closing(func() {
@@ -140,7 +143,7 @@ func (p *program) buildDispatcher() error {
 	p.closing(history.close)
 	p.dispatcher = newDispatcher(p.options, p.metrics, notify.NewMetrics(p.reg), p.silences, book, history, clock, p.logger)
 	p.closing(p.dispatcher.close)
-	p.metrics.watch(p.reg, p.dispatcher, file)
+	p.metrics.watch(p.reg, p.dispatcher, file, p.saver)
 	p.alerts, err = mem.NewAlerts(context.Background(), p.marker, p.alertGC, p.dispatcher, p.logger, p.reg)
 	if err != nil {
 		return err
@@ -252,18 +255,17 @@ func (p *program) serve() int {
 	}
 	p.prefix = "/" + strings.Trim(p.prefix, "/")
 	reload, served := make(chan chan error), make(chan error, 1)
-	silences := &trial{program: p.board, now: p.dispatcher.clock.now}
+	silences := &trial{program: p.board, now: p.dispatcher.clock.now, count: p.dispatcher.count}
 	defer silences.close()
-	server := newServer(p.api, p.options, p.metrics, reload, readiness(p.dispatcher, p.file), silences, p.logger)
+	server := newServer(p.api, p.options, p.metrics, reload, readiness(p.dispatcher, p.file, p.saver), silences, p.logger)
 	go func() { served <- web.ListenAndServe(server, p.options.web, p.logger) }()
 	defer server.Close()
-	hup, term := make(chan os.Signal, 1), make(chan os.Signal, 1)
-	signal.Notify(hup, syscall.SIGHUP)
+	term := make(chan os.Signal, 1)
 	signal.Notify(term, os.Interrupt, syscall.SIGTERM)
-	go p.reloads(hup, reload)
+	go p.reloads(reload)
 	select {
 	case err := <-served:
-		if err != http.ErrServerClosed {
+		if !errors.Is(err, http.ErrServerClosed) {
 			level.Error(p.logger).Log("msg", "not listening", "err", err)
 		}
 		return 1
@@ -274,10 +276,10 @@ func (p *program) serve() int {
 }
 
 // reloads reads the configuration again for each signal and request. Errors are logged, and go to who requested it.
-func (p *program) reloads(hup chan os.Signal, requests chan chan error) {
+func (p *program) reloads(requests chan chan error) {
 	for {
 		select {
-		case <-hup:
+		case <-p.hup:
 			p.coordinator.Reload()
 		case answer := <-requests:
 			answer <- p.coordinator.Reload()

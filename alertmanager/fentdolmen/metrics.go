@@ -48,25 +48,41 @@ func (m *metrics) failure(file string) func() {
 	return m.unsaved.WithLabelValues(file).Inc
 }
 
-// watch adds the gauges that ask the board and the log.
-func (m *metrics) watch(reg prometheus.Registerer, d *dispatcher, file *logFile) {
+// watch adds the gauges that ask the board and the files.
+func (m *metrics) watch(reg prometheus.Registerer, d *dispatcher, file *logFile, silences *silenceSaver) {
 	gauge := func(name, help string, value func() float64) {
 		reg.MustRegister(prometheus.NewGaugeFunc(prometheus.GaugeOpts{Name: name, Help: help}, value))
 	}
-	gauge("alertmanager_dispatcher_aggregation_groups", "Number of active aggregation groups",
-		func() float64 { return float64(d.summary().Groups) })
-	gauge("fentdolmen_log_entries", "Rows of the board's notification log.", func() float64 { return float64(d.summary().Entries) })
-	gauge("fentdolmen_open_flushes", "Flushes that are being sent.", func() float64 { return float64(d.summary().Flushes) })
-	gauge("fentdolmen_log_saved", "Whether the notification log is on the disk.", func() float64 {
-		if file.isFailed() {
-			return 0
-		}
+	reg.MustRegister(counts{d.summary})
+	gauge("fentdolmen_log_saved", "Whether the notification log is on the disk.", func() float64 { return oneIf(!file.isFailed()) })
+	gauge("fentdolmen_silences_saved", "Whether the silences are on the disk.", func() float64 { return oneIf(!silences.isFailed()) })
+	gauge("fentdolmen_board_up", "Whether there is a board.", func() float64 { return oneIf(d.isDown() == nil) })
+}
+
+// counts collects what the board counts: one question to it answers all of a scrape.
+type counts struct{ summary func() summary }
+
+var (
+	groupsDesc  = prometheus.NewDesc("alertmanager_dispatcher_aggregation_groups", "Number of active aggregation groups", nil, nil)
+	entriesDesc = prometheus.NewDesc("fentdolmen_log_entries", "Rows of the board's notification log.", nil, nil)
+	flushesDesc = prometheus.NewDesc("fentdolmen_open_flushes", "Flushes that are being sent.", nil, nil)
+)
+
+// Describe implements prometheus.Collector.
+func (c counts) Describe(out chan<- *prometheus.Desc) { prometheus.DescribeByCollect(c, out) }
+
+// Collect implements prometheus.Collector.
+func (c counts) Collect(out chan<- prometheus.Metric) {
+	s := c.summary()
+	for desc, value := range map[*prometheus.Desc]int64{groupsDesc: s.Groups, entriesDesc: s.Entries, flushesDesc: s.Flushes} {
+		out <- prometheus.MustNewConstMetric(desc, prometheus.GaugeValue, float64(value))
+	}
+}
+
+// oneIf is a flag as a metric.
+func oneIf(is bool) float64 {
+	if is {
 		return 1
-	})
-	gauge("fentdolmen_board_up", "Whether there is a board.", func() float64 {
-		if d.isDown() != nil {
-			return 0
-		}
-		return 1
-	})
+	}
+	return 0
 }

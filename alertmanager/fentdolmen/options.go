@@ -119,19 +119,28 @@ func (o *options) times() []timeOption {
 	}
 }
 
-// usualBoard is AM_DISPATCH, or the first that is there beside this program, or what the shell would find.
+// usualBoard is AM_DISPATCH, or the first that is there beside this program or where packages have it, or what the shell would find.
 func usualBoard() string {
 	if named := os.Getenv("AM_DISPATCH"); named != "" {
 		return named
 	}
-	const name = "fentdolmen-board"
 	if self, err := os.Executable(); err == nil {
-		for _, it := range []string{name, "am_dispatch"} {
-			path := filepath.Join(filepath.Dir(self), it)
-			if _, err := os.Stat(path); err == nil {
-				return path
-			}
+		if path := boardNear(filepath.Dir(self)); path != "" {
+			return path
 		}
 	}
-	return name
+	return boardName
+}
+
+const boardName = "fentdolmen-board"
+
+// boardNear is the first board that is there for a program in this folder, or nothing.
+func boardNear(folder string) string {
+	for _, it := range []string{boardName, "am_dispatch", "../lib/fentdolmen/am-dispatch"} {
+		path := filepath.Join(folder, it)
+		if _, err := os.Stat(path); err == nil {
+			return path
+		}
+	}
+	return ""
 }

@@ -24,12 +24,17 @@ func TestTheUsualBoard(t *testing.T) {
 	if usualBoard() != "/x" {
 		t.Error(usualBoard())
 	}
-	t.Setenv("AM_DISPATCH", "")
-	self, _ := os.Executable()
-	beside := filepath.Join(filepath.Dir(self), "am_dispatch")
-	os.WriteFile(beside, nil, 0o777)
-	defer os.Remove(beside)
-	if usualBoard() != beside {
-		t.Error(usualBoard())
+	folder := filepath.Join(t.TempDir(), "bin")
+	if boardNear(folder) != "" {
+		t.Error(boardNear(folder))
+	}
+	// (the first of these that is there counts)
+	for _, it := range []string{"../lib/fentdolmen/am-dispatch", "am_dispatch", boardName} {
+		path := filepath.Join(folder, it)
+		os.MkdirAll(filepath.Dir(path), 0o777)
+		os.WriteFile(path, nil, 0o777)
+		if boardNear(folder) != path {
+			t.Error(boardNear(folder), " and not ", path)
+		}
 	}
 }

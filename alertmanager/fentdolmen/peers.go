@@ -56,22 +56,26 @@ func (g gossiped) MarshalBinary() ([]byte, error) {
 	return bytes.Join(lines, nil), nil
 }
 
-// Merge takes rows of a peer over: the later one of each is kept.
+// Merge takes rows of a peer over: the later one of each is kept. The board gets them without a wait: what it hears later comes after them.
 func (g gossiped) Merge(message []byte) error {
 	rows, bad := decodeRows(bytes.Split(bytes.TrimSuffix(message, []byte("\n")), []byte("\n")))
 	if bad > 0 && len(message) > 0 {
 		level.Error(g.d.logger).Log("msg", "a peer sent rows that can't be read", "rows", bad)
 	}
-	s := g.d.session()
+	var lines [][]byte
 	for _, k := range rows {
-		if !g.d.book.merge(k, g.d.clock.now()) {
-			continue
+		if g.d.book.merge(k, g.d.clock.now()) {
+			lines = append(lines, lineOf(k))
 		}
-		if s != nil {
-			g.d.place(s, k)
+	}
+	if !cluster.OversizedMessage(message) { // (a larger one is sent to all peers at once)
+		for _, line := range lines {
+			g.d.cluster.broadcast(line)
 		}
-		if !cluster.OversizedMessage(message) { // (a larger one is sent to all peers at once)
-			g.d.cluster.broadcast(lineOf(k))
+	}
+	if s := g.d.session(); s != nil {
+		for _, t := range g.d.submitRows(s, lines) {
+			go g.d.checkAll(s, t, "row of a peer not taken over")
 		}
 	}
 	return nil

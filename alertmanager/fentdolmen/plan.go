@@ -33,19 +33,21 @@ type plan struct {
 type routeNames struct {
 	routes map[string]*dispatch.Route
 	names  map[routeID][]string
+	ids    map[*dispatch.Route]routeID // (a key is put together from all matchers above a route: each is computed once)
 }
 
 type routeID struct{ key, receiver string }
 
 // nameRoutes takes the names that a board answered when it was opened: the root first, and each route before those below it.
 func nameRoutes(root *dispatch.Route, answered []string) (routeNames, error) {
-	out := routeNames{map[string]*dispatch.Route{}, map[routeID][]string{}}
+	out := routeNames{map[string]*dispatch.Route{}, map[routeID][]string{}, map[*dispatch.Route]routeID{}}
 	count := 0
 	root.Walk(func(r *dispatch.Route) {
 		if count < len(answered) {
 			name, id := answered[count], routeID{r.Key(), r.RouteOpts.Receiver}
 			out.routes[name] = r
 			out.names[id] = append(out.names[id], name)
+			out.ids[r] = id
 		}
 		count++
 	})

@@ -37,9 +37,9 @@ func (s *session) keep(r row, offset int64) (keptRow, bool) {
 	if !ok || r.Integration >= len(s.integrations[route.RouteOpts.Receiver]) {
 		return keptRow{}, false
 	}
-	receiver := route.RouteOpts.Receiver
-	i := s.integrations[receiver][r.Integration]
-	return keptRow{route.Key(), r.Group.Labels, receiver, i.Name(), i.Index(), r.Moment - offset, r.Expiry - offset, r.Firing, r.Resolved}, true
+	id := s.ids[route]
+	i := s.integrations[id.receiver][r.Integration]
+	return keptRow{id.key, r.Group.Labels, id.receiver, i.Name(), i.Index(), r.Moment - offset, r.Expiry - offset, r.Firing, r.Resolved}, true
 }
 
 // place is the rows of the board for a kept one: one for each route of its key and receiver, which share it in Alertmanager's log. A

@@ -3,6 +3,7 @@ package main
 
 import (
 	"bytes"
+	"sync/atomic"
 	"time"
 
 	"github.com/go-kit/log"
@@ -11,7 +12,8 @@ import (
 	"github.com/prometheus/alertmanager/silence"
 )
 
-// silenceSaver writes the silences after each change. Those that come while it writes are written together.
+// silenceSaver writes the silences after each change. Those that come while it writes are written together. Nothing else writes the file:
+// what was read before a change could replace what was written after it.
 type silenceSaver struct {
 	silences *silence.Silences
 	path     string
@@ -20,11 +22,14 @@ type silenceSaver struct {
 	wake     chan struct{}
 	stop     chan struct{}
 	ended    chan struct{}
+	size     atomic.Int64 // of the file, in bytes
+	saved
 }
 
 // newSilenceSaver saves to this path. faults counts failures.
 func newSilenceSaver(silences *silence.Silences, path string, logger log.Logger, faults func()) *silenceSaver {
-	return &silenceSaver{silences, path, log.With(logger, "file", path), faults, make(chan struct{}, 1), make(chan struct{}), make(chan struct{})}
+	return &silenceSaver{silences: silences, path: path, logger: log.With(logger, "file", path), faults: faults,
+		wake: make(chan struct{}, 1), stop: make(chan struct{}), ended: make(chan struct{})}
 }
 
 // poke has the silences saved.
@@ -45,6 +50,7 @@ func (s *silenceSaver) run() {
 		case <-s.wake:
 		}
 		if err := s.save(); err != nil {
+			s.fail(err)
 			s.faults()
 			level.Error(s.logger).Log("msg", "silences not saved", "err", err)
 			time.AfterFunc(wait, s.poke)
@@ -53,7 +59,9 @@ func (s *silenceSaver) run() {
 			}
 			continue
 		}
-		wait = retryFirst
+		if wait = retryFirst; s.mend() {
+			level.Info(s.logger).Log("msg", "silences saved")
+		}
 	}
 }
 
@@ -64,10 +72,19 @@ func (s *silenceSaver) save() error {
 		return err
 	}
 	file, err := replaceFile(s.path, out.Bytes())
-	if file != nil {
-		file.Close()
+	if err != nil {
+		return err
 	}
-	return err
+	s.size.Store(int64(out.Len()))
+	return file.Close()
+}
+
+// maintain removes the silences that were over for long enough, and has the others saved. It returns the size of the file, for
+// Alertmanager's metric.
+func (s *silenceSaver) maintain() (int64, error) {
+	_, err := s.silences.GC()
+	s.poke()
+	return s.size.Load(), err
 }
 
 // close saves a last time.

@@ -24,9 +24,6 @@ type sending struct {
 	began time.Time     // by the wall clock
 	begun int64         // in the board's time
 	turn  time.Duration // how long peers go first
-	mtx   sync.Mutex
-	// unlogged are the notices whose success isn't in the log yet: the finish logs them.
-	unlogged []notice
 }
 
 // send sends all notices of a flush, and finishes it.
@@ -45,9 +42,7 @@ func (d *dispatcher) send(s *session, c call, line []byte) {
 	defer cancel()
 	var filled []notice
 	for _, n := range f.Notices {
-		if n.empty() {
-			f.unlogged = append(f.unlogged, n)
-		} else {
+		if !n.empty() {
 			filled = append(filled, n)
 		}
 	}
@@ -127,51 +122,50 @@ func (d *dispatcher) reportFailure(ctx context.Context, f *sending, n notice, er
 	d.try(f.session, reportCall(f.Ticket, n.Integration, outcome))
 }
 
-// reportSuccess reports and notes. What happened is logged, also if the board is gone by then: the next one gets the row.
+// reportSuccess reports and notes, and keeps the row that the board logs. If the board is gone by then, what happened is kept all the
+// same: the next one gets it. Where it isn't noted, the finish logs it.
 func (d *dispatcher) reportSuccess(f *sending, n notice, isOurs bool) {
 	report, note := reportCall(f.Ticket, n.Integration, "delivered"), noteCall(f.Ticket, n.Integration)
 	t := f.board.submit(report, note)
 	answers, err := t.wait()
-	isNoted := err != nil
-	if err == nil {
-		for i, line := range answers {
-			if err := f.board.decode(t.calls[i], line, nil); err != nil {
-				d.count(err)
-				level.Error(d.logger).Log("msg", "success not noted", "err", err)
-			} else {
-				isNoted = i == 1
-			}
-		}
-	}
-	if isNoted {
-		d.keep(f, n, t.now, isOurs)
+	if err != nil {
+		d.keep(f, f.rowOf(n, t.now), isOurs)
 		return
 	}
-	f.mtx.Lock()
-	f.unlogged = append(f.unlogged, n)
-	f.mtx.Unlock()
+	var got noted
+	for i, into := range []interface{}{nil, &got} {
+		if err := f.board.decode(t.calls[i], answers[i], into); err != nil {
+			d.count(err)
+			level.Error(d.logger).Log("msg", "success not noted", "err", err)
+		}
+	}
+	if got.Row != nil {
+		d.keep(f, *got.Row, isOurs)
+	}
 }
 
-// finish ends a flush. It logs, beside what wasn't noted, the notices that had nothing to send.
+// finish ends a flush, and keeps the rows that it logs: of what wasn't noted, and of the notices that had nothing to send.
 func (d *dispatcher) finish(f *sending) {
 	c := finishCall(f.Ticket)
-	t := f.board.submit(c)
-	answers, err := t.wait()
+	answers, err := f.board.submit(c).wait()
+	var got finished
 	if err == nil {
-		err = f.board.decode(c, answers[0], nil)
+		err = f.board.decode(c, answers[0], &got)
 		d.count(err)
 	}
-	if err == nil {
-		for _, n := range f.unlogged {
-			d.keep(f, n, t.now, true)
-		}
+	for _, r := range got.Rows {
+		d.keep(f, r, true)
 	}
 	d.poke()
 }
 
-// keep puts the row of a success into the logbook, and sends it to the peers.
-func (d *dispatcher) keep(f *sending, n notice, moment int64, isOurs bool) {
-	r := row{f.Group, "", n.Integration, n.Kind, moment, expiry(f.route, moment), labelsOf(n.Firing), labelsOf(n.Resolved)}
+// rowOf is the row of a success that no board answered.
+func (f *sending) rowOf(n notice, moment int64) row {
+	return row{f.Group, "", n.Integration, n.Kind, moment, expiry(f.route, moment), labelsOf(n.Firing), labelsOf(n.Resolved)}
+}
+
+// keep puts a row that was logged into the logbook, and sends it to the peers.
+func (d *dispatcher) keep(f *sending, r row, isOurs bool) {
 	offset := d.clock.offset()
 	k, ok := f.session.keep(r, offset)
 	if !ok {

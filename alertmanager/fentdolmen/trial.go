@@ -7,6 +7,7 @@ import (
 	"errors"
 	"io"
 	"net/http"
+	"path"
 	"strings"
 	"sync"
 	"time"
@@ -16,6 +17,7 @@ import (
 type trial struct {
 	program string
 	now     func() int64
+	count   func(error) string // counts a refusal
 
 	mtx   sync.Mutex
 	board *board
@@ -60,10 +62,10 @@ func (t *trial) try(matchers []matcher) error {
 	}
 	err := t.board.ask(silenceCall(0, matchers, 0, 1), nil)
 	var r *refusal
-	if err == nil || errors.As(err, &r) {
+	if err == nil || errors.As(err, &r) && r.Kind != untold {
 		return err
 	}
-	t.board = nil
+	t.board = nil // (it has ended)
 	return errors.New("the board doesn't answer to these matchers in time")
 }
 
@@ -97,7 +99,8 @@ func (t *trial) close() {
 // trying tries each posted silence before the API gets it. What it can't read is left to the API.
 func (t *trial) trying(pages http.Handler) http.Handler {
 	return http.HandlerFunc(func(w http.ResponseWriter, r *http.Request) {
-		isV1, isV2 := strings.HasSuffix(r.URL.Path, "/api/v1/silences"), strings.HasSuffix(r.URL.Path, "/api/v2/silences")
+		cleaned := path.Clean(r.URL.Path) // (as the API's router does)
+		isV1, isV2 := strings.HasSuffix(cleaned, "/api/v1/silences"), strings.HasSuffix(cleaned, "/api/v2/silences")
 		if r.Method != http.MethodPost || !isV1 && !isV2 {
 			pages.ServeHTTP(w, r)
 			return
@@ -110,6 +113,7 @@ func (t *trial) trying(pages http.Handler) http.Handler {
 		var posted postedSilence
 		if json.Unmarshal(body, &posted) == nil && len(posted.Matchers) > 0 {
 			if err := t.try(posted.matchers()); err != nil {
+				t.count(err)
 				rejectSilence(w, isV1, err)
 				return
 			}

@@ -9,7 +9,12 @@ import (
 )
 
 func TestSilencesAreTriedFirst(t *testing.T) {
-	try := &trial{program: realBoard(t), now: testClock().now}
+	refused := 0
+	count := func(error) string {
+		refused++
+		return ""
+	}
+	try := &trial{program: realBoard(t), now: testClock().now, count: count}
 	t.Cleanup(try.close)
 	got := ""
 	server := httptest.NewServer(try.trying(http.HandlerFunc(func(_ http.ResponseWriter, r *http.Request) {
@@ -25,6 +30,8 @@ func TestSilencesAreTriedFirst(t *testing.T) {
 		{"/p/api/v1/silences", `{"matchers":[{"name":"a","value":"b.*","isRegex":true,"isEqual":false}]}`, true},
 		{"/api/v2/silences", `{"matchers":[{"name":"a","value":"(?=b)","isRegex":true}]}`, false},
 		{"/api/v1/silences", `{"matchers":[{"name":"a","value":"` + strings.Repeat("x", 20000) + `"}]}`, false},
+		{"/api/v2/silences/", `{"matchers":[{"name":"a","value":"(?=b)","isRegex":true}]}`, false},
+		{"/api/v2/silences/./", `{"matchers":[{"name":"a","value":"(?=b)","isRegex":true}]}`, false},
 		{"/api/v2/silences", `not JSON`, true}, {"/api/v2/silences", `{"matchers":[]}`, true},
 	} {
 		got = ""
@@ -36,6 +43,9 @@ func TestSilencesAreTriedFirst(t *testing.T) {
 		if (got == it.body) != it.isAccepted || (answer.StatusCode == http.StatusBadRequest) == it.isAccepted {
 			t.Errorf("%.60s is answered %d", it.body, answer.StatusCode)
 		}
+	}
+	if refused != 4 {
+		t.Errorf("%d refusals are counted", refused)
 	}
 }
 

@@ -8,12 +8,30 @@ import (
 	"github.com/go-kit/log/level"
 )
 
-// upkeep removes what is over from the board, as often as Alertmanager does: empty groups every 30 seconds.
+// tick is how often empty groups are removed, and what was rejected is tried again.
+const tick = 30 * time.Second
+
+// cleanUp removes the empty groups of a session, so often from its start on. Alertmanager's dispatcher, a new one at each reload, does it
+// every 30 seconds.
+func (d *dispatcher) cleanUp(s *session, every time.Duration) {
+	groups := time.NewTicker(every)
+	defer groups.Stop()
+	for {
+		select {
+		case <-groups.C:
+			d.removeGroups(s)
+		case <-s.ctx.Done():
+			return
+		}
+	}
+}
+
+// upkeep removes what else is over from the board, as often as Alertmanager does, and tries again what was rejected.
 func (d *dispatcher) upkeep(maintainEvery, forgetEvery time.Duration) {
 	defer d.running.Done()
-	second, groups, maintain, forget := time.NewTicker(time.Second), time.NewTicker(30*time.Second), time.NewTicker(maintainEvery), time.NewTicker(forgetEvery)
+	second, again, maintain, forget := time.NewTicker(time.Second), time.NewTicker(tick), time.NewTicker(maintainEvery), time.NewTicker(forgetEvery)
 	defer second.Stop()
-	defer groups.Stop()
+	defer again.Stop()
 	defer maintain.Stop()
 	defer forget.Stop()
 	for {
@@ -21,7 +39,7 @@ func (d *dispatcher) upkeep(maintainEvery, forgetEvery time.Duration) {
 		select {
 		case <-second.C:
 			work = d.followClock
-		case <-groups.C:
+		case <-again.C:
 			work = d.lookAgain
 		case <-maintain.C:
 			work = func(s *session) { d.try(s, maintainCall()) }
@@ -36,9 +54,8 @@ func (d *dispatcher) upkeep(maintainEvery, forgetEvery time.Duration) {
 	}
 }
 
-// lookAgain removes empty groups, and tries again what was rejected.
+// lookAgain tries again what was rejected.
 func (d *dispatcher) lookAgain(s *session) {
-	d.removeGroups(s)
 	d.retryRefused(s)
 	if d.mirror.catchUp() {
 		d.syncSilences(s)

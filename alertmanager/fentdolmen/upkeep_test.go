@@ -4,6 +4,8 @@ import (
 	"testing"
 	"time"
 
+	"github.com/prometheus/client_golang/prometheus/testutil"
+
 	"github.com/prometheus/alertmanager/types"
 )
 
@@ -15,16 +17,25 @@ func TestUpkeepMakesItsCalls(t *testing.T) {
 	if d.summary().Groups != 0 {
 		t.Error("empty groups are removed more often than every 30 seconds")
 	}
-	d.lookAgain(d.session())
-	if d.summary().Groups != 1 {
-		t.Error("empty groups aren't removed")
-	}
+}
+
+// TestEmptyGroupsGoWhileASessionLasts: after its end no longer.
+func TestEmptyGroupsGoWhileASessionLasts(t *testing.T) {
+	d := testDispatcher(t, fake(t, "counts"), oneReceiver)
+	s, ended := d.session(), make(chan struct{})
+	go func() {
+		d.cleanUp(s, 20*time.Millisecond)
+		close(ended)
+	}()
+	waitFor(t, func() bool { return d.summary().Groups > 1 })
+	s.cancel()
+	<-ended
 }
 
 // TestABoardWithoutACallForGroupsIsMaintained: each 30 seconds, as its empty groups go with expired rows.
 func TestABoardWithoutACallForGroupsIsMaintained(t *testing.T) {
 	d := testDispatcher(t, fake(t, "old"), oneReceiver)
-	if d.lookAgain(d.session()); d.summary().Entries != 1 {
+	if d.removeGroups(d.session()); d.summary().Entries != 1 {
 		t.Error("empty groups aren't removed")
 	}
 }
@@ -47,6 +58,14 @@ func TestNothingWaitsForABoard(t *testing.T) {
 			continue
 		}
 		lock.Unlock()
+	}
+	k, _ := s.keep(row{Group: groupID{Route: "route 0"}, Moment: 1, Expiry: 1 << 60}, 0)
+	if began, err := time.Now(), (gossiped{d}).Merge(lineOf(k)); err != nil || time.Since(began) > 5*time.Second {
+		t.Errorf("a peer's row waits: %v, %v", time.Since(began), err)
+	}
+	d.counted.Groups = 7
+	if began, got := time.Now(), testutil.CollectAndCount(counts{d.summary}); got != 3 || d.summary().Groups != 7 || time.Since(began) > 5*summaryWithin {
+		t.Errorf("%d metrics after %v", got, time.Since(began))
 	}
 	if _, err := d.silences.Set(silenceOf("a")); err != nil {
 		t.Error(err)

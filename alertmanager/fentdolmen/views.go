@@ -50,6 +50,16 @@ type row struct {
 	Resolved    []model.LabelSet `json:"resolved"`
 }
 
+// noted has the row that a note logged.
+type noted struct {
+	Row *row `json:"row"`
+}
+
+// finished has the rows that a finish logged.
+type finished struct {
+	Rows []row `json:"rows"`
+}
+
 type boardGroup struct {
 	Group   groupID      `json:"group"`
 	Due     int64        `json:"due"`

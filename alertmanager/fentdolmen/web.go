@@ -2,6 +2,7 @@
 package main
 
 import (
+	"errors"
 	"fmt"
 	"net"
 	"net/http"
@@ -22,9 +23,10 @@ import (
 )
 
 const (
-	// The header and the whole of a request have to be here in time, and a body has an end.
-	headerWithin, requestWithin = time.Minute, 5 * time.Minute
-	mostBody                    = 64 << 20
+	// The header and the whole of a request have to be here in time, and a body has an end. Its answer has to be read in time: Alertmanager
+	// answers some GET requests at once, and no others while clients don't read.
+	headerWithin, requestWithin, answerWithin = time.Minute, 5 * time.Minute, 6 * time.Minute
+	mostBody                                  = 64 << 20
 )
 
 // newServer serves the API and the user interface below a prefix.
@@ -39,13 +41,17 @@ func newServer(a *api.API, o *options, m *metrics, reload chan chan error, ready
 		router = router.WithPrefix(o.prefix)
 	}
 	ui.Register(router, reload, o.ui)
-	pages := a.Register(router, o.prefix)
-	pages.HandleFunc(strings.TrimSuffix(o.prefix, "/")+"/-/ready", func(w http.ResponseWriter, _ *http.Request) {
+	pages, prefix := a.Register(router, o.prefix), strings.TrimSuffix(o.prefix, "/")
+	// The API answers a few GET requests at once. What watches this program mustn't count as one of them.
+	pages.Handle(prefix+"/metrics", router)
+	pages.Handle(prefix+"/-/healthy", router)
+	pages.HandleFunc(prefix+"/-/ready", func(w http.ResponseWriter, _ *http.Request) {
 		status, text := ready()
 		w.WriteHeader(status)
 		fmt.Fprint(w, text)
 	})
-	return &http.Server{Handler: recovering(http.MaxBytesHandler(t.trying(pages), mostBody), logger), ReadHeaderTimeout: headerWithin, ReadTimeout: requestWithin}
+	return &http.Server{Handler: recovering(http.MaxBytesHandler(t.trying(pages), mostBody), logger), ReadHeaderTimeout: headerWithin,
+		ReadTimeout: requestWithin, WriteTimeout: answerWithin}
 }
 
 // recovering answers a request that the API panics at, such as a list of alerts with a null in it.
@@ -56,6 +62,11 @@ func recovering(pages http.Handler, logger log.Logger) http.Handler {
 			if fault == http.ErrAbortHandler {
 				panic(fault)
 			}
+			var gone *net.OpError
+			if err, ok := fault.(error); ok && errors.As(err, &gone) {
+				level.Debug(logger).Log("msg", "an answer can't be sent", "path", r.URL.Path, "err", err)
+				panic(http.ErrAbortHandler)
+			}
 			if fault != nil {
 				level.Error(logger).Log("msg", "a request can't be handled", "path", r.URL.Path, "fault", fault, "stack", string(debug.Stack()))
 				http.Error(w, "this request can't be handled", http.StatusInternalServerError)
@@ -65,16 +76,22 @@ func recovering(pages http.Handler, logger log.Logger) http.Handler {
 	})
 }
 
-// readiness is 503 without a board. A log that can't be saved is said, but pages go out: nobody may stop sending alerts for it.
-func readiness(d *dispatcher, file *logFile) func() (int, string) {
+// readiness is 503 without a board. A file that can't be saved is said, but pages go out: nobody may stop sending alerts for it.
+func readiness(d *dispatcher, file *logFile, silences *silenceSaver) func() (int, string) {
 	return func() (int, string) {
 		if err := d.isDown(); err != nil {
 			return http.StatusServiceUnavailable, fmt.Sprintf("no board: %v\n", err)
 		}
-		if err, since := file.state(); err != nil {
-			return http.StatusOK, fmt.Sprintf("OK\nnotification log not saved since %s: %v\n", since.UTC().Format(time.RFC3339), err)
+		text := "OK"
+		for _, it := range []struct {
+			what string
+			file *saved
+		}{{"notification log", &file.saved}, {"silences", &silences.saved}} {
+			if since, err := it.file.state(); err != nil {
+				text += fmt.Sprintf("\n%s not saved since %s: %v", it.what, since.UTC().Format(time.RFC3339), err)
+			}
 		}
-		return http.StatusOK, "OK"
+		return http.StatusOK, text
 	}
 }
 

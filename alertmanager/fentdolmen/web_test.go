@@ -1,13 +1,17 @@
 package main
 
 import (
+	"bytes"
+	"fmt"
 	"io"
+	"net"
 	"net/http"
 	"net/http/httptest"
 	"strings"
 	"testing"
 
 	"github.com/go-kit/log"
+	"github.com/go-kit/log/level"
 	"github.com/prometheus/client_golang/prometheus"
 	"github.com/prometheus/common/model"
 
@@ -28,9 +32,9 @@ func served(t *testing.T, d *dispatcher) *http.Server {
 		t.Fatal(err)
 	}
 	file, _ := openedFile(t, t.TempDir()+"/log")
-	try := &trial{program: d.program, now: d.clock.now}
+	try := &trial{program: d.program, now: d.clock.now, count: d.count}
 	t.Cleanup(try.close)
-	return newServer(a, o, d.metrics, make(chan chan error), readiness(d, file), try, log.NewNopLogger())
+	return newServer(a, o, d.metrics, make(chan chan error), readiness(d, file, newSilenceSaver(d.silences, t.TempDir()+"/silences", log.NewNopLogger(), func() {})), try, log.NewNopLogger())
 }
 
 // answer is the status and the text that a request gets.
@@ -50,6 +54,21 @@ func TestARequestThatTheAPIPanicsAtIsAnswered(t *testing.T) {
 	if status, text := answer(t, web, "GET", "/-/ready", nil); status != http.StatusOK || text != "OK" {
 		t.Errorf("%d %s", status, text)
 	}
+}
+
+// TestAClientThatIsGoneIsNoFault: its connection is given up, and nothing is logged.
+func TestAClientThatIsGoneIsNoFault(t *testing.T) {
+	var logged bytes.Buffer
+	web := recovering(http.HandlerFunc(func(http.ResponseWriter, *http.Request) {
+		panic(fmt.Errorf("sent: %w", &net.OpError{Op: "write", Err: io.EOF}))
+	}),
+		level.NewFilter(log.NewLogfmtLogger(&logged), level.AllowInfo()))
+	defer func() {
+		if fault := recover(); fault != http.ErrAbortHandler || logged.Len() > 0 {
+			t.Errorf("%v, and logged is %q", fault, logged.String())
+		}
+	}()
+	web.ServeHTTP(httptest.NewRecorder(), httptest.NewRequest("GET", "/", nil))
 }
 
 // spaces is a body of twice the greatest length.
@@ -74,7 +93,7 @@ func TestRequestsHaveBounds(t *testing.T) {
 			t.Errorf("%s: %d %.100s, after %d bytes", path, status, text, body.read)
 		}
 	}
-	if web.ReadHeaderTimeout <= 0 || web.ReadTimeout <= 0 {
+	if web.ReadHeaderTimeout <= 0 || web.ReadTimeout <= 0 || web.WriteTimeout <= web.ReadTimeout {
 		t.Error("a request can take any time")
 	}
 }
@@ -82,9 +101,20 @@ func TestRequestsHaveBounds(t *testing.T) {
 func TestReadiness(t *testing.T) {
 	d := testDispatcher(t, fake(t, "usual"), oneReceiver)
 	file, _ := openedFile(t, t.TempDir()+"/log")
-	ready := readiness(d, file)
+	silences := newSilenceSaver(d.silences, t.TempDir()+"/silences", log.NewNopLogger(), func() {})
+	ready := readiness(d, file, silences)
 	file.failed(io.ErrShortWrite)
-	if status, text := ready(); status != http.StatusOK || !strings.Contains(text, "notification log not saved") {
+	if status, text := ready(); status != http.StatusOK || !strings.Contains(text, "notification log not saved") || strings.Contains(text, "silences") {
+		t.Errorf("%d %s", status, text)
+	}
+	silences.fail(io.ErrShortWrite)
+	if status, text := ready(); status != http.StatusOK || !strings.Contains(text, "\nsilences not saved") {
+		t.Errorf("%d %s", status, text)
+	}
+	if file.mend(); !silences.mend() {
+		t.Error("a fault isn't known")
+	}
+	if status, text := ready(); status != http.StatusOK || text != "OK" {
 		t.Errorf("%d %s", status, text)
 	}
 	d.down = errClosed

@@ -4,7 +4,19 @@
     examples/live/live.py --config.file alertmanager.yml [--web.listen-address HOST:PORT] [--storage.path FOLDER]
 
 The board decides who is notified, and when. This program has what the board leaves out: HTTP, the clock, the ids of silences,
-annotations, the merging of alerts that overlap, attempts and their waits. docs/live-example.md has its limits.
+annotations, the merging of alerts that overlap, attempts and their waits. It knows webhooks alone, and has no filters. Don't open it to
+others than your own machine: a hostile request can end it.
+
+1. It sleeps until `next_due` or a request. Then it calls `begin` until nothing is due.
+2. Each notification is sent in a thread. An answer 2xx is `delivered`. After 5xx, or without an answer, it tries again, with the waits of
+   docs/rules.md. Other answers are `refused`. At the flush's deadline it is `expired`.
+3. It reports each outcome, notes each success at once, and finishes the flush after the last.
+4. Every 30 seconds it removes empty groups. Every 15 minutes it calls `maintain` and `forget`, and saves log and silences. Every 10,000
+   calls it takes the history.
+
+A reload opens a new board in a new process. Firing alerts go over, resolved ones until their cleaning, and silences that aren't over. A row
+of the log needs the receiver's name, a webhook at its position, and an alert of its group. To find the group, live_carry.py inserts the
+rows' alerts into the new board, asks it for `groups`, and opens it anew.
 """
 import argparse
 import contextlib
@@ -26,7 +38,7 @@ import uuid
 from pathlib import Path
 
 sys.dont_write_bytecode = True
-# (programs.py is in tools/ of the repository, and beside this file in a package)
+# (programs.py is in tools/ of the repository, and next to this file in a package)
 sys.path.append(str(Path(__file__).resolve().parents[2] / "tools"))
 import programs
 from live_board import Board, BoardError
@@ -34,9 +46,9 @@ from live_carry import groups_of, kept, taken_over
 from live_format import (Config, Refused, can_update, fingerprint, label_key, matcher_lists, merged, message, read_alert, read_config,
                          read_silence, time_text)
 
-# In milliseconds: between two maintenances; between two cleanings of alerts; how long a silence is shown after its end; the first wait
-# after an attempt; the longest.
-MAINTAIN, CLEAN, SHOWN, FIRST_WAIT, LONGEST_WAIT = 900_000, 1_800_000, 120 * 3_600_000, 500, 60_000
+# In milliseconds: between two removals of empty groups; between two maintenances; between two cleanings of alerts; how long a silence is
+# shown after its end; the first wait after an attempt; the longest.
+TICK, MAINTAIN, CLEAN, SHOWN, FIRST_WAIT, LONGEST_WAIT = 30_000, 900_000, 1_800_000, 120 * 3_600_000, 500, 60_000
 # How many calls the board keeps before its history is taken.
 KEPT = 10_000
 # The kinds of errors that say what is wrong with a request, and those that say that a limit is reached.
@@ -286,13 +298,21 @@ class Live:
         return lost
 
     def put(self, board, config, lost):
-        """Puts a board in its place. Its history is a run of its own."""
+        """Puts a board in its place. Its history is a run of its own, and its ticks begin now."""
         self.board, self.config, self.lost, self.wakes_at = board, config, lost, None
+        self.clock.at(self.clock.now() + TICK, lambda: self.remove_empty_groups(board))
         self.keep(json.dumps({"alertmanager": config.data}).encode() + b"\n")
 
     def rows(self):
         """The rows of the log, and those that no board since found again: a later configuration may."""
         return kept(self.call("rows"), self.config) + [it for it in self.lost if it["expiry"] > self.clock.now()]
+
+    def remove_empty_groups(self, board):
+        """Lets the empty groups of this board go, until another is in its place. An alert that fires again then waits for `group_wait`."""
+        if self.board is board:
+            now = self.clock.now()
+            self.call("remove_empty_groups", now=now)
+            self.clock.at(now + TICK, lambda: self.remove_empty_groups(board))
 
     def maintain(self):
         """Lets go what is over, and saves the rest. Alertmanager cleans its alerts in every second maintenance: a group keeps its copies."""

@@ -3,7 +3,7 @@ from live_format import label_key
 
 
 def kept(rows, config):
-    """The rows of a board, each with what finds it again beside its receiver: the position of the route. `kind` is always webhook, so
+    """The rows of a board, each with what finds it again in addition to its receiver: the position of the route. `kind` is always webhook, so
     the integration's position is its place among those of its kind."""
     positions = [*config.routes]
     return [row | {"position": positions.index(row["group"]["route"])} for row in rows]

@@ -34,7 +34,7 @@ import (
 
 const inGroup = 16
 
-// A receiver that does nothing, counts the alerts it is told, and wants resolved ones.
+// A receiver that does nothing, counts the alerts that it is sent, and wants resolved ones.
 type receiver struct{ told *int }
 
 func (r receiver) Notify(_ context.Context, alerts ...*types.Alert) (bool, error) {

@@ -1,4 +1,4 @@
-// Stands beside the sources of Alertmanager's package dispatch while `tools/peer-bench` is built: the calls
+// Is put next to the sources of Alertmanager's package dispatch while `tools/peer-bench` is built: the calls
 // that its loops make, for a caller that times them.
 package dispatch
 

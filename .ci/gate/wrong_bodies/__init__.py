@@ -12,7 +12,7 @@ more than one body, or what others cite; its function is the one that has to be 
 tried over the crate as it is, with the proofs of all that the function calls. The checks of a crate follow each other,
 and each begins with what the earlier ones kept; crates are tried side by side.
 
-What was refused is kept on this machine, with what rt keeps, by the sum of all that the refusal stands on (`Sums`). A
+What was refused is kept on this machine, with what some kits keep, by the sum of all that the refusal stands on (`Sums`). A
 later run tries only what is new, or stands on what changed. `--anew` tries all, whatever was kept.
 
 - `sources` finds the functions of a source, and their proofs.

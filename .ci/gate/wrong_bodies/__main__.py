@@ -30,7 +30,7 @@ CHECK = 4
 
 
 class Beside:
-    """What the output of a gate that runs beside tells. Without one all is proved."""
+    """What the output of a gate that runs at the same time tells. Without one all is proved."""
 
     def __init__(self, file: str | None, waits: bool) -> None:
         self.file, self.waits, self.has_ended = file, waits, not file
@@ -49,7 +49,7 @@ class Beside:
         return self.has_ended or not self.waits and self.proved.issuperset(crates_below(crate, listed))
 
     def tasks(self) -> int:
-        """How many crates are tried at a time: beside the gate half as many as there are processors."""
+        """How many crates are tried at a time: next to the gate half as many as there are processors."""
         most = int(os.environ.get("RT_JOBS") or processors())
         return most if self.has_ended else max(1, most // 2)
 

@@ -1,13 +1,28 @@
-"""The crates in docs/architecture.md: the table has each crate, and the diagram of layers is that of crates.txt.
+"""The crates: docs/crates.md is made of crates.txt and of the heads of the crates' sources.
 
-The diagram has an arrow from a crate to each crate of this repository that it uses, unless it also uses it through another one.
+It has what each crate is, by the first sentence of its `//!`, those that use the fewest others first. The diagram has an arrow from a
+crate to each crate of this repository that it uses, unless it also uses it through another one.
 """
 import re
 
 from lib.pages import report
 from lib.pages.contracts import CRATES, ROOT
 
-PAGE = ROOT / "docs" / "architecture.md"
+PAGE = ROOT / "docs" / "crates.md"
+MADE = "<!-- Made of crates.txt and the heads of the crates by `.ci/checks/pages.py layers --write`: change these, not this page. -->\n"
+HEAD = """
+# Crates
+
+For contributors: what each crate is, those that use the fewest others first, and who uses whom. [architecture.md](architecture.md) says how
+they work together.
+
+| Crate | What it is |
+|---|---|
+"""
+DIAGRAM = """
+An arrow that follows from others isn't drawn:
+
+"""
 Uses = dict[str, set[str]]
 
 
@@ -23,6 +38,11 @@ def below(name: str, uses: Uses) -> set[str]:
     return {it for used in uses[name] for it in {used} | below(used, uses)}
 
 
+def in_layers(uses: Uses) -> list[str]:
+    """The crates, each behind those that it uses."""
+    return sorted(uses, key=lambda name: (len(below(name, uses)), name))
+
+
 def diagram(uses: Uses) -> str:
     """The diagram of the layers, as Mermaid."""
     direct = {name: used - {it for other in used for it in below(other, uses)} for name, used in uses.items()}
@@ -30,21 +50,32 @@ def diagram(uses: Uses) -> str:
     return "\n".join(["```mermaid", "flowchart TD", *rows, "```"])
 
 
+def first_sentence(source: str) -> str:
+    """The first sentence of the `//!` at the head of a source, or nothing."""
+    lines = re.search(r"^(?://! .*\n)+", source, re.MULTILINE)
+    head = " ".join(re.sub("^//! ", "", lines[0], flags=re.MULTILINE).split()) if lines else ""
+    return re.split(r"(?<=\.) (?=[A-Z`])", head)[0]
+
+
+def head_of(name: str) -> str:
+    """What a crate is."""
+    files = [CRATES / name / "src" / file for file in ("lib.rt", "main.rt")]
+    return next((first_sentence(it.read_text()) for it in files if it.exists()), "")
+
+
 def check(write: bool) -> bool:
-    """Checks the page, or puts the diagram into it."""
-    made = diagram({"a": {"b", "c"}, "b": {"c"}, "c": set()})
-    assert made == "```mermaid\nflowchart TD\n    a --> b\n    b --> c\n```", made
-    text, uses = PAGE.read_text(), uses_of((ROOT / "crates.txt").read_text())
-    table = {name for row in re.findall(r"^\| (`am_.*?) \|", text, re.MULTILINE) for name in re.findall(r"`(\w+)`", row)}
-    missing = {it.name for it in CRATES.iterdir() if (it / "src").exists()} - table
-    faults = [f"docs/architecture.md: no row of the table has {it}" for it in sorted(missing)]
-    shown = re.search(r"```mermaid\nflowchart TD\n.*?```", text, re.DOTALL)
-    wanted = diagram(uses)
-    if shown is None:
-        faults.append("docs/architecture.md: no diagram that begins with `flowchart TD`")
-    elif write:
-        PAGE.write_text(text.replace(shown[0], wanted))
-    elif shown[0] != wanted:
-        what = "docs/architecture.md (`.ci/checks/pages.py layers --write` makes the diagram)"
-        faults.append(report.differs(what, shown[0], wanted, ("docs/architecture.md", "crates.txt")))
+    """Checks the page, or makes it."""
+    uses: Uses = {"a": {"b", "c"}, "b": {"c"}, "c": set()}
+    assert diagram(uses) == "```mermaid\nflowchart TD\n    a --> b\n    b --> c\n```" and in_layers(uses) == ["c", "b", "a"]
+    assert first_sentence("#![a]\n//! One `x.y`\n//! two. Three.\n//!\n//! Four.\n") == "One `x.y` two."
+    uses = uses_of((ROOT / "crates.txt").read_text())
+    says = {name: head_of(name) for name in in_layers(uses)}
+    faults = [f"crates/{name}: no sentence in `//!` at its head" for name, said in says.items() if not said]
+    faults += [f"crates.txt: no line for {it.name}" for it in sorted(CRATES.iterdir()) if (it / "src").exists() and it.name not in uses]
+    made = MADE + HEAD + "".join(f"| `{name}` | {said} |\n" for name, said in says.items()) + DIAGRAM + diagram(uses) + "\n"
+    if write:
+        PAGE.write_text(made)
+    elif not PAGE.exists() or PAGE.read_text() != made:
+        what = "docs/crates.md (`.ci/checks/pages.py layers --write` makes it)"
+        faults.append(report.differs(what, PAGE.read_text() if PAGE.exists() else "", made, ("the page", "the crates")))
     return report.verdict("layers", faults, f"{len(uses)} crates")

@@ -3,7 +3,8 @@
 README.md, the other pages at the top and docs/*.md have no sentence above 25 words and no paragraph above 100, outside blocks of code
 and tables, where a code span counts as one word. No row of a table has more than 300 characters. A page has at most 1,800 words outside
 blocks of code, or what BUDGETS says. No word that writers agreed to avoid (`words`), and no link to a file or a heading that isn't there.
-What a line `**Defined** in .. **Shown** by ..` names is there.
+What a line `**Defined** in .. **Shown** by ..` names is there, and each edit that a row on a wrong body names. All pages together have at
+most TOTAL bytes.
 """
 import re
 from collections.abc import Iterator
@@ -17,8 +18,8 @@ from lib.pages.words import AVOID
 SENTENCE, PARAGRAPH = 25, 100
 # In words: what a page has at most, and those that have another budget.
 BUDGET, BUDGETS = 1800, {"README": 1200, "rules": 2400, "dispatch": 1900}
-# In characters: what a row of a table has at most.
-ROW = 300
+# In characters: what a row of a table has at most. In bytes: what all pages have.
+ROW, TOTAL = 300, 172_000
 # The end of a sentence: behind it begins another, with a capital, a number or the name of a page.
 END = re.compile(r"[.!?][\"')\]*]*\s+(?=[\"'(\[*]*(?:[A-Z0-9]|[\w-]+\.md))")
 LINK = re.compile(r"\[([^\]]*)\]\(([^)\s]+)\)")
@@ -26,8 +27,9 @@ Found = list[tuple[int, str]]
 
 
 def pages() -> list[Path]:
-    """The pages that people write."""
-    return [*sorted(ROOT.glob("*.md")), *sorted((ROOT / "docs").glob("*.md"))]
+    """The pages that people write: a made one begins with a comment that says so."""
+    files = [*sorted(ROOT.glob("*.md")), *sorted((ROOT / "docs").glob("*.md"))]
+    return [it for it in files if not it.read_text().startswith("<!-- Made of")]
 
 
 def plain(text: str) -> str:
@@ -124,6 +126,17 @@ def named_faults(text: str) -> Found:
     return found
 
 
+def edit_faults(text: str) -> Found:
+    """The edits that aren't there of rows `| NAME | .. | .. edit in CRATE |`, or `edit CRATE/OTHER_NAME`."""
+    found: Found = []
+    for number, line in enumerate(text.splitlines(), 1):
+        for own, edits in re.findall(r"^\| `(\w+)` \|.*\|(.*\bedits? .*)\|$", line):
+            for crate, _, name in re.findall(r"`(am_\w+)(/(\w+))?`", edits):
+                edit = f"crates/{crate}/wrong-bodies/{name or own}.edit"
+                found += [(number, f"no {edit}")] * (not (ROOT / edit).exists())
+    return found
+
+
 def faults_of(page: Path, text: str) -> Found:
     """The faults of a page, by line."""
     found: Found = [(n, f"a sentence of {count(it)} words") for n, it in sentences(text) if count(it) > SENTENCE]
@@ -137,7 +150,7 @@ def faults_of(page: Path, text: str) -> Found:
     for number, line in enumerate(plain(without_blocks(text)).splitlines(), 1):
         found += [(number, f"avoid \"{it[0]}\"") for it in AVOID.finditer(LINK.sub(r"\1", line))]
         found += [(number, fault) for _, target in LINK.findall(line) if (fault := link_fault(page, text, target))]
-    return sorted(found + named_faults(text))
+    return sorted(found + named_faults(text) + edit_faults(text))
 
 
 def self_test() -> None:
@@ -153,7 +166,8 @@ def self_test() -> None:
            "[`a`](none.md)": "no file none.md", "[a](../../x)": "no file ../../x",
            "[a](story.md#no-such)": "no heading story.md#no-such", "**Defined** in `am_model/{Begin, None}`.": "no am_model/{Begin, None}",
            "**Defined** in `am_model/Begin`. **Shown** by `none.yml`.": "no none.yml",
-           row.replace("|\n", "word |\n"): "a row of 303 characters"}
+           row.replace("|\n", "word |\n"): "a row of 303 characters",
+           "| `no_such` | a body | edit in `am_desk`; type: `T` |": "no crates/am_desk/wrong-bodies/no_such.edit"}
     assert not faults_of(page, good), faults_of(page, good)
     for text, fault in bad.items():
         assert [it for _, it in faults_of(page, text)] == [fault], (fault, faults_of(page, text))
@@ -179,4 +193,6 @@ def check() -> bool:
     self_test()
     texts = {it: it.read_text() for it in pages()}
     found = [f"{page.relative_to(ROOT)}:{line}: {fault}" for page, text in texts.items() for line, fault in faults_of(page, text)]
-    return report.verdict("prose", found, f"{len(pages())} pages")
+    total = sum(len(it.encode()) for it in texts.values())
+    found += [f"all pages have {total} bytes, and at most {TOTAL} are planned"] * (total > TOTAL)
+    return report.verdict("prose", found, f"{len(texts)} pages, {total} bytes")

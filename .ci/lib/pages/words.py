@@ -1,12 +1,15 @@
 """Words that writers agreed to avoid, because readers don't know what they mean here.
 
 Pages have none of them (`prose`). In crates/ comments have none, and names have none as a part, except those of .ci/data/words.toml:
-of each crate, how often each word is in comments and in names. These numbers only fall: `--write` takes lower ones over, and no
-higher one.
+of each crate, how often each word is in comments and in names. So do the comments of scripts, of each folder of SCRIPTS. These numbers
+only fall: `--write` takes lower ones over, and no higher one.
 """
+import io
 import re
+import tokenize
 import tomllib
 from collections import Counter
+from collections.abc import Iterator
 from pathlib import Path
 
 from lib.pages import report
@@ -16,6 +19,9 @@ AVOID = re.compile(r"\b(tell|tells|told|telling|may be|stands?|stood|laid|lays f
                    r"|but for|beside|want of|memory (is|was) refused|moments?|manners?|rooms?|(is|are|was|were) played|worked out"
                    r"|rightly|soundly)\b", re.IGNORECASE)
 EXCEPTIONS = ROOT / ".ci" / "data" / "words.toml"
+# Where scripts are, and what they are in. What has no such ending is one if its first line says so.
+SCRIPTS = ("alertmanager", "examples", "tools", ".ci")
+ENDINGS = (".py", ".go", ".c", ".yml")
 # How often each word is in a crate's `comments` or `names`.
 Counts = Counter[tuple[str, str, str]]
 
@@ -48,9 +54,35 @@ def sources() -> list[Path]:
     return sorted(files)
 
 
-def counts() -> Counts:
-    """How often each crate has each word, in comments and in names."""
-    return Counter((file.relative_to(CRATES).parts[0], kind, word) for file in sources() for _, kind, word in places_in(file))
+def scripts() -> list[Path]:
+    """The scripts of this repository, without what programs make."""
+    files = [it for folder in SCRIPTS for it in sorted((ROOT / folder).rglob("*")) if it.is_file() and "out" not in it.parts]
+    return [it for it in files if it.suffix in ENDINGS or not it.suffix and it.read_bytes()[:2] == b"#!"]
+
+
+def remarks(file: Path) -> Iterator[tuple[int, str]]:
+    """The lines of comments of a script: in Python also those of texts on several lines, and of one that is alone in its line."""
+    text = file.read_text()
+    if file.suffix != ".py" and not re.match(r"#!.*python", text):
+        found = (re.search(r"(?:^|\s)(?:#|//|/\*)\s(.*)", line) for line in text.splitlines())
+        yield from ((number, it[1]) for number, it in enumerate(found, 1) if it)
+        return
+    for it in tokenize.generate_tokens(io.StringIO(text).readline):
+        if it.type == tokenize.COMMENT or it.type == tokenize.STRING and it.string.startswith('"""'):
+            yield from enumerate(it.string.splitlines(), it.start[0])
+
+
+def words_of(file: Path) -> list[tuple[int, str, str]]:
+    """Where the comments of a script have words to avoid."""
+    return [(number, "comments", " ".join(it[0].lower().split()))
+            for number, line in remarks(file) for it in AVOID.finditer(re.sub(r"`[^`]+`", "Code", line))]
+
+
+def places() -> list[tuple[str, Path, int, str, str]]:
+    """Where there are words to avoid: the crate or the folder of scripts, the file, the line, the kind and the word."""
+    found = [(file.relative_to(CRATES).parts[0], file, *it) for file in sources() for it in places_in(file)]
+    # (this file has them all)
+    return found + [(file.relative_to(ROOT).parts[0], file, *it) for file in scripts() if file != Path(__file__) for it in words_of(file)]
 
 
 def listed() -> Counts:
@@ -62,9 +94,9 @@ def listed() -> Counts:
 
 def text_of(numbers: Counts) -> str:
     """The file of exceptions."""
-    lines = ["# Words that crates still have and are to lose. `.ci/checks/pages.py words --write` takes lower numbers over."]
+    lines = ["# Words that crates and scripts still have and are to lose. `.ci/checks/pages.py words --write` takes lower numbers over."]
     for crate in sorted({crate for crate, _, _ in numbers}):
-        lines += ["", f"[{crate}]"]
+        lines += ["", f'["{crate}"]' if "." in crate else f"[{crate}]"]
         for kind in ("comments", "names"):
             row = ", ".join(f'"{word}" = {number}' for (of, its, word), number in sorted(numbers.items()) if (of, its) == (crate, kind))
             lines += [f"{kind} = {{ {row} }}"] if row else []
@@ -82,15 +114,16 @@ def self_test() -> None:
 def check(write: bool) -> bool:
     """Checks the sources against the list of exceptions, or lowers its numbers."""
     self_test()
-    found, known = counts(), listed()
+    where, known = places(), listed()
+    found: Counts = Counter((crate, kind, word) for crate, _, _, kind, word in where)
     if write:
         known = Counter({it: min(number, found[it]) for it, number in known.items() if found[it]})
         EXCEPTIONS.write_text(text_of(known))
     more = {it for it, number in found.items() if number > known[it]}
-    faults = [f"{file.relative_to(ROOT)}:{line}: avoid \"{word}\" in {kind}" for file in sources() for line, kind, word in places_in(file)
-              if (file.relative_to(CRATES).parts[0], kind, word) in more]
+    faults = [f"{file.relative_to(ROOT)}:{line}: avoid \"{word}\" in {kind}" for crate, file, line, kind, word in where
+              if (crate, kind, word) in more]
     if not more and found != known:
         faults.append(report.differs(f"{EXCEPTIONS.relative_to(ROOT)} (`.ci/checks/pages.py words --write` makes it)", text_of(known),
                                      text_of(found), ("the list", "the crates")))
     left = sum(known.values())
-    return report.verdict("words", faults, f"{len(sources())} files, {left} exceptions left")
+    return report.verdict("words", faults, f"{len(sources()) + len(scripts())} files, {left} exceptions left")

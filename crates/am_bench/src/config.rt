@@ -5,7 +5,7 @@ use am_alerts::matcher::Matcher;
 use am_alerts::route::{Child, GroupBy, Route, Routes};
 use am_alerts::sequence::Sequence;
 use am_alerts::text::Text;
-use am_board::config::{Config, Integration, Limits, Receiver};
+use am_board::config::{Config, Integration, Limits, Receiver, Receivers};
 use am_mute::inhibit::InhibitRule;
 use std::alloc::Global;
 
@@ -59,7 +59,7 @@ fn routes(alloc: Global, children: Vec<Child>) -> Result<Routes, BenchError> {
     Routes::new(root, children).map_err(|_| BenchError::BadLine)
 }
 
-fn config(routes: Routes, receivers: Sequence<Receiver>, rules: Vec<InhibitRule>) -> Config {
+fn config(routes: Routes, receivers: Receivers, rules: Vec<InhibitRule>) -> Config {
     Config {
         routes,
         receivers,
@@ -69,10 +69,10 @@ fn config(routes: Routes, receivers: Sequence<Receiver>, rules: Vec<InhibitRule>
     }
 }
 
-fn receivers(alloc: Global) -> Result<Sequence<Receiver>, BenchError> {
+fn receivers(alloc: Global) -> Result<Receivers, BenchError> {
     let (name, integrations) = both(text(alloc, "team"), integrations(alloc))?;
     let receivers = listed(alloc, Receiver { name, integrations })?;
-    Ok(Sequence::from(receivers))
+    Ok(Receivers::new(alloc, receivers)?)
 }
 
 fn integrations(alloc: Global) -> Result<Sequence<Integration>, BenchError> {

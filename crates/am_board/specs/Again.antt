@@ -2,6 +2,7 @@
 use Rattle.std.specs.Prelude.{◌≡◌, ℕ, ◌+◌, ◌<◌, ◌≤◌, Bool, true, false, Option, Some, None, Result, Ok, Err}
 use Rattle.std.specs.Prelude.{List, length, map, fold, All, slice_index_or, vec_len, vec_capacity}
 use Rattle.std.specs.declared.alloc.AllocError.{AllocError}
+use Rattle.std.specs.VecDeque.{deque_len}
 use Rattle.am_alerts.specs.AlertData.{AlertData}
 use Rattle.am_alerts.specs.declared.labels.Label.{Label}
 use Rattle.am_model.specs.Causes.{makes_too_many}
@@ -55,7 +56,7 @@ pub record IsPutAgain (config : Config) (now : ℕ) (alert : AlertData) (answer 
   pub flushes : new.flushes ≡ old.flushes
   pub history : new.history.items ≡ old.history.items
   pub records : vec_len new.history ≡ vec_len old.history
-  pub room : vec_len new.history + vec_len new.flushes + 1 ≤ vec_capacity new.history
+  pub room : vec_len new.history + deque_len new.flushes + 1 ≤ vec_capacity new.history
 
 -- an alert was put so, or the state holds what it held
 abbrev pub PutsAgain : Config → ℕ → AlertData → Result (Option Inserted) AllocError → State → State → Type 0

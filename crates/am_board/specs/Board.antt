@@ -1,5 +1,6 @@
 -- Board: the invariant of a board's fields.
 use Rattle.std.specs.Prelude.{◌≡◌, ◌+◌, ◌≤◌, ◌++◌, None, List, All, length, map, vec_len, vec_capacity}
+use Rattle.std.specs.VecDeque.{deque_len}
 use Rattle.am_alerts.specs.RoutingTree.{last_of}
 use Rattle.am_alerts.specs.declared.limits.TheConstants.{MAX_ROUTES}
 use Rattle.am_board.specs.declared.board.Board.TheInside.{Inside}
@@ -32,9 +33,9 @@ pub record IsSound (b : Inside) : Type 0 where
   pub names : length (state_of b.state).known ≤ b.config.limits.alerts
   pub groups : length (state_of b.state).groups ≤ b.config.limits.groups
   pub silences : length (state_of b.state).silences ≤ b.config.limits.silences
-  pub opened : vec_len b.state.flushes ≤ b.config.limits.flushes
-  pub kept : vec_len b.state.history + vec_len b.state.flushes ≤ b.config.limits.history
-  pub room : vec_len b.state.history + vec_len b.state.flushes ≤ vec_capacity b.state.history
+  pub opened : deque_len b.state.flushes ≤ b.config.limits.flushes
+  pub kept : vec_len b.state.history + deque_len b.state.flushes ≤ b.config.limits.history
+  pub room : vec_len b.state.history + deque_len b.state.flushes ≤ vec_capacity b.state.history
   pub routed : AreRouted b.config.routes (names_of b.state.groups.items)
   pub prepared : All (IsPrepared b.config b.state.log) b.state.flushes.items
   pub marked : AreMarked (map flush_state b.state.flushes.items) b.state.groups.items

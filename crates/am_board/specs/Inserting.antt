@@ -2,6 +2,7 @@
 use Rattle.std.specs.List.{IsDistinct}
 use Rattle.std.specs.Prelude.{◌≡◌, ℕ, ◌+◌, ◌<◌, ◌≤◌, ◌==◌, false, Option, None}
 use Rattle.std.specs.Prelude.{List, [], length, map, position, All, IfSome, vec_len, vec_capacity}
+use Rattle.std.specs.VecDeque.{deque_len}
 use Rattle.am_alerts.specs.AlertData.{AlertData}
 use Rattle.am_alerts.specs.Route.{group_labels_of}
 use Rattle.am_alerts.specs.RoutingTree.{RoutingTree, last_of, route_at}
@@ -68,7 +69,7 @@ pub record IsReservedState (old new : State) : Type 0 where
 
 -- a state has capacity for all that an insert adds, and for the finish of each open flush
 pub record IsReadyFor (state : State) (placements : List Placement) : Type 0 where
-  pub records : vec_len state.history + vec_len state.flushes + 1 ≤ vec_capacity state.history
+  pub records : vec_len state.history + deque_len state.flushes + 1 ≤ vec_capacity state.history
   pub known : 1 ≤ state.known.room
   pub spare : length placements ≤ state.groups.room
   pub room : HaveRoom state.groups.items placements

@@ -36,6 +36,8 @@ pub mod Keyed
 pub mod Known
 -- between the code of a load and the definitions
 pub mod Loading
+-- the rows that a note or a finish puts into the log
+pub mod Logged
 -- the stored log as the list of its rows
 pub mod LogRows
 -- the stored alerts of a group, with the order of their labels

@@ -1,5 +1,6 @@
 -- Refinement: how the stored state of a board represents a state of the definitions.
 use Rattle.std.specs.Prelude.{◌≡◌, ◌*◌, min, List, [], map, vec_len, is_none, IfSome, IsTrue, All, IsPermutation}
+use Rattle.std.specs.VecDeque.{deque_len}
 use Rattle.am_alerts.specs.declared.labels.Label.{Label}
 use Rattle.am_nflog.specs.Log.{Slots, is_known}
 use Rattle.am_model.specs.declared.config.Config.{Config}
@@ -61,7 +62,7 @@ pub record IsNew (s : kept.State) : Type 0 where
   pub state : state_of s ≡ opening_state
   pub groups : s.groups.items ≡ []
   pub flushes : s.flushes.items ≡ []
-  pub unflushed : vec_len s.flushes ≡ 0
+  pub unflushed : deque_len s.flushes ≡ 0
   pub history : s.history.items ≡ []
   pub records : vec_len s.history ≡ 0
 

@@ -14,6 +14,7 @@
 ghost use Rattle.std.specs.Prelude.{◌≡◌, ◌≢◌, ℕ, ◌+◌, ◌<◌, ◌≤◌, [], None, length, map};
 ghost use Rattle.std.specs.Prelude.{All, IfSome, IsTrue, MatchResult, Ok, OnOk, vec_len, vec_capacity};
 ghost use Rattle.std.specs.List.{IsDistinct};
+ghost use Rattle.std.specs.VecDeque.{deque_len};
 ghost use Rattle.am_alerts.specs.RoutingTree.{last_of, route_at};
 ghost use Rattle.am_nflog.specs.Log.{is_known};
 ghost use Rattle.am_nflog.specs.declared.key.LogKey.{LogKey};
@@ -115,7 +116,7 @@ fn take_with_room(
     requires good { StateInvariant config.now state.old }
     requires sources { AreLearnt config.now.rules state.old.known.items sources.now }
     requires times { All (λ row. row.time ≤ MAX_TIME) (log_rows state.old.log) }
-    requires room { vec_len state.old.history + vec_len state.old.flushes + 2 ≤ config.now.limits.history }
+    requires room { vec_len state.old.history + deque_len state.old.flushes + 2 ≤ config.now.limits.history }
     ensures { MatchResult result
         (λ begun. (begin_cause config.now (vec_len state.old.history) (state_of state.old) (time (state_of state.old) now) ≡ None)
         × AppliesCall config.now id (entry pass (Call.Begin now) (reply_of begun)) state.old state.new × IsFresh id begun)
@@ -163,7 +164,7 @@ pub(crate) fn begin_planned(
     requires room { IfSome planned (λ p. vec_len p.notices ≤ vec_capacity p.outcomes) }
     requires few { IfSome planned (λ p. vec_len p.notices ≤ MAX_INTEGRATIONS) }
     ensures { (config : ConfigData) (g : Group) → StateInvariant config state.old → IsChosen config state.old chosen g
-        → IsPlan config id (vec_len state.old.flushes) (state_of state.old) chosen.t (group_state g) (Ok planned)
+        → IsPlan config id (deque_len state.old.flushes) (state_of state.old) chosen.t (group_state g) (Ok planned)
         → IsEnd config id chosen.pass chosen.now state.old state.new result }
 {
     match planned {
@@ -261,7 +262,7 @@ fn begin_flush(
     state.clock = chosen.t;
     state.groups.begin(chosen.index, chosen.due);
     state.next_number = state.next_number.saturating_add(1);
-    state.flushes.push_reserved(planned.flush);
+    state.flushes.push_back_reserved(planned.flush);
     state.history.push_reserved(Record {
         pass: chosen.pass,
         call: Call::Begin { now: chosen.now },

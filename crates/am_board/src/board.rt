@@ -292,7 +292,7 @@ impl Board {
             notices: _,
             outcomes,
         } = ticket;
-        let Some(f) = find_flush(self.state.flushes.as_slice(), number) else {
+        let Some(f) = find_flush(&self.state.flushes, number) else {
             return Err(FinishFault::NotOpen);
         };
         Ok(finish_flush(&mut self.state, pass, f, outcomes, now))

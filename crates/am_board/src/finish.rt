@@ -6,8 +6,9 @@
 //! Each is looked up, and marked if its stamp is that of the begin. All marked alerts go in one
 //! walk. A row takes the label sets that its integration shares with the flush.
 ghost use Rattle.std.specs.Prelude.{◌≡◌, ◌&&◌, not, ℕ, ◌+◌, ◌<◌, ◌^◌, List, [], ◌∷◌};
-ghost use Rattle.std.specs.Prelude.{length, map, count_by, slice_index_or, vec_len, IsTrue, All, IsPermutation};
+ghost use Rattle.std.specs.Prelude.{length, map, count_by, slice_index_or, IsTrue, All, IsPermutation};
 ghost use Rattle.std.specs.List.{list_all, IsDistinct};
+ghost use Rattle.std.specs.VecDeque.{deque_len};
 ghost use Rattle.am_nflog.specs.Log.{is_known};
 ghost use Rattle.am_model.specs.Finish.{has_succeeded as succeeds, is_delivered as says_delivered, is_leaving, log_with};
 ghost use Rattle.am_board.specs.Group.{names_of};
@@ -42,9 +43,9 @@ pub(crate) fn finish_flush(
     outcomes: Vec<(u32, Outcome)>,
     now: u64,
 ) -> Finished
-    requires index { f < vec_len state.old.flushes }
+    requires index { f < deque_len state.old.flushes }
     requires good { (config : ConfigData) × StateInvariant config state.old }
-    ensures closed { vec_len state.new.flushes + 1 ≡ vec_len state.old.flushes }
+    ensures closed { deque_len state.new.flushes + 1 ≡ deque_len state.old.flushes }
     ensures accepted { (config : ConfigData) → StateInvariant config state.old → (id : ℕ) → (o : OpenFlush)
         → AppliesCall config id
         (entry pass (Call.Finish now (slice_index_or state.old.flushes.items f o).number outcomes.items) (Reply.Finished result))
@@ -59,7 +60,7 @@ pub(crate) fn finish_flush(
         notified,
         sets: _,
         leaving,
-    } = state.flushes.remove(f);
+    } = state.flushes.remove(f).unwrap();
     let successes = log_rest(&mut state.log, notified, outcomes.as_slice(), kept_for, t);
     let removed = take_out(&mut state.groups, group, leaving.as_slice(), successes.all);
     let finished = Finished {

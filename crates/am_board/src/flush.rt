@@ -13,6 +13,7 @@ use crate::group::GroupName;
 use am_alerts::labels::Labels;
 use am_nflog::{LogKey, LogRow, Members};
 use std::alloc::AllocError;
+use std::collections::VecDeque;
 
 /// The label sets of a flush: the firing and the resolved ones.
 ///
@@ -80,10 +81,10 @@ impl AlertSets {
 ///
 /// Numbers rise, so a search by halves finds it. No proof relies on that: where the search finds
 /// none, all are walked over.
-pub(crate) fn find_flush(flushes: &[OpenFlush], number: u64) -> Option<usize>
-    requires { IsDistinct same_number (map flush_state flushes.now) }
-    ensures within { IfSome result (λ i. i < length flushes.now) }
-    ensures first { result ≡ position (λ flush. flush.number == number) flushes.now }
+pub(crate) fn find_flush(flushes: &VecDeque<OpenFlush>, number: u64) -> Option<usize>
+    requires { IsDistinct same_number (map flush_state flushes.now.items) }
+    ensures within { IfSome result (λ i. i < length flushes.now.items) }
+    ensures first { result ≡ position (λ flush. flush.number == number) flushes.now.items }
 {
     match find_by_halves(flushes, number) {
         Some(i) => Some(i),
@@ -92,9 +93,9 @@ pub(crate) fn find_flush(flushes: &[OpenFlush], number: u64) -> Option<usize>
 }
 
 /// An index of a flush of this number, if a search by halves comes to one.
-fn find_by_halves(flushes: &[OpenFlush], number: u64) -> Option<usize>
-    ensures within { IfSome result (λ i. i < length flushes.now) }
-    ensures number { IfSome result (λ i. (d : OpenFlush) → (slice_index_or flushes.now i d).number ≡ number) }
+fn find_by_halves(flushes: &VecDeque<OpenFlush>, number: u64) -> Option<usize>
+    ensures within { IfSome result (λ i. i < length flushes.now.items) }
+    ensures number { IfSome result (λ i. (d : OpenFlush) → (slice_index_or flushes.now.items i d).number ≡ number) }
 {
     let mut low = 0;
     let mut high = flushes.len();

@@ -35,6 +35,7 @@ use am_mute::sources::Sources;
 use am_seed::Seed;
 use indexmap::IndexSet;
 use std::alloc::{AllocError, Global};
+use std::collections::VecDeque;
 
 /// Removes the known alerts that are resolved and in no group, with their cached names, and the
 /// silences that are over. The log forgets the keys without a row, except those of open flushes.
@@ -62,7 +63,7 @@ pub(crate) fn forget_idle(
     }
     let seed = state.groups.seed();
     let grouped = grouped_labels(alloc, seed, state.groups.as_slice())?;
-    let flushing = flushing_groups(alloc, state.flushes.as_slice())?;
+    let flushing = flushing_groups(alloc, &state.flushes)?;
     state.history.reserve(state.flushes.len() + 1)?;
 
     let t = state.time(now);
@@ -130,12 +131,15 @@ fn add_labels(
 }
 
 /// The names of the groups of these flushes.
-fn flushing_groups(alloc: Global, flushes: &[OpenFlush]) -> Result<Vec<GroupName>, AllocError>
-    ensures { IfOk result (λ names. names.items ≡ map (λ f. f.group) flushes.now) }
+fn flushing_groups(
+    alloc: Global,
+    flushes: &VecDeque<OpenFlush>,
+) -> Result<Vec<GroupName>, AllocError>
+    ensures { IfOk result (λ names. names.items ≡ map (λ f. f.group) flushes.now.items) }
 {
     let mut names = Vec::with_capacity(alloc, flushes.len())?;
-    for flush in flushes {
-        names.push(flush.group.copy(alloc)?)?;
+    for i in 0..flushes.len() {
+        names.push(flushes[i].group.copy(alloc)?)?;
     }
     Ok(names)
 }

@@ -4,7 +4,7 @@
 //! The definitions are those of `am_model`; this crate has none of its own of what a call replies.
 //! Its modules:
 //!
-//! - `board`, `history`, `ticket`, `preview`, `previewed`, `views`, `fault`: the public calls and
+//! - `board`, `history`, `ticket`, `preview`, `previewed`, `views`, `logged`, `fault`: the public calls and
 //!   types.
 //! - `state`, `known`, `groups`, `group`, `members`, `silences`, `flush`: the stored state. Contracts see the
 //!   tables as plain lists in the order of arrival, with their capacity.
@@ -37,6 +37,7 @@ pub mod history;
 mod insert;
 mod known;
 mod load;
+mod logged;
 mod maintain;
 mod members;
 mod note;

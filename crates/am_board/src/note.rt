@@ -28,6 +28,7 @@ use crate::ticket::Ticket;
 use am_alerts::labels::Labels;
 use am_nflog::NfLog;
 use am_retry::Outcome;
+use std::collections::VecDeque;
 
 /// Logs the success of the notice at an index of a ticket of this desk, before its flush is finished.
 pub(crate) fn note_success(
@@ -46,7 +47,7 @@ pub(crate) fn note_success(
         (λ fault. IsNoteAnswer (flush_cause config.now (vec_len state.old.history) (state_of state.old) ticket.now index
         (flush_numbered (state_of state.old).flushes ticket.now.number)) fault × LeavesUnchanged config.now state.old state.new) }
 {
-    let found = find_noting(state.flushes.as_slice(), ticket, index)?;
+    let found = find_noting(&state.flushes, ticket, index)?;
     if !state.has_room(1, config.limits.history) {
         return Err(NoteFault::HistoryFull);
     }
@@ -83,13 +84,13 @@ struct NoteTarget {
 
 /// Returns what a note of the notice at an index of a ticket logs, if it can be noted.
 fn find_noting(
-    flushes: &[OpenFlush],
+    flushes: &VecDeque<OpenFlush>,
     ticket: &Ticket,
     index: usize,
 ) -> Result<NoteTarget, NoteFault>
-    requires { IsDistinct same_number (map flush_state flushes.now) }
-    ensures found { IfOk result (IsNoteTarget flushes.now ticket.now index) }
-    ensures cause { (config : ConfigData) (records : ℕ) (s : Data) → s.flushes ≡ map flush_state flushes.now
+    requires { IsDistinct same_number (map flush_state flushes.now.items) }
+    ensures found { IfOk result (IsNoteTarget flushes.now.items ticket.now index) }
+    ensures cause { (config : ConfigData) (records : ℕ) (s : Data) → s.flushes ≡ map flush_state flushes.now.items
         → IfErr result (λ fault. flush_cause config records s ticket.now index (flush_numbered s.flushes ticket.now.number) ≡ Some fault) }
 {
     let Some(flush) = find_flush(flushes, ticket.number()) else {

@@ -4,8 +4,9 @@
 //! Copies are made only where an integration is to be notified. The label sets are made once then:
 //! the open flush and each notified integration share them, so a note or the finish moves them into
 //! the log and never allocates.
-ghost use Rattle.std.specs.Prelude.{◌≡◌, ◌<◌, ◌≤◌, All, IfOk, length, map, slice_index_or, vec_len};
+ghost use Rattle.std.specs.Prelude.{◌≡◌, ◌<◌, ◌≤◌, All, IfOk, length, map, slice_index_or};
 ghost use Rattle.std.specs.List.{IsDistinct};
+ghost use Rattle.std.specs.VecDeque.{deque_len};
 ghost use Rattle.am_mute.specs.Sources.{AreLearnt};
 ghost use Rattle.am_alerts.specs.RoutingTree.{last_of};
 ghost use Rattle.am_model.specs.Begin.{notified_of};
@@ -65,7 +66,7 @@ pub(crate) fn plan(
     requires times { All (λ row. row.time ≤ MAX_TIME) (log_rows state.now.log) }
     requires index { chosen.index < length state.now.groups.items }
     requires time { chosen.t ≤ MAX_TIME }
-    ensures { (d : Group) → IsPlan config.now id (vec_len state.now.flushes) (state_of state.now) chosen.t
+    ensures { (d : Group) → IsPlan config.now id (deque_len state.now.flushes) (state_of state.now) chosen.t
         (group_state (slice_index_or state.now.groups.items chosen.index d)) result }
 {
     let group = state.groups.at(chosen.index);
@@ -88,7 +89,7 @@ fn plan_of(
     requires apart { IsDistinct same_member (group_state group.now).members }
     requires times { All (λ row. row.time ≤ MAX_TIME) (log_rows state.now.log) }
     requires time { t ≤ MAX_TIME }
-    ensures { IsPlan config.now id (vec_len state.now.flushes) (state_of state.now) t (group_state group.now) result }
+    ensures { IsPlan config.now id (deque_len state.now.flushes) (state_of state.now) t (group_state group.now) result }
 {
     if config.route_muted(&group.name, t).is_some() {
         return Ok(None);
@@ -122,7 +123,7 @@ pub(crate) fn plan_notifying(
     requires rising { AreRising (copies_of t unmuted.now) }
     requires unmuted { IsUnmuted config.now (state_of state.now) t (group_state group.now) (copies_of t unmuted.now) }
     requires notified { notified.now ≡ map update_of (notified_of config.now (state_of state.now) t (group_state group.now)) }
-    ensures { IsPlan config.now id (vec_len state.now.flushes) (state_of state.now) t (group_state group.now) result }
+    ensures { IsPlan config.now id (deque_len state.now.flushes) (state_of state.now) t (group_state group.now) result }
 {
     if notified.is_empty() {
         return Ok(None);

@@ -7,6 +7,7 @@ ghost use Rattle.std.specs.Prelude.{◌≡◌, ◌≢◌, ◌+◌, ◌<◌, ◌�
 ghost use Rattle.am_mute.specs.Sources.{AreLearnt};
 ghost use Rattle.am_alerts.specs.RoutingTree.{last_of};
 ghost use Rattle.std.specs.List.{IsDistinct};
+ghost use Rattle.std.specs.VecDeque.{deque_len};
 ghost use Rattle.am_model.specs.Causes.{begin_cause};
 ghost use Rattle.am_model.specs.Configured.{HaveFewIntegrations};
 ghost use Rattle.am_model.specs.Insert.{same_member};
@@ -125,7 +126,7 @@ fn preview_and_plan(
     requires apart { IsDistinct same_member (group_state group.now).members }
     requires times { All (λ row. row.time ≤ MAX_TIME) (log_rows state.now.log) }
     requires time { t ≤ MAX_TIME }
-    ensures { IsPreviewedPlan config.now id (vec_len state.now.flushes) (state_of state.now) t (group_state group.now) result }
+    ensures { IsPreviewedPlan config.now id (deque_len state.now.flushes) (state_of state.now) t (group_state group.now) result }
 {
     let found = GroupPreview::of(alloc, config, state, sources, group, t)?;
     let GroupPreview {
@@ -150,8 +151,8 @@ fn begin_with(
 ) -> Result<(Begun, Option<Preview>), Fault>
     requires good { StateInvariant config.now state.old }
     requires index { chosen.index < length state.old.groups.items }
-    requires room { vec_len state.old.history + vec_len state.old.flushes + 2 ≤ config.now.limits.history }
-    requires found { (d : Group) → IsPreviewedPlan config.now id (vec_len state.old.flushes) (state_of state.old) chosen.t
+    requires room { vec_len state.old.history + deque_len state.old.flushes + 2 ≤ config.now.limits.history }
+    requires found { (d : Group) → IsPreviewedPlan config.now id (deque_len state.old.flushes) (state_of state.old) chosen.t
         (group_state (slice_index_or state.old.groups.items chosen.index d)) (Ok (preview, planned)) }
     ensures { (g : Group) → IsChosen config.now state.old chosen g → MatchResult result
         (λ both. (begin_cause config.now (vec_len state.old.history) (state_of state.old) (time (state_of state.old) chosen.now) ≡ None)

@@ -1,5 +1,6 @@
 //! The stored state of a board, which the module of each call changes.
 ghost use Rattle.std.specs.Prelude.{◌≡◌, ◌+◌, ◌≤◌, ◌↔◌, IsTrue, IsOkAnd, max, min, vec_len};
+ghost use Rattle.std.specs.VecDeque.{deque_len};
 ghost use Rattle.am_board.specs.Refinement.{IsNew};
 
 use crate::flush::OpenFlush;
@@ -13,6 +14,7 @@ use am_alerts::limits::MAX_TIME;
 use am_nflog::NfLog;
 use am_seed::Seed;
 use std::alloc::{AllocError, Global};
+use std::collections::VecDeque;
 
 /// The stored state. `state_of` (specs/Refinement.antt) reads it as a state of `am_model`.
 #[derive(Drop)]
@@ -25,7 +27,8 @@ pub(crate) struct State {
     pub(crate) groups: Groups,
     pub(crate) silences: NotedSilences,
     pub(crate) log: NfLog<GroupName, Labels>,
-    pub(crate) flushes: Vec<OpenFlush>,
+    /// By number. A finish moves those before the flush, or those behind it, whichever are fewer.
+    pub(crate) flushes: VecDeque<OpenFlush>,
     /// The number of the next flush.
     pub(crate) next_number: u64,
     /// The accepted calls that weren't handed out. It has capacity for the finish of each open flush.
@@ -44,7 +47,7 @@ impl State {
             groups: Groups::new(alloc, seed),
             silences: NotedSilences::new(alloc, seed),
             log: NfLog::new(alloc, seed)?,
-            flushes: Vec::new(alloc),
+            flushes: VecDeque::new(alloc),
             next_number: 1,
             history: Vec::new(alloc),
         })
@@ -54,9 +57,9 @@ impl State {
     /// flush.
     pub(crate) fn has_room(&self, records: usize, limit: usize) -> bool
         requires { records ≤ 2 }
-        ensures { IsTrue result ↔ (vec_len self.now.history + vec_len self.now.flushes + records ≤ limit) }
+        ensures { IsTrue result ↔ (vec_len self.now.history + deque_len self.now.flushes + records ≤ limit) }
     {
-        self.history.as_slice().len() + self.flushes.as_slice().len() + records <= limit
+        self.history.as_slice().len() + self.flushes.len() + records <= limit
     }
 
     /// Returns the time of a call: times never go back, and end at 10^15.

@@ -24,6 +24,7 @@ use Rattle.am_mute.specs.Inhibit.{RuleData, rule_fault}
 use Rattle.am_cli.specs.Decoding.{IsText, IsFlag, IsNumber, IsDuration, IsInterval, IsList, IsObject, Has, HasOr}
 use Rattle.am_cli.specs.MatcherText.{IsMatcherText}
 use Rattle.am_cli.specs.Read.{has_only}
+use Rattle.am_cli.specs.declared.config.TheConstants.{FEW_RECEIVERS, FEW_INTEGRATIONS, FEW_RULES}
 use Rattle.am_cli.specs.declared.reader.Mode.{Mode}
 use Rattle.am_cli.specs.declared.reader.Mode.TheVariants.{Lenient, Strict}
 
@@ -154,6 +155,16 @@ are_at_most greatest limits =
     nat_le limits.alerts greatest.alerts && nat_le limits.groups greatest.groups && nat_le limits.silences greatest.silences
     && nat_le limits.flushes greatest.flushes && nat_le limits.history greatest.history
 
+-- whether a receiver has no more integrations than one of a scenario
+abbrev pub has_few_integrations : Receiver → Bool
+has_few_integrations r = nat_le (length r.integrations) FEW_INTEGRATIONS
+
+-- whether a configuration has no more receivers, integrations and rules than its mode allows: a scenario keeps those of a small dispatcher
+abbrev pub has_few_parts : Mode → Config → Bool
+has_few_parts Strict config = true
+has_few_parts Lenient config =
+    nat_le (length config.receivers) FEW_RECEIVERS && list_all has_few_integrations config.receivers && nat_le (length config.rules) FEW_RULES
+
 -- the names of limits
 abbrev pub limit_names : List (List ℕ)
 limit_names = codes "names" ∷ codes "groups" ∷ codes "silences" ∷ codes "flushes" ∷ codes "history" ∷ []
@@ -192,6 +203,7 @@ pub record DecodesToConfig (mode : Mode) (value : Data) (config : Config) : Type
   pub parts : IsObject (HasParts mode) value config
   pub sound : config_fault config ≡ None
   pub within : IsTrue (are_at_most (limits_in mode) config.limits)
+  pub few : IsTrue (has_few_parts mode config)
 
 -- whether no matcher of a configuration needs a regex
 abbrev pub config_compares_texts : Config → Bool

@@ -4,10 +4,11 @@
 //! fails, `refusal` looks for the pointer of the fault. So a retention of zero is a fault of the
 //! whole configuration, and a `group_interval` or `repeat_interval` of zero is one of its own
 //! value.
-ghost use Rattle.std.specs.Prelude.{◌≡◌, ◌≢◌, IfErr, IfOk, IsTrue, None, codes};
+ghost use Rattle.std.specs.Prelude.{◌≡◌, ◌≢◌, ◌&&◌, IfErr, IfOk, IsTrue, None, codes};
+ghost use Rattle.std.specs.List.{list_all};
 ghost use Rattle.am_alerts.specs.RoutingTree.{level_fault, tree_of};
 ghost use Rattle.am_model.specs.Config.{config_fault};
-ghost use Rattle.am_cli.specs.Configured.{DecodesToConfig, DecodesToLimits, HasParts, are_at_most, config_compares_texts, limits_in};
+ghost use Rattle.am_cli.specs.Configured.{DecodesToConfig, DecodesToLimits, HasParts, are_at_most, config_compares_texts, has_few_integrations, has_few_parts, limits_in};
 ghost use Rattle.am_cli.specs.Decoding.{IsNumber, IsObject, HasOr};
 ghost use Rattle.am_cli.specs.Read.{Excludes};
 ghost use Rattle.serde_json.specs.View.{members_view, view};
@@ -20,11 +21,22 @@ use crate::route::read_root;
 use am_alerts::limits::MAX_CHILDREN;
 use am_alerts::route::{Child, Route, RouteFault, Routes};
 use am_alerts::sequence::Sequence;
-use am_model::config::{Config, ConfigFault, Integration, Limits, MAX_RECEIVERS, Receiver};
+use am_model::config::{
+    Config, ConfigFault, Integration, Limits, MAX_RECEIVERS, Receiver, Receivers,
+};
 use am_mute::inhibit::InhibitRule;
 
 /// How long the notification log keeps an entry: 120 hours, in milliseconds.
 const RETENTION: u64 = 432_000_000;
+
+/// The greatest number of receivers of a scenario.
+pub(crate) const FEW_RECEIVERS: usize = 64;
+
+/// The greatest number of integrations of a receiver of a scenario.
+pub(crate) const FEW_INTEGRATIONS: usize = 8;
+
+/// The greatest number of inhibition rules of a scenario.
+pub(crate) const FEW_RULES: usize = 256;
 
 /// Reads a configuration. One that no dispatcher may have is refused.
 pub fn read_config(reader: &Reader<'_, '_>) -> Result<Config, InputFault>
@@ -35,7 +47,7 @@ pub fn read_config(reader: &Reader<'_, '_>) -> Result<Config, InputFault>
 {
     let config = read_parts(reader)?;
     match config.check() {
-        Ok(()) if keeps_limits(reader.mode(), &config) => Ok(config),
+        Ok(()) if keeps_bounds(reader.mode(), &config) => Ok(config),
         Ok(()) => Err(refuse_config(reader, &config, ConfigFault::BadLimit)),
         Err(cause) => Err(refuse_config(reader, &config, cause)),
     }
@@ -53,6 +65,13 @@ pub(crate) fn limits_in(mode: Mode) -> Limits
     }
 }
 
+/// Whether a configuration is no larger than the mode allows.
+fn keeps_bounds(mode: Mode, config: &Config) -> bool
+    ensures { result ≡ (are_at_most (limits_in mode) config.now.limits && has_few_parts mode config.now) }
+{
+    keeps_limits(mode, config) && has_few_parts(mode, config)
+}
+
 /// Whether no limit of a configuration is above those of the mode.
 fn keeps_limits(mode: Mode, config: &Config) -> bool
     ensures { result ≡ are_at_most (limits_in mode) config.now.limits }
@@ -64,6 +83,31 @@ fn keeps_limits(mode: Mode, config: &Config) -> bool
         && limits.silences <= greatest.silences
         && limits.flushes <= greatest.flushes
         && limits.history <= greatest.history
+}
+
+/// Whether a configuration has no more receivers, integrations and rules than the mode allows.
+///
+/// A scenario of `am-run` keeps those of a small dispatcher.
+fn has_few_parts(mode: Mode, config: &Config) -> bool
+    ensures { result ≡ has_few_parts mode config.now }
+{
+    match mode {
+        Mode::Strict => true,
+        Mode::Lenient => {
+            config.receivers.len() <= FEW_RECEIVERS
+                && have_few_integrations(config.receivers.as_slice())
+                && config.rules.len() <= FEW_RULES
+        }
+    }
+}
+
+/// Whether no receiver has more integrations than one of a scenario.
+fn have_few_integrations(receivers: &[Receiver]) -> bool
+    ensures { result ≡ list_all has_few_integrations receivers.now }
+{
+    receivers
+        .iter()
+        .all(|r| r.integrations.len() <= FEW_INTEGRATIONS)
 }
 
 /// Reads the parts of a configuration.
@@ -91,9 +135,10 @@ fn read_parts(reader: &Reader<'_, '_>) -> Result<Config, InputFault>
         return Err(refuse_receivers(reader));
     }
     let routes = make_routes(reader, root, children)?;
+    let by_name = Receivers::new(reader.alloc(), receivers)?;
     Ok(Config {
         routes,
-        receivers: Sequence::from(receivers),
+        receivers: by_name,
         rules: Sequence::from(rules),
         retention,
         limits,

@@ -15,6 +15,7 @@ pub record IsWhole (selection : Selection) : Type 0 where
 -- to play the story on standard input, as it is
 pub record IsPlain (play : PlayRequest) : Type 0 where
   pub story : play.story.now ≡ codes "-"
+  pub others : play.others.items ≡ []
   pub config : play.config ≡ None
   pub output : play.output ≡ None
   pub until : play.until ≡ None
@@ -28,7 +29,7 @@ abbrev pub IsPlainPlay : Request → Type 0
 IsPlainPlay (Play play) = IsPlain play
 IsPlainPlay (Compare request) = ⊥
 IsPlainPlay (Story request) = ⊥
-IsPlainPlay (Check files style) = ⊥
+IsPlainPlay (Check files config style) = ⊥
 IsPlainPlay (Routes file labels verify style) = ⊥
 IsPlainPlay (Json files style) = ⊥
 IsPlainPlay Manual = ⊥

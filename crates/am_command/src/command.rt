@@ -64,8 +64,8 @@ const FORMAT: Word = (
 const PLAY: [Word; 13] = [
     (
         "STORY",
-        Takes::One,
-        "A file in YAML or JSON with what happens; - is standard input",
+        Takes::Some,
+        "Files in YAML or JSON with what happens, or folders with such files; - is standard input",
     ),
     (
         "config",
@@ -111,7 +111,7 @@ const PLAY: [Word; 13] = [
     (
         "junit",
         Takes::Value("FILE"),
-        "Writes what became of the expectations to this file, as XML of JUnit",
+        "Writes what became of the expectations of all stories to this file, as XML of JUnit",
     ),
     COLOR,
     FORMAT,
@@ -143,7 +143,7 @@ const COMPARE: [Word; 7] = [
     FORMAT,
 ];
 
-const STORY: [Word; 6] = [
+const STORY: [Word; 8] = [
     (
         "prometheus",
         Takes::Value("FILE"),
@@ -164,15 +164,30 @@ const STORY: [Word; 6] = [
         Takes::Value("FILE"),
         "The answer of Alertmanager's /api/v2/silences",
     ),
+    (
+        "label",
+        Takes::Values("LABEL=VALUE"),
+        "An external label, which each alert gets unless it has one of the name, such as cluster=eu1; may be given again",
+    ),
+    (
+        "drop",
+        Takes::Values("MATCHER"),
+        "Leaves out the alerts that match, such as alertname=\"Watchdog\"; may be given again",
+    ),
     COLOR,
     FORMAT,
 ];
 
-const CHECK: [Word; 3] = [
+const CHECK: [Word; 4] = [
     (
         "FILE",
         Takes::Some,
         "An alertmanager.yml, a config of our own or a story; - is standard input",
+    ),
+    (
+        "config",
+        Takes::Value("FILE"),
+        "A configuration for the stories, in place of their own",
     ),
     COLOR,
     FORMAT,

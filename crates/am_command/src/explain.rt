@@ -2,7 +2,7 @@
 use crate::durations::rewritten;
 use crate::fields::{FIELDS, FieldKind, in_words, kind_in};
 use crate::spelling::Nearest;
-use crate::spot::Spot;
+use crate::spot::{Spot, parted};
 use serde_json::Value;
 use std::alloc::{AllocError, Global};
 
@@ -226,7 +226,7 @@ fn bad_value(
     bounds: &Bounds,
 ) -> Result<String, AllocError> {
     if spot.is_label {
-        return bad_label(alloc, spot, bounds);
+        return bad_label(alloc, pointer, spot, bounds);
     }
     let name = spot.name.as_str();
     let Some(text) = spot.text() else {
@@ -264,12 +264,44 @@ fn bad_list(
     }
 }
 
-fn bad_label(alloc: Global, spot: &Spot<'_>, bounds: &Bounds) -> Result<String, AllocError> {
+/// Says what is wrong with a label, or with a matcher that is written as one, in one cause where it is known.
+fn bad_label(
+    alloc: Global,
+    pointer: &str,
+    spot: &Spot<'_>,
+    bounds: &Bounds,
+) -> Result<String, AllocError> {
     let name = spot.name.as_str();
+    let value = spot.text().unwrap_or("");
     let label_bytes = bounds.label_bytes;
+    if !is_label_name(name) {
+        return format!(in alloc;
+            "`{name}` is no label name: it has letters, digits and `_`, and begins with no digit"
+        );
+    }
+    if name.len() > label_bytes || value.len() > label_bytes {
+        return format!(in alloc; "a label's name and value have at most {label_bytes} bytes each");
+    }
+    let (above, _) = parted(pointer);
+    if above.ends_with("match_re") {
+        return format!(in alloc;
+            "`{value}` is a pattern that isn't right; patterns have RE2's form"
+        );
+    }
     format!(in alloc;
-        "`{name}` isn't right here: a name has letters, digits and `_`, a value at most {label_bytes} bytes, a pattern RE2's form"
+        "`{name}` isn't right here: a name has letters, digits and `_`, a value at most {label_bytes} bytes"
     )
+}
+
+fn is_label_name(name: &str) -> bool {
+    let begins_one = match name.as_bytes().first() {
+        None => false,
+        Some(first) => !first.is_ascii_digit(),
+    };
+    begins_one
+        && name
+            .bytes()
+            .all(|byte| byte.is_ascii_alphanumeric() || byte == b'_')
 }
 
 fn bad_duration(

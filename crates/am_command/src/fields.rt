@@ -16,7 +16,7 @@ pub(crate) enum FieldKind {
 }
 
 /// The fields that are known by name, those of stories first.
-pub(crate) const FIELDS: [(&str, FieldKind); 80] = [
+pub(crate) const FIELDS: [(&str, FieldKind); 81] = [
     ("config", FieldKind::Object),
     ("alertmanager", FieldKind::Object),
     ("start", FieldKind::Text),
@@ -25,6 +25,7 @@ pub(crate) const FIELDS: [(&str, FieldKind); 80] = [
     ("alerts", FieldKind::Objects),
     ("silences", FieldKind::Objects),
     ("maintain", FieldKind::Duration),
+    ("remove_empty_groups", FieldKind::Duration),
     ("outages", FieldKind::Objects),
     ("expect", FieldKind::Objects),
     ("reload", FieldKind::Objects),

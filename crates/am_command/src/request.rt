@@ -44,10 +44,13 @@ pub struct Selection<'a> {
     pub changes: bool,
 }
 
-/// A story that is simulated, and what replaces parts of it.
+/// Stories that are simulated, and what replaces parts of them.
 #[derive(Drop)]
 pub struct PlayRequest<'a> {
+    /// A file, or a folder of files.
     pub story: &'a str,
+    /// Further ones.
+    pub others: Vec<&'a str>,
     pub config: Option<&'a str>,
     pub output: Option<&'a str>,
     pub until: Option<&'a str>,
@@ -74,12 +77,16 @@ pub struct CompareRequest<'a> {
 }
 
 /// Answers of which a story is made.
-#[derive(Clone, Copy)]
+#[derive(Drop)]
 pub struct StoryRequest<'a> {
     pub prometheus: Option<&'a str>,
     pub gap: Option<&'a str>,
     pub alertmanager: Option<&'a str>,
     pub silences: Option<&'a str>,
+    /// External labels, such as `cluster=eu1`.
+    pub labels: Vec<&'a str>,
+    /// Matchers. An alert that matches one of them is left out.
+    pub drops: Vec<&'a str>,
     pub style: Style,
 }
 
@@ -91,6 +98,8 @@ pub enum Request<'a> {
     Story(StoryRequest<'a>),
     Check {
         files: Vec<&'a str>,
+        /// A configuration for the stories, in place of their own.
+        config: Option<&'a str>,
         style: Style,
     },
     Routes {
@@ -122,6 +131,7 @@ pub fn read_request<'a>(alloc: Global, words: &'a [String]) -> Result<Request<'a
     if words.len() < 2 {
         return Ok(Request::Play(PlayRequest {
             story: STANDARD_INPUT,
+            others: Vec::new(alloc),
             config: None,
             output: None,
             until: None,
@@ -155,9 +165,10 @@ fn request_of<'a>(alloc: Global, matches: &ArgMatches<'a>) -> Result<Request<'a>
     match name {
         "play" => Ok(Request::Play(play_request(alloc, matches)?)),
         "compare" => Ok(Request::Compare(compare_request(matches))),
-        "story" => Ok(Request::Story(story_request(matches))),
+        "story" => Ok(Request::Story(story_request(alloc, matches)?)),
         "check" => Ok(Request::Check {
             files: all_of(alloc, matches, "FILE")?,
+            config: matches.get_str("config"),
             style: style_of(matches),
         }),
         "routes" => Ok(Request::Routes {
@@ -180,7 +191,8 @@ fn play_request<'a>(
     matches: &ArgMatches<'a>,
 ) -> Result<PlayRequest<'a>, AllocError> {
     Ok(PlayRequest {
-        story: text_of(matches, "STORY"),
+        story: first_of(matches, "STORY"),
+        others: others_of(alloc, matches, "STORY")?,
         config: matches.get_str("config"),
         output: matches.get_str("output"),
         until: matches.get_str("until"),
@@ -208,19 +220,49 @@ fn compare_request<'a>(matches: &ArgMatches<'a>) -> CompareRequest<'a> {
     }
 }
 
-fn story_request<'a>(matches: &ArgMatches<'a>) -> StoryRequest<'a> {
-    StoryRequest {
+fn story_request<'a>(
+    alloc: Global,
+    matches: &ArgMatches<'a>,
+) -> Result<StoryRequest<'a>, AllocError> {
+    Ok(StoryRequest {
         prometheus: matches.get_str("prometheus"),
         gap: matches.get_str("gap"),
         alertmanager: matches.get_str("alertmanager"),
         silences: matches.get_str("silences"),
+        labels: all_of(alloc, matches, "label")?,
+        drops: all_of(alloc, matches, "drop")?,
         style: style_of(matches),
-    }
+    })
 }
 
 /// Returns the value of a required argument.
 fn text_of<'a>(matches: &ArgMatches<'a>, name: &str) -> &'a str {
     matches.get_str(name).unwrap_or(STANDARD_INPUT)
+}
+
+/// Returns the first value of an argument that has one at least.
+fn first_of<'a>(matches: &ArgMatches<'a>, name: &str) -> &'a str {
+    match matches.get_strs(name) {
+        None => STANDARD_INPUT,
+        Some(values) => values.first().copied().unwrap_or(STANDARD_INPUT),
+    }
+}
+
+/// Returns all values of an argument but the first.
+fn others_of<'a>(
+    alloc: Global,
+    matches: &ArgMatches<'a>,
+    name: &str,
+) -> Result<Vec<&'a str>, AllocError> {
+    let mut others = Vec::new(alloc);
+    if let Some(values) = matches.get_strs(name) {
+        for (index, value) in values.iter().enumerate() {
+            if index > 0 {
+                others.push(*value)?;
+            }
+        }
+    }
+    Ok(others)
 }
 
 fn all_of<'a>(

@@ -1,32 +1,82 @@
 //! `am-rehearse check`: says what configurations hold, or all that is wrong in them.
 use crate::config::configured;
 use crate::faults::accept;
+use crate::given::given_to;
 use crate::lint::Warnings;
 use crate::once::accept_inputs;
+use crate::reload_files::read_reload_files;
 use crate::times::written_routes;
 use crate::warnings::push_warnings;
+use crate::wrapped::read_configuration;
 use am_command::exit_status::ExitStatus;
 use am_console::console::{Console, Document, shown};
-use am_input::configured::Configured;
+use am_input::configured::{Configured, read_file};
 use am_input::faults::ReceiversOf;
 use am_input::form::{Form, alertmanager_in, form_of, has_configuration};
 use am_input::input::Overrides;
 use std::alloc::AllocError;
 use std::rt::Files;
 
-/// Checks each file, and returns the status: that of the first file that isn't accepted, if there is one.
+/// What `check` changes in a story.
+const NOTHING: Overrides = Overrides {
+    output: None,
+    until: None,
+};
+
+/// Checks each file, and returns the status: that of the first file that isn't accepted, if there is one. A configuration that
+/// is given takes the place of that of each story.
 pub fn check<R: Files + Eprint + AllocGlobal>(
     rt: &R,
     console: &mut Console,
     files: &[&str],
+    config: Option<&str>,
 ) -> ExitStatus {
-    if let Err(refused) = accept_inputs(rt, files) {
+    if let Err(refused) = accept_all(rt, console, files, config) {
         return refused;
     }
+    let Some(path) = config else {
+        return check_each(rt, console, files, None);
+    };
+    let config = match read_configuration(rt, console, path) {
+        Ok(config) => config,
+        Err(status) => return status,
+    };
+    match read_file(rt.alloc(), &config.value, None) {
+        Ok(_configured) => check_each(rt, console, files, Some(&config)),
+        Err(refusal) => console.complain_of_refusal(rt, &config, refusal),
+    }
+}
+
+/// Refuses standard input as two of the files. The error is the status.
+fn accept_all<R: Eprint + AllocGlobal>(
+    rt: &R,
+    console: &Console,
+    files: &[&str],
+    config: Option<&str>,
+) -> Result<(), ExitStatus> {
+    let mut inputs = Vec::new(rt.alloc());
+    if inputs.push(config.unwrap_or("")).is_err() {
+        return Err(console.complain_of_memory(rt));
+    }
+    for file in files {
+        if inputs.push(*file).is_err() {
+            return Err(console.complain_of_memory(rt));
+        }
+    }
+    accept_inputs(rt, inputs.as_slice())
+}
+
+/// Checks each file, and returns the status.
+fn check_each<R: Files + Eprint + AllocGlobal>(
+    rt: &R,
+    console: &mut Console,
+    files: &[&str],
+    config: Option<&Document<'_>>,
+) -> ExitStatus {
     let mut status = ExitStatus::Done;
     let mut lines = String::new(rt.alloc());
     for path in files {
-        if let Err(fault) = check_file(rt, console, path, &mut lines) {
+        if let Err(fault) = check_file(rt, console, path, config, &mut lines) {
             if status == ExitStatus::Done {
                 status = fault;
             }
@@ -43,23 +93,38 @@ fn check_file<R: Files + Eprint + AllocGlobal>(
     rt: &R,
     console: &mut Console,
     path: &str,
+    config: Option<&Document<'_>>,
     lines: &mut String,
 ) -> Result<(), ExitStatus> {
-    let document = console.read(rt, path)?;
-    match form_of(&document.value) {
-        Form::Story if !has_configuration(&document.value) => {
-            check_story(rt, console, &document, ReceiversOf::Given(None))?;
-            let file = shown(path);
-            return match writeln!(lines, "{file}: accepted; a story without a configuration") {
-                Ok(()) => Ok(()),
-                Err(_) => Err(console.complain_of_memory(rt)),
-            };
-        }
-        Form::Story => check_story(rt, console, &document, ReceiversOf::Own)?,
-        Form::Own | Form::Alertmanager => {}
+    let mut document = read_configuration(rt, console, path)?;
+    if form_of(&document.value) != Form::Story {
+        return summarize(rt, console, &document, lines);
     }
-    let configured = configured(rt, console, &document)?;
-    let added = push_summary(rt, path, &document, &configured, lines);
+    read_reload_files(rt, console, &mut document, NOTHING)?;
+    if let Some(config) = config {
+        return check_under(rt, console, &document, config, lines);
+    }
+    if has_configuration(&document.value) {
+        accept(rt, console, &document, ReceiversOf::Own, NOTHING)?;
+        return summarize(rt, console, &document, lines);
+    }
+    accept(rt, console, &document, ReceiversOf::Given(None), NOTHING)?;
+    let file = shown(path);
+    match writeln!(lines, "{file}: accepted; a story without a configuration") {
+        Ok(()) => Ok(()),
+        Err(_) => Err(console.complain_of_memory(rt)),
+    }
+}
+
+/// Adds what the configuration of a file holds. The error is the status.
+fn summarize<R: Files + Eprint + AllocGlobal>(
+    rt: &R,
+    console: &Console,
+    document: &Document<'_>,
+    lines: &mut String,
+) -> Result<(), ExitStatus> {
+    let configured = configured(rt, console, document)?;
+    let added = push_summary(rt, document.path, document, &configured, lines);
     drop(configured);
     match added {
         Ok(()) => Ok(()),
@@ -67,17 +132,24 @@ fn check_file<R: Files + Eprint + AllocGlobal>(
     }
 }
 
-fn check_story<R: Files + Eprint + AllocGlobal>(
+/// Adds that a story is accepted under a configuration that is given to it. The error is the status.
+fn check_under<R: Files + Eprint + AllocGlobal>(
     rt: &R,
     console: &Console,
-    document: &Document<'_>,
-    receivers: ReceiversOf<'_>,
+    story: &Document<'_>,
+    config: &Document<'_>,
+    lines: &mut String,
 ) -> Result<(), ExitStatus> {
-    let overrides = Overrides {
-        output: None,
-        until: None,
-    };
-    accept(rt, console, document, receivers, overrides)
+    let configured = given_to(rt, console, story, config, NOTHING)?;
+    let receivers = ReceiversOf::Given(Some(&configured));
+    accept(rt, console, story, receivers, NOTHING)?;
+    drop(configured);
+    let file = shown(story.path);
+    let config = shown(config.path);
+    match writeln!(lines, "{file}: accepted; a story under {config}") {
+        Ok(()) => Ok(()),
+        Err(_) => Err(console.complain_of_memory(rt)),
+    }
 }
 
 /// Adds how many receivers, integrations, rules and routes there are, what is ignored and the warnings.

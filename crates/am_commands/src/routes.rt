@@ -5,6 +5,7 @@ ghost use Rattle.am_alerts.specs.RoutingTree.{last_of};
 use crate::config::configured;
 use crate::times::{push_times, written_routes};
 use crate::tree::{push_reached, tree_text};
+use crate::wrapped::read_configuration;
 use am_alerts::labels::{LabelFault, Labels};
 use am_alerts::matcher::{MatcherParts, Operator};
 use am_alerts::route::Routes;
@@ -40,7 +41,7 @@ fn try_routes<R: Files + Eprint + AllocGlobal>(
     console: &mut Console,
     request: RoutesRequest<'_, '_>,
 ) -> Result<ExitStatus, ExitStatus> {
-    let document = console.read(rt, request.file)?;
+    let document = read_configuration(rt, console, request.file)?;
     let configured = configured(rt, console, &document)?;
     let status = print_routes(rt, console, &document, &configured.config.routes, request);
     drop(configured);
@@ -101,7 +102,7 @@ fn print_reached<R: Eprint + AllocGlobal>(
 }
 
 /// Returns the label set of words such as `severity=critical`. The error is the status.
-fn labels_of<R: Eprint + AllocGlobal>(
+pub(crate) fn labels_of<R: Eprint + AllocGlobal>(
     rt: &R,
     console: &Console,
     words: &[&str],

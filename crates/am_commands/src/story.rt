@@ -1,5 +1,6 @@
 //! `am-rehearse story`: makes a story of what Prometheus or Alertmanager answers.
 use crate::once::accept_inputs;
+use crate::story_edits::edit_incident;
 use am_alerts::duration::read_duration;
 use am_cli::fault::InputFault;
 use am_cli::faults::Refusal;
@@ -20,7 +21,7 @@ use std::rt::Files;
 pub fn story<R: Files + Eprint + AllocGlobal>(
     rt: &R,
     console: &mut Console,
-    request: StoryRequest<'_>,
+    request: &StoryRequest<'_>,
 ) -> ExitStatus {
     match try_story(rt, console, request) {
         Ok(()) => ExitStatus::Done,
@@ -31,9 +32,10 @@ pub fn story<R: Files + Eprint + AllocGlobal>(
 fn try_story<R: Files + Eprint + AllocGlobal>(
     rt: &R,
     console: &mut Console,
-    request: StoryRequest<'_>,
+    request: &StoryRequest<'_>,
 ) -> Result<(), ExitStatus> {
     let mut incident = incident_of(rt, console, request)?;
+    edit_incident(rt, console, request, &mut incident)?;
     if incident.alerts.is_empty() {
         let _ = eprintln!(rt;
             "am-rehearse: the answer has no alert that fired; the story is empty"
@@ -50,7 +52,7 @@ fn try_story<R: Files + Eprint + AllocGlobal>(
 fn incident_of<R: Files + Eprint + AllocGlobal>(
     rt: &R,
     console: &mut Console,
-    request: StoryRequest<'_>,
+    request: &StoryRequest<'_>,
 ) -> Result<Incident, ExitStatus> {
     match (request.prometheus, request.alertmanager) {
         (Some(path), None) => {

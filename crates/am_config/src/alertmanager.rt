@@ -1,17 +1,20 @@
 //! Reads a whole `alertmanager.yml`, as JSON. `am_rehearse` calls `read_alertmanager`.
-ghost use Rattle.std.specs.Prelude.{◌≡◌, IfErr, IfOk, None};
+ghost use Rattle.std.specs.Prelude.{◌≡◌, [], IfErr, IfOk, IfSome, None};
+ghost use Rattle.serde_json.specs.View.{view};
 ghost use Rattle.am_cli.specs.Faults.{HasFaults};
+ghost use Rattle.am_config.specs.Receivers.{ReceiversAre};
+ghost use Rattle.am_config.specs.Rules.{RulesAre};
 ghost use Rattle.am_model.specs.Config.{config_fault, greatest_limits};
 
+use crate::collected::keep;
 use crate::dropped::IgnoredSettings;
-use crate::findings::{keep_findings, keep_unknown};
 use crate::hours::Hours;
 use crate::inhibit::read_rules;
 use crate::optional::{has_items, non_null};
 use crate::receiver::read_receivers;
 use crate::route::{Routing, Tree, read_tree};
 use crate::scalar::text_of;
-use crate::settings::{Checking, Part};
+use crate::settings::{Checking, keep_findings, keep_unknown};
 use crate::times::{INTERVALS, MUTE, Times};
 use am_alerts::route::Routes;
 use am_alerts::sequence::Sequence;
@@ -19,8 +22,9 @@ use am_alerts::tree::TreeFault;
 use am_cli::fault::{FaultKind, InputFault};
 use am_cli::faults::{Faults, Refusal};
 use am_cli::reader::{Object, Reader};
-use am_model::config::{Config, Limits, Receiver};
+use am_model::config::{Config, Limits, Receiver, Receivers};
 use am_mute::inhibit::InhibitRule;
+use am_settings::settings::Part;
 
 /// The members of release 0.25, and `tracing` of later ones, which only concerns how things are sent.
 const MEMBERS: [&str; 8] = [
@@ -69,6 +73,8 @@ pub fn read_alertmanager(
 ) -> Result<Alertmanager, Refusal>
     ensures sound { IfOk result (λ read. config_fault read.config ≡ None) }
     ensures limits { IfOk result (λ read. read.config.limits ≡ greatest_limits) }
+    ensures receivers { IfOk result (λ read. ReceiversAre (view reader.now.value) read.config.receivers) }
+    ensures rules { IfOk result (λ read. RulesAre (view reader.now.value) read.config.rules) }
     ensures reported { IfErr result HasFaults }
 {
     let mut faults = Faults::none(reader.alloc());
@@ -86,8 +92,12 @@ fn read_parts(
     reader: &Reader<'_, '_>,
     hours: Option<&Hours>,
     checking: Checking,
-) -> Result<Option<Parts>, InputFault> {
-    let Some(top) = faults.kept(reader.object())? else {
+) -> Result<Option<Parts>, InputFault>
+    ensures receivers { IfOk result (λ parts. faults.new ≡ []
+        → IfSome parts (λ p. ReceiversAre (view reader.now.value) p.receivers.items)) }
+    ensures rules { IfOk result (λ parts. faults.new ≡ [] → IfSome parts (λ p. RulesAre (view reader.now.value) p.rules.items)) }
+{
+    let Some(top) = keep(faults, reader.object())? else {
         return Ok(None);
     };
     faults.only(&top, &MEMBERS)?;
@@ -116,7 +126,9 @@ fn drop_parts(
     if let Some(member) = non_null(top, "global") {
         if let Some(global) = faults.kept(member.object())? {
             match checking {
-                Checking::AsAlertmanager => keep_findings(faults, Part::Global, &global, None)?,
+                Checking::AsAlertmanager => {
+                    keep_findings(faults, &member, Part::Global, &global, None)?;
+                },
                 Checking::NamesAlone => keep_unknown(faults, Part::Global, &global)?,
             }
             dropped.global = !global.members().is_empty();
@@ -150,6 +162,8 @@ fn finish(
 ) -> Result<Alertmanager, Refusal>
     ensures sound { IfOk result (λ read. config_fault read.config ≡ None) }
     ensures limits { IfOk result (λ read. read.config.limits ≡ greatest_limits) }
+    ensures receivers { IfOk result (λ read. read.config.receivers ≡ parts.receivers.items) }
+    ensures rules { IfOk result (λ read. read.config.rules ≡ parts.rules.items) }
     ensures reported { IfErr result HasFaults }
 {
     let Parts {
@@ -166,9 +180,12 @@ fn finish(
         Err(TreeFault::NoMemory) => return Err(Refusal::One(InputFault::NoMemory)),
         Err(TreeFault::Unfit(_)) => return Err(refused(reader, faults)),
     };
+    let Ok(receivers) = Receivers::new(reader.alloc(), receivers) else {
+        return Err(Refusal::One(InputFault::NoMemory));
+    };
     let config = Config {
         routes,
-        receivers: Sequence::from(receivers),
+        receivers,
         rules: Sequence::from(rules),
         retention: RETENTION,
         limits: Limits::greatest(),

@@ -1,6 +1,14 @@
 //! Inhibition rules of an `alertmanager.yml`. `alertmanager` calls it.
+ghost use Rattle.std.specs.Prelude.{[], IfOk, IsSomeAnd, codes};
+ghost use Rattle.serde_json.specs.View.{members_view, view};
+ghost use Rattle.am_cli.specs.Decoding.{IsList, IsObject};
+ghost use Rattle.am_config.specs.Collects.{Collects};
+ghost use Rattle.am_config.specs.Rules.{HasRule, HasRules, IsLabelName};
+ghost use Rattle.am_config.specs.Said.{SaysOr};
+
+use crate::collected::{keep, only};
 use crate::matchers::{MatcherMembers, read_matchers};
-use crate::optional::non_null;
+use crate::optional::{items_up_to, non_null};
 use am_alerts::labels::is_label_name;
 use am_alerts::limits::MAX_LABEL_NAMES;
 use am_alerts::text::Text;
@@ -36,26 +44,25 @@ const TARGET: MatcherMembers = MatcherMembers {
     texts: "target_matchers",
 };
 
-/// Reads the inhibition rules. More than 256 are refused unread.
+/// Reads the inhibition rules. More than `MAX_RULES` are refused unread.
 pub(crate) fn read_rules(
     faults: &mut Faults,
     top: &Object<'_, '_>,
-) -> Result<Vec<InhibitRule>, InputFault> {
+) -> Result<Vec<InhibitRule>, InputFault>
+    ensures { IfOk result (λ rules. Collects faults.old faults.new (HasRules (members_view top.now.members) rules.items)) }
+{
     let mut rules = Vec::new(top.alloc());
     let Some(member) = non_null(top, "inhibit_rules") else {
         return Ok(rules);
     };
-    let Some(items) = faults.kept(member.array())? else {
+    let Some(items) = items_up_to(faults, &member, MAX_RULES)? else {
         return Ok(rules);
     };
-    if items.len() > MAX_RULES {
-        faults.push(member.refuse(FaultKind::BadValue))?;
-        return Ok(rules);
-    }
     for (index, value) in items.iter().enumerate() {
-        if let Some(rule) = read_rule(faults, &member.item(index, value))? {
-            rules.push(rule)?;
-        }
+        let Some(rule) = read_rule(faults, &member.item(index, value))? else {
+            continue;
+        };
+        rules.push(rule)?;
     }
     Ok(rules)
 }
@@ -63,42 +70,50 @@ pub(crate) fn read_rules(
 fn read_rule(
     faults: &mut Faults,
     reader: &Reader<'_, '_>,
-) -> Result<Option<InhibitRule>, InputFault> {
-    let Some(rule) = faults.kept(reader.object())? else {
+) -> Result<Option<InhibitRule>, InputFault>
+    ensures { IfOk result (λ read. Collects faults.old faults.new (IsSomeAnd read (IsObject HasRule (view reader.now.value)))) }
+{
+    let Some(rule) = keep(faults, reader.object())? else {
         return Ok(None);
     };
-    faults.only(&rule, &MEMBERS)?;
+    only(faults, &rule, &MEMBERS)?;
     let source = read_matchers(faults, &rule, &SOURCE)?;
     let target = read_matchers(faults, &rule, &TARGET)?;
     let equal = read_equal(faults, &rule)?;
-    faults.kept(InhibitRule::new(source, target, equal).map_err(|_| reader.refuse(
-        FaultKind::BadValue,
-    )))
+    match InhibitRule::new(source, target, equal) {
+        Ok(rule) => Ok(Some(rule)),
+        Err(_) => {
+            faults.push(reader.refuse(FaultKind::BadValue))?;
+            Ok(None)
+        }
+    }
 }
 
-/// Reads the names of the labels in which two alerts have to agree. More than 64 are refused unread.
-fn read_equal(faults: &mut Faults, rule: &Object<'_, '_>) -> Result<Vec<Text>, InputFault> {
+/// Reads the names of the labels in which two alerts have to agree. More than `MAX_LABEL_NAMES` are refused unread.
+fn read_equal(faults: &mut Faults, rule: &Object<'_, '_>) -> Result<Vec<Text>, InputFault>
+    ensures { IfOk result (λ names. Collects faults.old faults.new
+        (SaysOr (IsList IsLabelName) [] (codes "equal") (members_view rule.now.members) names.items)) }
+{
     let mut names = Vec::new(rule.alloc());
     let Some(member) = non_null(rule, "equal") else {
         return Ok(names);
     };
-    let Some(items) = faults.kept(member.array())? else {
+    let Some(items) = items_up_to(faults, &member, MAX_LABEL_NAMES)? else {
         return Ok(names);
     };
-    if items.len() > MAX_LABEL_NAMES {
-        faults.push(member.refuse(FaultKind::BadValue))?;
-        return Ok(names);
-    }
     for (index, value) in items.iter().enumerate() {
-        if let Some(name) = faults.kept(label_name(&member.item(index, value)))? {
-            names.push(name)?;
-        }
+        let Some(name) = keep(faults, label_name(&member.item(index, value)))? else {
+            continue;
+        };
+        names.push(name)?;
     }
     Ok(names)
 }
 
 /// Reads the name of a label.
-pub(crate) fn label_name(reader: &Reader<'_, '_>) -> Result<Text, InputFault> {
+pub(crate) fn label_name(reader: &Reader<'_, '_>) -> Result<Text, InputFault>
+    ensures { IfOk result (IsLabelName (view reader.now.value)) }
+{
     let name = reader.text()?;
     if !is_label_name(name) {
         return Err(reader.refuse(FaultKind::BadValue));

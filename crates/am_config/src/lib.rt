@@ -5,14 +5,11 @@
 //! the fields of an object come by name and not as the text has them.
 #![tactic(auto)]
 
-mod addresses;
 pub mod alertmanager;
+mod collected;
 pub mod dropped;
-pub mod explained;
-pub mod findings;
 pub mod hours;
 mod inhibit;
-mod integration_rows;
 pub mod law;
 mod matchers;
 mod names;
@@ -22,6 +19,5 @@ mod receiver;
 mod route;
 mod scalar;
 pub mod settings;
-mod shared_rows;
 mod times;
 pub mod written;

@@ -1,4 +1,16 @@
 //! Matchers of an `alertmanager.yml`. `route` and `inhibit` call it.
+ghost use Rattle.std.specs.Prelude.{◌≡◌, ◌++◌, ℕ, [], List, IfOk, IsTrue, OnOk, map, string_bytes};
+ghost use Rattle.serde_json.specs.View.{members_view, view};
+ghost use Rattle.am_alerts.specs.declared.matcher.Operator.{Operator};
+ghost use Rattle.am_cli.specs.Decoding.{IsObject};
+ghost use Rattle.am_cli.specs.MatcherText.{IsMatcherText};
+ghost use Rattle.am_config.specs.Collects.{Adds, Collects};
+ghost use Rattle.am_config.specs.Matchers.{AreInArray, AreInText, AreMatchers, ArePairs, IsPair, at_comma, fields_of};
+ghost use Rattle.am_config.specs.Matchers.{matchers_in, unbraced, unless_empty, with_front, without_first};
+ghost use Rattle.std.specs.Str.{trim};
+ghost use Rattle.am_config.specs.Said.{SaysOr};
+
+use crate::collected::keep;
 use crate::optional::non_null;
 use crate::scalar::matched_text_of;
 use am_alerts::limits::MAX_MATCHERS;
@@ -27,7 +39,10 @@ pub(crate) fn read_matchers(
     faults: &mut Faults,
     object: &Object<'_, '_>,
     members: &MatcherMembers,
-) -> Result<Vec<Matcher>, InputFault> {
+) -> Result<Vec<Matcher>, InputFault>
+    ensures { IfOk result (λ matchers. Collects faults.old faults.new
+        (AreMatchers (fields_of members.now) (members_view object.now.members) matchers.items)) }
+{
     let mut matchers = Vec::new(object.alloc());
     read_pairs(
         faults,
@@ -48,21 +63,26 @@ fn read_pairs(
     name: &str,
     op: Operator,
     matchers: &mut Vec<Matcher>,
-) -> Result<(), InputFault> {
+) -> Result<(), InputFault>
+    ensures { OnOk result (Collects faults.old faults.new (Adds matchers.old.items matchers.new.items
+        (SaysOr (IsObject (ArePairs op)) [] name.now (members_view object.now.members)))) }
+{
     let Some(member) = non_null(object, name) else {
         return Ok(());
     };
-    let Some(pairs) = faults.kept(member.object())? else {
+    let Some(pairs) = keep(faults, member.object())? else {
         return Ok(());
     };
-    for (name, value) in pairs.members().iter() {
-        let reader = pairs.member(name.as_str(), value);
-        if !has_room(faults, matchers, &reader)? {
+    for (label, value) in pairs.members().iter() {
+        let reader = pairs.member(label.as_str(), value);
+        if !has_capacity(faults, matchers, &reader)? {
             return Ok(());
         }
-        if let Some(matcher) = faults.kept(matcher_of_pair(&reader, name.as_str(), op, value))? {
-            matchers.push(matcher)?;
-        }
+        let read = matcher_of_pair(&reader, label.as_str(), op, value);
+        let Some(matcher) = keep(faults, read)? else {
+            continue;
+        };
+        matchers.push(matcher)?;
     }
     Ok(())
 }
@@ -73,40 +93,63 @@ fn read_texts(
     object: &Object<'_, '_>,
     name: &str,
     matchers: &mut Vec<Matcher>,
-) -> Result<(), InputFault> {
+) -> Result<(), InputFault>
+    ensures { OnOk result (Collects faults.old faults.new (Adds matchers.old.items matchers.new.items
+        (SaysOr AreInArray [] name.now (members_view object.now.members)))) }
+{
     let Some(member) = non_null(object, name) else {
         return Ok(());
     };
-    let Some(items) = faults.kept(member.array())? else {
+    let Some(items) = keep(faults, member.array())? else {
         return Ok(());
     };
     for (index, value) in items.iter().enumerate() {
-        let item = member.item(index, value);
-        if let Some(text) = faults.kept(item.text())? {
-            for written in split(object.alloc(), text)? {
-                if !has_room(faults, matchers, &item)? {
-                    return Ok(());
-                }
-                if let Some(matcher) = faults.kept(matcher_of_text(&item, written.as_str()))? {
-                    matchers.push(matcher)?;
-                }
-            }
+        if !read_text(faults, &member.item(index, value), matchers)? {
+            return Ok(());
         }
     }
     Ok(())
 }
 
+/// Adds the matchers of one text; answers whether there was capacity for them.
+fn read_text(
+    faults: &mut Faults,
+    item: &Reader<'_, '_>,
+    matchers: &mut Vec<Matcher>,
+) -> Result<bool, InputFault>
+    ensures { IfOk result (λ has_capacity. Collects faults.old faults.new
+        (IsTrue has_capacity × Adds matchers.old.items matchers.new.items (AreInText (view item.now.value)))) }
+{
+    let Some(text) = keep(faults, item.text())? else {
+        return Ok(true);
+    };
+    let texts = split(item.alloc(), text)?;
+    let all = texts.as_slice();
+    for written in all {
+        if !has_capacity(faults, matchers, item)? {
+            return Ok(false);
+        }
+        let Some(matcher) = keep(faults, matcher_of_text(item, written.as_str()))? else {
+            continue;
+        };
+        matchers.push(matcher)?;
+    }
+    Ok(true)
+}
+
 /// Whether there can be another matcher, which is rejected where there can't be.
-fn has_room(
+fn has_capacity(
     faults: &mut Faults,
     matchers: &[Matcher],
     reader: &Reader<'_, '_>,
-) -> Result<bool, InputFault> {
-    let has_room = matchers.len() < MAX_MATCHERS;
-    if !has_room {
-        faults.push(reader.refuse(FaultKind::BadValue))?;
+) -> Result<bool, InputFault>
+    ensures { IfOk result (λ has_capacity. Collects faults.old faults.new (IsTrue has_capacity)) }
+{
+    if matchers.len() < MAX_MATCHERS {
+        return Ok(true);
     }
-    Ok(has_room)
+    faults.push(reader.refuse(FaultKind::BadValue))?;
+    Ok(false)
 }
 
 fn matcher_of_pair(
@@ -114,7 +157,9 @@ fn matcher_of_pair(
     name: &str,
     op: Operator,
     value: &Value,
-) -> Result<Matcher, InputFault> {
+) -> Result<Matcher, InputFault>
+    ensures { IfOk result (IsPair op name.now (view value.now)) }
+{
     let parts = MatcherParts {
         name: Text::new(reader.alloc(), name)?,
         op,
@@ -123,14 +168,18 @@ fn matcher_of_pair(
     matcher_of(reader, parts)
 }
 
-fn matcher_of_text(reader: &Reader<'_, '_>, written: &str) -> Result<Matcher, InputFault> {
+fn matcher_of_text(reader: &Reader<'_, '_>, written: &str) -> Result<Matcher, InputFault>
+    ensures { IfOk result (IsMatcherText written.now) }
+{
     match parts_of_text(reader.alloc(), written)? {
         None => Err(reader.refuse(FaultKind::BadValue)),
         Some(parts) => matcher_of(reader, parts),
     }
 }
 
-fn matcher_of(reader: &Reader<'_, '_>, parts: MatcherParts) -> Result<Matcher, InputFault> {
+fn matcher_of(reader: &Reader<'_, '_>, parts: MatcherParts) -> Result<Matcher, InputFault>
+    ensures { IfOk result (λ matcher. matcher ≡ parts) }
+{
     match Matcher::new(reader.alloc(), parts) {
         Ok(matcher) => Ok(matcher),
         Err(MatcherFault::NoMemory) => Err(InputFault::NoMemory),
@@ -140,64 +189,121 @@ fn matcher_of(reader: &Reader<'_, '_>, parts: MatcherParts) -> Result<Matcher, I
 
 /// The texts of single matchers in one text: it can be in braces, and a comma outside quotes ends a
 /// matcher. One can be behind the last.
-fn split(alloc: Global, text: &str) -> Result<Vec<String>, AllocError> {
-    let text = text.strip_prefix('{').unwrap_or(text);
-    let text = text.strip_suffix('}').unwrap_or(text);
-    let mut splitter = Splitter {
-        alloc,
-        ended: Vec::new(alloc),
-        begun: String::new(alloc),
-        is_quoted: false,
+fn split(alloc: Global, text: &str) -> Result<Vec<String>, AllocError>
+    ensures { IfOk result (λ texts. map string_bytes texts.items ≡ matchers_in text.now) }
+{
+    let mut ended = Vec::new(alloc);
+    let mut begun = String::new(alloc);
+    let mut quoting = Quoting {
+        is_open: false,
         is_escaped: false,
     };
-    for character in text.chars() {
-        splitter.take(character)?;
+    let mut rest = without_braces(text);
+    while let Some((before, behind)) = rest.split_once(',') {
+        begun.push_str(before)?;
+        quoting = quoting.behind(before);
+        end_piece(alloc, &mut ended, &mut begun, quoting.is_open)?;
+        rest = behind;
     }
-    splitter.finish()
+    begun.push_str(rest)?;
+    push_last(alloc, &mut ended, begun.as_str())?;
+    Ok(ended)
 }
 
-/// What was found in the first characters of a text of matchers.
-#[derive(Drop)]
-struct Splitter {
+/// Adds the last piece without the blanks around it. Only blanks are none.
+fn push_last(alloc: Global, ended: &mut Vec<String>, piece: &str) -> Result<(), AllocError>
+    ensures { OnOk result (map string_bytes ended.new.items ≡ map string_bytes ended.old.items ++ unless_empty (trim piece.now)) }
+{
+    let last = piece.trim();
+    if last.is_empty() {
+        return Ok(());
+    }
+    ended.push(String::from_str(alloc, last)?)?;
+    Ok(())
+}
+
+/// A text without the braces around it, of which each can be missing.
+fn without_braces(text: &str) -> &str
+    ensures { result.now ≡ unbraced text.now }
+{
+    let inner = without_opening(text);
+    match inner.strip_suffix('}') {
+        None => inner,
+        Some(closed) => closed,
+    }
+}
+
+fn without_opening(text: &str) -> &str
+    ensures { result.now ≡ without_first 123 text.now }
+{
+    match text.strip_prefix('{') {
+        None => text,
+        Some(inner) => inner,
+    }
+}
+
+/// Ends a piece at a comma, or adds the comma to it where quotes are open.
+fn end_piece(
     alloc: Global,
-    ended: Vec<String>,
-    begun: String,
-    is_quoted: bool,
-    /// Whether a backslash before it keeps the next quote from beginning or ending something.
+    ended: &mut Vec<String>,
+    begun: &mut String,
+    is_open: bool,
+) -> Result<(), AllocError>
+    ensures { OnOk result ((next : List (List ℕ)) → map string_bytes ended.old.items ++ with_front (string_bytes begun.old) (at_comma is_open next)
+        ≡ map string_bytes ended.new.items ++ with_front (string_bytes begun.new) next) }
+{
+    if is_open {
+        return begun.push(',');
+    }
+    let piece = std::mem::replace(begun, String::new(alloc));
+    ended.push(piece)?;
+    Ok(())
+}
+
+/// Whether quotes are open in a text of matchers.
+#[derive(Clone, Copy)]
+struct Quoting {
+    is_open: bool,
+    /// Whether a backslash keeps the next quote from opening or closing them.
     is_escaped: bool,
 }
 
-impl Splitter {
-    fn take(&mut self, character: char) -> Result<(), AllocError> {
-        match character {
-            ',' if !self.is_quoted => return self.end(),
-            // In quotes a comma leaves it as it is whether a backslash is before.
-            ',' => {}
-            '\\' => self.is_escaped = !self.is_escaped,
-            '"' if !self.is_escaped => self.is_quoted = !self.is_quoted,
-            _ => self.is_escaped = false,
+impl Quoting {
+    ghost use Rattle.std.specs.Prelude.{◌≡◌};
+    ghost use Rattle.am_config.specs.Matchers.{quoting_after, quoting_behind};
+
+    /// What it is behind a text.
+    fn behind(self, text: &str) -> Quoting
+        ensures { result ≡ quoting_after self text.now }
+    {
+        let bytes = text.as_bytes();
+        let mut quoting = self;
+        for byte in bytes {
+            quoting = quoting.behind_byte(*byte);
         }
-        self.begun.push(character)
+        quoting
     }
 
-    fn end(&mut self) -> Result<(), AllocError> {
-        let ended = std::mem::replace(&mut self.begun, String::new(self.alloc));
-        self.ended.push(ended)?;
-        Ok(())
-    }
-
-    /// All texts: the last one has no blanks around it, and only blanks are none.
-    fn finish(self) -> Result<Vec<String>, AllocError> {
-        let Splitter {
-            alloc,
-            mut ended,
-            begun,
-            ..
+    fn behind_byte(self, byte: u8) -> Quoting
+        ensures { result ≡ quoting_behind self byte }
+    {
+        let Quoting {
+            is_open,
+            is_escaped,
         } = self;
-        let last = begun.as_str().trim();
-        if !last.is_empty() {
-            ended.push(String::from_str(alloc, last)?)?;
+        match byte {
+            b'\\' => Quoting {
+                is_open,
+                is_escaped: !is_escaped,
+            },
+            b'"' if !is_escaped => Quoting {
+                is_open: !is_open,
+                is_escaped: false,
+            },
+            _ => Quoting {
+                is_open,
+                is_escaped: false,
+            },
         }
-        Ok(ended)
     }
 }

@@ -1,18 +1,44 @@
 //! Fields that can be absent or null. The other modules read theirs by it.
+ghost use Rattle.std.specs.Prelude.{◌≡◌, Some, IfOk, IfSome, IsSome, option_map};
+ghost use Rattle.serde_json.specs.Find.{as_array, get_member};
+ghost use Rattle.serde_json.specs.View.{items_view, members_view, view};
+ghost use Rattle.am_config.specs.Collects.{Collects};
+ghost use Rattle.am_config.specs.Said.{said};
+
+use crate::collected::keep;
 use am_cli::duration::{duration, interval};
 use am_cli::fault::{FaultKind, InputFault};
 use am_cli::faults::Faults;
 use am_cli::reader::{Object, Reader};
 use serde_json::Value;
 
-/// A member that says something: `null` says nothing.
-pub(crate) fn non_null<'v, 'q>(
-    object: &'q Object<'v, '_>,
-    name: &'q str,
-) -> Option<Reader<'v, 'q>> {
-    match object.optional(name) {
-        Some(member) if !member.is_null() => Some(member),
-        _ => None,
+/// The value of a member that says something: `null` says nothing.
+pub(crate) fn said<'v>(object: &Object<'v, '_>, name: &str) -> Option<&'v Value>
+    ensures { option_map (λ v. view v.now) result ≡ said name.now (members_view object.now.members) }
+{
+    let Some(value) = value_in(object, name) else {
+        return None;
+    };
+    if value.is_null() {
+        return None;
+    }
+    Some(value)
+}
+
+/// The value of a member that is there.
+fn value_in<'v>(object: &Object<'v, '_>, name: &str) -> Option<&'v Value>
+    ensures { option_map (λ v. view v.now) result ≡ get_member name.now (members_view object.now.members) }
+{
+    object.members().get(name)
+}
+
+/// A member that says something.
+pub(crate) fn non_null<'v, 'q>(object: &'q Object<'v, '_>, name: &'q str) -> Option<Reader<'v, 'q>>
+    ensures { option_map (λ r. view r.value) result ≡ said name.now (members_view object.now.members) }
+{
+    match said(object, name) {
+        None => None,
+        Some(value) => Some(object.member(name, value)),
     }
 }
 
@@ -21,11 +47,18 @@ pub(crate) fn required<'v, 'q>(
     object: &'q Object<'v, '_>,
     name: &'q str,
 ) -> Result<Reader<'v, 'q>, InputFault> {
-    let member = object.required(name)?;
-    if member.is_null() {
-        return Err(member.refuse(FaultKind::Missing));
+    match non_null(object, name) {
+        None => Err(missing(object, name)),
+        Some(member) => Ok(member),
     }
-    Ok(member)
+}
+
+/// The fault of a member that has to say something.
+pub(crate) fn missing(object: &Object<'_, '_>, name: &str) -> InputFault {
+    match object.required(name) {
+        Err(missing) => missing,
+        Ok(member) => member.refuse(FaultKind::Missing),
+    }
 }
 
 /// Refuses a member that is there.
@@ -46,8 +79,11 @@ pub(crate) fn items_up_to<'v>(
     faults: &mut Faults,
     member: &Reader<'v, '_>,
     most: usize,
-) -> Result<Option<&'v [Value]>, InputFault> {
-    let Some(items) = faults.kept(member.array())? else {
+) -> Result<Option<&'v [Value]>, InputFault>
+    ensures items { IfOk result (λ items. IfSome items (λ s. as_array (view member.now.value) ≡ Some (items_view s.now))) }
+    ensures collects { IfOk result (λ items. Collects faults.old faults.new (IsSome items)) }
+{
+    let Some(items) = keep(faults, member.array())? else {
         return Ok(None);
     };
     if items.len() > most {

@@ -1,140 +1,25 @@
 //! Receivers and their integrations. `alertmanager` calls it.
+ghost use Rattle.std.specs.Prelude.{◌≡◌, ◌≢◌, [], IfOk, IsSomeAnd, OnOk, codes, map};
+ghost use Rattle.serde_json.specs.View.{members_view, view};
+ghost use Rattle.am_cli.specs.Decoding.{HasOr, IsObject};
+ghost use Rattle.am_config.specs.Collects.{Collects, Grows};
+ghost use Rattle.am_config.specs.Receivers.{HasIntegration, HasList, HasLists, HasReceiver, HasReceivers, kind_in, kinds};
+ghost use Rattle.am_config.specs.Said.{IsScalar, IsSet, Says};
+
+use crate::collected::{keep, only};
 use crate::dropped::IgnoredSettings;
-use crate::findings::keep_findings;
-use crate::optional::{non_null, required};
+use crate::optional::{items_up_to, non_null, required};
 use crate::scalar::required_text;
-use crate::settings::{Checking, Part};
+use crate::settings::{Checking, keep_findings};
 use am_alerts::sequence::Sequence;
 use am_alerts::text::Text;
 use am_cli::fault::{FaultKind, InputFault};
 use am_cli::faults::Faults;
 use am_cli::reader::{Object, Reader};
 use am_model::config::{Integration, MAX_INTEGRATIONS, MAX_RECEIVERS, Receiver};
+use am_settings::kinds::{KINDS, Kind};
+use am_settings::settings::Part;
 use serde_json::{Map, Value};
-
-/// One kind of integrations.
-#[derive(Clone, Copy)]
-struct Kind {
-    /// The member of a receiver that lists them.
-    list: &'static str,
-    name: &'static str,
-    /// What is read of its settings.
-    part: Part,
-    /// What `send_resolved` is where it is absent.
-    send_resolved: bool,
-}
-
-/// The kinds, in the order that a receiver's integrations have.
-const KINDS: [Kind; 18] = [
-    Kind {
-        list: "webhook_configs",
-        name: "webhook",
-        part: Part::Webhook,
-        send_resolved: true,
-    },
-    Kind {
-        list: "email_configs",
-        name: "email",
-        part: Part::Email,
-        send_resolved: false,
-    },
-    Kind {
-        list: "pagerduty_configs",
-        name: "pagerduty",
-        part: Part::Pagerduty,
-        send_resolved: true,
-    },
-    Kind {
-        list: "opsgenie_configs",
-        name: "opsgenie",
-        part: Part::Opsgenie,
-        send_resolved: true,
-    },
-    Kind {
-        list: "wechat_configs",
-        name: "wechat",
-        part: Part::Wechat,
-        send_resolved: false,
-    },
-    Kind {
-        list: "slack_configs",
-        name: "slack",
-        part: Part::Slack,
-        send_resolved: false,
-    },
-    Kind {
-        list: "victorops_configs",
-        name: "victorops",
-        part: Part::Victorops,
-        send_resolved: true,
-    },
-    Kind {
-        list: "pushover_configs",
-        name: "pushover",
-        part: Part::Pushover,
-        send_resolved: true,
-    },
-    Kind {
-        list: "sns_configs",
-        name: "sns",
-        part: Part::Sns,
-        send_resolved: true,
-    },
-    Kind {
-        list: "telegram_configs",
-        name: "telegram",
-        part: Part::Telegram,
-        send_resolved: true,
-    },
-    Kind {
-        list: "discord_configs",
-        name: "discord",
-        part: Part::Discord,
-        send_resolved: true,
-    },
-    Kind {
-        list: "webex_configs",
-        name: "webex",
-        part: Part::Webex,
-        send_resolved: true,
-    },
-    Kind {
-        list: "msteams_configs",
-        name: "msteams",
-        part: Part::Msteams,
-        send_resolved: true,
-    },
-    Kind {
-        list: "msteamsv2_configs",
-        name: "msteamsv2",
-        part: Part::Msteamsv2,
-        send_resolved: true,
-    },
-    Kind {
-        list: "jira_configs",
-        name: "jira",
-        part: Part::Jira,
-        send_resolved: true,
-    },
-    Kind {
-        list: "rocketchat_configs",
-        name: "rocketchat",
-        part: Part::Rocketchat,
-        send_resolved: false,
-    },
-    Kind {
-        list: "mattermost_configs",
-        name: "mattermost",
-        part: Part::Mattermost,
-        send_resolved: true,
-    },
-    Kind {
-        list: "incidentio_configs",
-        name: "incidentio",
-        part: Part::Incidentio,
-        send_resolved: true,
-    },
-];
 
 /// The members of a receiver.
 const MEMBERS: [&str; 19] = [
@@ -194,24 +79,23 @@ fn name_in(unread: &mut Faults, reader: &Reader<'_, '_>) -> Result<Option<Text>,
     }
 }
 
-/// Reads the receivers. More than 64 are refused unread.
+/// Reads the receivers. More than `MAX_RECEIVERS` are refused unread.
 pub(crate) fn read_receivers(
     faults: &mut Faults,
     dropped: &mut IgnoredSettings,
     top: &Object<'_, '_>,
     checking: Checking,
-) -> Result<Vec<Receiver>, InputFault> {
+) -> Result<Vec<Receiver>, InputFault>
+    ensures { IfOk result (λ receivers. Collects faults.old faults.new
+        (HasReceivers (members_view top.now.members) receivers.items)) }
+{
     let mut receivers = Vec::new(top.alloc());
     let Some(member) = non_null(top, "receivers") else {
         return Ok(receivers);
     };
-    let Some(items) = faults.kept(member.array())? else {
+    let Some(items) = items_up_to(faults, &member, MAX_RECEIVERS)? else {
         return Ok(receivers);
     };
-    if items.len() > MAX_RECEIVERS {
-        faults.push(member.refuse(FaultKind::BadValue))?;
-        return Ok(receivers);
-    }
     let context = Context {
         global: top.members().get("global").and_then(Value::as_object),
         checking,
@@ -219,9 +103,10 @@ pub(crate) fn read_receivers(
     for (index, value) in items.iter().enumerate() {
         let item = member.item(index, value);
         let before = receivers.as_slice();
-        if let Some(receiver) = read_receiver(faults, dropped, before, &item, context)? {
-            receivers.push(receiver)?;
-        }
+        let Some(receiver) = read_receiver(faults, dropped, before, &item, context)? else {
+            continue;
+        };
+        receivers.push(receiver)?;
     }
     Ok(receivers)
 }
@@ -233,24 +118,41 @@ fn read_receiver(
     before: &[Receiver],
     reader: &Reader<'_, '_>,
     context: Context<'_>,
-) -> Result<Option<Receiver>, InputFault> {
-    let Some(receiver) = faults.kept(reader.object())? else {
+) -> Result<Option<Receiver>, InputFault>
+    ensures { IfOk result (λ read. Collects faults.old faults.new
+        (IsSomeAnd read (IsObject HasReceiver (view reader.now.value)))) }
+{
+    let Some(receiver) = keep(faults, reader.object())? else {
         return Ok(None);
     };
-    faults.only(&receiver, &MEMBERS)?;
-    let name = faults.kept(read_name(before, &receiver))?;
+    only(faults, &receiver, &MEMBERS)?;
+    let name = keep(faults, read_name(before, &receiver))?;
     let integrations = read_integrations(faults, dropped, &receiver, context)?;
-    if integrations.len() > MAX_INTEGRATIONS {
-        faults.push(reader.refuse(FaultKind::BadValue))?;
+    refuse_many(faults, reader, integrations.len())?;
+    match name {
+        None => Ok(None),
+        Some(name) => Ok(Some(Receiver {
+            name,
+            integrations: Sequence::from(integrations),
+        })),
     }
-    Ok(name.map(|name| Receiver {
-        name,
-        integrations: Sequence::from(integrations),
-    }))
+}
+
+/// Refuses a receiver with so many integrations where they are too many.
+fn refuse_many(faults: &mut Faults, reader: &Reader<'_, '_>, count: usize) -> Result<(), InputFault>
+    ensures { OnOk result (Grows faults.old faults.new) }
+{
+    if count <= MAX_INTEGRATIONS {
+        return Ok(());
+    }
+    faults.push(reader.refuse(FaultKind::BadValue))
 }
 
 /// Reads the name of a receiver; one that is before it, or none, is refused.
-fn read_name(before: &[Receiver], receiver: &Object<'_, '_>) -> Result<Text, InputFault> {
+fn read_name(before: &[Receiver], receiver: &Object<'_, '_>) -> Result<Text, InputFault>
+    ensures name { IfOk result (Says IsScalar (codes "name") (members_view receiver.now.members)) }
+    ensures named { IfOk result (λ name. name ≢ []) }
+{
     let member = required(receiver, "name")?;
     let name = required_text(receiver, "name")?;
     if name.as_str().is_empty() || before.iter().any(|receiver| receiver.name == name) {
@@ -264,57 +166,99 @@ fn read_integrations(
     dropped: &mut IgnoredSettings,
     receiver: &Object<'_, '_>,
     context: Context<'_>,
-) -> Result<Vec<Integration>, InputFault> {
+) -> Result<Vec<Integration>, InputFault>
+    ensures { IfOk result (λ integrations. Collects faults.old faults.new
+        (HasLists kinds (members_view receiver.now.members) integrations.items)) }
+{
+    let all = all_kinds();
     let mut integrations = Vec::new(receiver.alloc());
-    for kind in &KINDS {
-        read_list(faults, dropped, receiver, kind, context, &mut integrations)?;
+    for kind in all {
+        let mut list = read_list(faults, dropped, receiver, kind, context)?;
+        integrations.append(&mut list)?;
     }
     Ok(integrations)
 }
 
-/// Adds a receiver's integrations of one kind.
+/// The kinds, in the order of a receiver's integrations.
+fn all_kinds() -> &'static [Kind]
+    ensures { map kind_in result.now ≡ kinds }
+{
+    &KINDS
+}
+
+/// Reads a receiver's integrations of one kind.
 fn read_list(
     faults: &mut Faults,
     dropped: &mut IgnoredSettings,
     receiver: &Object<'_, '_>,
     kind: &Kind,
     context: Context<'_>,
-    integrations: &mut Vec<Integration>,
-) -> Result<(), InputFault> {
+) -> Result<Vec<Integration>, InputFault>
+    ensures { IfOk result (λ integrations. Collects faults.old faults.new
+        (HasList (kind_in kind.now) (members_view receiver.now.members) integrations.items)) }
+{
+    let mut integrations = Vec::new(receiver.alloc());
     let Some(member) = non_null(receiver, kind.list) else {
-        return Ok(());
+        return Ok(integrations);
     };
-    let Some(items) = faults.kept(member.array())? else {
-        return Ok(());
+    let Some(items) = keep(faults, member.array())? else {
+        return Ok(integrations);
     };
     for (index, value) in items.iter().enumerate() {
         let item = member.item(index, value);
-        if let Some(settings) = faults.kept(item.object())? {
-            if context.checking == Checking::AsAlertmanager {
-                keep_findings(faults, kind.part, &settings, context.global)?;
-            }
-            integrations.push(read_integration(faults, dropped, &settings, kind)?)?;
-        }
+        let Some(integration) = read_integration(faults, dropped, &item, kind, context)? else {
+            continue;
+        };
+        integrations.push(integration)?;
     }
-    Ok(())
+    Ok(integrations)
 }
 
-/// Reads what an integration is set to.
+/// Reads an integration of a kind.
 fn read_integration(
     faults: &mut Faults,
     dropped: &mut IgnoredSettings,
-    settings: &Object<'_, '_>,
+    reader: &Reader<'_, '_>,
     kind: &Kind,
-) -> Result<Integration, InputFault> {
+    context: Context<'_>,
+) -> Result<Option<Integration>, InputFault>
+    ensures { IfOk result (λ read. Collects faults.old faults.new
+        (IsSomeAnd read (IsObject (HasIntegration (kind_in kind.now)) (view reader.now.value)))) }
+{
+    let Some(settings) = keep(faults, reader.object())? else {
+        return Ok(None);
+    };
+    check_settings(faults, reader, kind.part, &settings, context)?;
+    note_settings(dropped, &settings);
+    Ok(Some(Integration {
+        kind: Text::new(settings.alloc(), kind.name)?,
+        send_resolved: read_send_resolved(faults, &settings, kind)?,
+    }))
+}
+
+/// Refuses what Alertmanager rejects in an integration, if that is looked at.
+fn check_settings(
+    faults: &mut Faults,
+    reader: &Reader<'_, '_>,
+    part: Part,
+    settings: &Object<'_, '_>,
+    context: Context<'_>,
+) -> Result<(), InputFault>
+    ensures { OnOk result (Grows faults.old faults.new) }
+{
+    match context.checking {
+        Checking::AsAlertmanager => keep_findings(faults, reader, part, settings, context.global),
+        Checking::NamesAlone => Ok(()),
+    }
+}
+
+/// Notes whether an integration says more than is read here.
+fn note_settings(dropped: &mut IgnoredSettings, settings: &Object<'_, '_>) {
     for name in settings.members().keys() {
         if name.as_str() != SEND_RESOLVED {
             dropped.settings = true;
         }
     }
-    Ok(Integration {
-        kind: Text::new(settings.alloc(), kind.name)?,
-        send_resolved: read_send_resolved(faults, settings, kind)?,
-    })
 }
 
 /// Reads whether a notification of resolved alerts is sent. Alertmanager's reader makes null a flag that isn't set, whatever its
@@ -323,23 +267,16 @@ fn read_send_resolved(
     faults: &mut Faults,
     settings: &Object<'_, '_>,
     kind: &Kind,
-) -> Result<bool, InputFault> {
+) -> Result<bool, InputFault>
+    ensures { IfOk result (λ sends. Collects faults.old faults.new
+        (HasOr IsSet kind.now.send_resolved (codes "send_resolved") (members_view settings.now.members) sends)) }
+{
     match settings.optional(SEND_RESOLVED) {
         None => Ok(kind.send_resolved),
         Some(member) if member.is_null() => Ok(false),
-        Some(member) => Ok(faults.kept(member.flag())?.unwrap_or(false)),
+        Some(member) => Ok(keep(faults, member.flag())?.unwrap_or(false)),
     }
 }
 
 /// The one member of an integration's settings that is read.
 const SEND_RESOLVED: &str = "send_resolved";
-
-/// The part of the integrations that a receiver's member of this name lists.
-pub(crate) fn part_of_list(list: &str) -> Option<Part> {
-    for kind in &KINDS {
-        if kind.list == list {
-            return Some(kind.part);
-        }
-    }
-    None
-}

@@ -5,24 +5,36 @@
 //! those. The text of other numbers and of flags isn't known any more (`True` is a flag too), so they
 //! are refused. In `match` and `match_re` the reader of YAML keeps each text itself; there a flag is
 //! one of JSON, which has one text.
-use crate::optional::{non_null, required};
+ghost use Rattle.std.specs.Prelude.{◌≡◌, Some, IfOk, IfSome, string_bytes};
+ghost use Rattle.serde_json.specs.View.{members_view, view};
+ghost use Rattle.am_config.specs.Matchers.{matched_text_in};
+ghost use Rattle.am_config.specs.Said.{IsScalar, Says};
+
+use crate::optional::{missing, non_null, said};
 use am_alerts::text::Text;
-use am_cli::fault::InputFault;
+use am_cli::fault::{FaultKind, InputFault};
 use am_cli::faults::Faults;
 use am_cli::reader::{Object, Reader};
 use serde_json::Value;
 use std::alloc::{AllocError, Global};
 
 /// The text of this value, or `Kind` where it isn't known.
-pub(crate) fn text_of(reader: &Reader<'_, '_>, value: &Value) -> Result<Text, InputFault> {
-    match digits_of(reader.alloc(), value)? {
-        Some(digits) => Ok(Text::from(digits)),
-        None => Ok(Text::new(reader.alloc(), reader.text()?)?),
+pub(crate) fn text_of(reader: &Reader<'_, '_>, value: &Value) -> Result<Text, InputFault>
+    ensures { IfOk result (IsScalar (view value.now)) }
+{
+    if let Some(digits) = digits_of(reader.alloc(), value)? {
+        return Ok(Text::from(digits));
+    }
+    match value.as_str() {
+        None => Err(reader.refuse(FaultKind::WrongType)),
+        Some(text) => Ok(Text::new(reader.alloc(), text)?),
     }
 }
 
 /// The text of this value of `match` or `match_re`, or `Kind` where it isn't known.
-pub(crate) fn matched_text_of(reader: &Reader<'_, '_>, value: &Value) -> Result<Text, InputFault> {
+pub(crate) fn matched_text_of(reader: &Reader<'_, '_>, value: &Value) -> Result<Text, InputFault>
+    ensures { IfOk result (λ text. matched_text_in (view value.now) ≡ Some text) }
+{
     match value.as_bool() {
         Some(true) => Ok(Text::new(reader.alloc(), "true")?),
         Some(false) => Ok(Text::new(reader.alloc(), "false")?),
@@ -41,7 +53,9 @@ pub(crate) fn known_text(alloc: Global, value: &Value) -> Result<Option<Text>, A
 }
 
 /// The digits of an integer, behind its sign.
-fn digits_of(alloc: Global, value: &Value) -> Result<Option<String>, AllocError> {
+fn digits_of(alloc: Global, value: &Value) -> Result<Option<String>, AllocError>
+    ensures { IfOk result (λ digits. IfSome digits (λ d. IsScalar (view value.now) (string_bytes d))) }
+{
     if let Some(number) = value.as_u64() {
         return Ok(Some(format!(in alloc; "{number}")?));
     }
@@ -67,10 +81,11 @@ pub(crate) fn optional_text(
 }
 
 /// A text that has to be there, or `Missing`.
-pub(crate) fn required_text(object: &Object<'_, '_>, name: &str) -> Result<Text, InputFault> {
-    let member = required(object, name)?;
-    match object.members().get(name) {
-        Some(value) => text_of(&member, value),
-        None => Ok(Text::new(member.alloc(), member.text()?)?),
+pub(crate) fn required_text(object: &Object<'_, '_>, name: &str) -> Result<Text, InputFault>
+    ensures { IfOk result (Says IsScalar name.now (members_view object.now.members)) }
+{
+    match said(object, name) {
+        None => Err(missing(object, name)),
+        Some(value) => text_of(&object.member(name, value), value),
     }
 }

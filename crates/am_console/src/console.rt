@@ -2,10 +2,11 @@
 use crate::bounds::{bounds, wrong_of};
 use crate::config_words::explain_config;
 use crate::dispatcher_change_words::explain_dispatcher_change;
-use crate::files::{FileFault, PaintedOutput, read};
+use crate::files::{FileFault, PaintedOutput, Unread, read};
 use crate::foreign::foreign_words;
 use crate::matcher_words::explain_matcher;
 use crate::setting_words::explain_setting;
+use crate::source::SourceText;
 use crate::story_words::explain_story;
 use crate::time_words::explain_times;
 use am_cli::device::StandardInput;
@@ -16,7 +17,7 @@ use am_command::complaint::Complaint;
 use am_command::exit_status::ExitStatus;
 use am_command::explain::{FileShape, Wrong, explain};
 use am_command::request::{FaultFormat, STANDARD_INPUT};
-use am_yaml::document::{DocumentFault, read_document};
+use am_yaml::document::DocumentFault;
 use am_yaml::fault::YamlFault;
 use am_yaml::locate::{Part, locate};
 use am_yaml::location::Location;
@@ -75,18 +76,15 @@ impl Console {
         rt: &R,
         path: &'p str,
     ) -> Result<Document<'p>, ExitStatus> {
-        let text = match read(rt, &mut self.input, path) {
-            Ok(text) => text,
-            Err(fault) => return Err(self.complain_of_file(rt, path, fault)),
-        };
-        match read_document(rt.alloc(), text.as_slice()) {
-            Ok(value) => Ok(Document {
+        match read(rt, &mut self.input, path) {
+            Ok(SourceText { text, value }) => Ok(Document {
                 path,
                 text,
                 value,
                 shape: FileShape::Fields,
             }),
-            Err(fault) => Err(self.complain_of_text(rt, path, fault)),
+            Err(Unread::File { fault }) => Err(self.complain_of_file(rt, path, fault)),
+            Err(Unread::Text { fault }) => Err(self.complain_of_text(rt, path, fault)),
         }
     }
 

@@ -13,10 +13,6 @@ pub fn explain_dispatcher_change(
     pointer: &str,
     fault_kind: FaultKind,
 ) -> Result<Option<String>, AllocError> {
-    if fault_kind == FaultKind::BadValue && (pointer == "/reload" || pointer == "/restart") {
-        let words = "`compare` can't simulate a story that reloads or restarts the dispatcher";
-        return Ok(Some(String::from_str(alloc, words)?));
-    }
     if let Some(name) = name_below(pointer, "/reload") {
         return explain_reload(alloc, story, pointer, name, fault_kind);
     }
@@ -55,12 +51,12 @@ fn explain_reload(
 ) -> Result<Option<String>, AllocError> {
     let words = match (fault_kind, name) {
         (FaultKind::WrongType, "") =>
-            "a reload has the fields `at`, and `config` or `alertmanager`",
+            "a reload has the fields `at`, and `config`, `alertmanager` or `file`",
         (FaultKind::Missing, "config") => {
-            "the reload has no configuration; add `config` or `alertmanager`"
+            "the reload has no configuration; add `config`, `alertmanager` or `file`"
         }
         (FaultKind::BadValue, "alertmanager") => {
-            "a reload has one configuration: `config` or `alertmanager`"
+            "a reload has one configuration: `config`, `alertmanager` or `file`"
         }
         (FaultKind::BadValue, _) => return bad_field(alloc, story, pointer, name),
         _ => return Ok(None),

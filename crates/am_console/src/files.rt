@@ -1,12 +1,14 @@
-//! Files that are read, and the output in colors.
+//! Files that are read with their values, and the output in colors.
 ghost use Rattle.std.specs.Prelude.{◌≡◌, ◌≤◌, length, IfOk};
 
+use crate::source::{SourceFault, SourceText, read_source};
 use am_cli::device::{DeviceFault, Sink, Source, StandardInput, StandardOutput};
 use am_cli::io_trace::IoTrace;
-use am_cli::transfer::{ReadFault, read_all, write_all};
+use am_cli::transfer::write_all;
 use am_command::exit_status::ExitStatus;
 use am_command::paint::painted;
 use am_command::request::STANDARD_INPUT;
+use am_yaml::document::DocumentFault;
 use std::alloc::Global;
 use std::fs;
 use std::io::{ErrorKind, Read};
@@ -60,11 +62,26 @@ impl FileFault {
     }
 }
 
-impl From<ReadFault> for FileFault {
-    fn from(fault: ReadFault) -> FileFault {
+/// Why a file has no value.
+#[derive(Clone, Copy)]
+pub enum Unread {
+    File { fault: FileFault },
+    /// Its text is neither JSON nor YAML.
+    Text { fault: DocumentFault },
+}
+
+impl From<FileFault> for Unread {
+    fn from(fault: FileFault) -> Unread {
+        Unread::File { fault }
+    }
+}
+
+impl From<SourceFault> for Unread {
+    fn from(fault: SourceFault) -> Unread {
         match fault {
-            ReadFault::Unreadable => FileFault::Unreadable,
-            ReadFault::NoMemory => FileFault::NoMemory,
+            SourceFault::Unreadable => Unread::from(FileFault::Unreadable),
+            SourceFault::NoMemory => Unread::from(FileFault::NoMemory),
+            SourceFault::NotRead { fault } => Unread::Text { fault },
         }
     }
 }
@@ -85,17 +102,17 @@ pub fn open<R: Files>(rt: &R, path: &str) -> Result<FileSource<R::File>, FileFau
     }
 }
 
-/// Reads a whole file, or standard input where the path is `-`.
+/// Reads a whole file with its value, or standard input where the path is `-`.
 pub fn read<R: Files + AllocGlobal>(
     rt: &R,
     input: &mut StandardInput,
     path: &str,
-) -> Result<Vec<u8>, FileFault> {
+) -> Result<SourceText, Unread> {
     if path == STANDARD_INPUT {
-        return Ok(read_all(rt.alloc(), input)?);
+        return Ok(read_source(rt.alloc(), input)?);
     }
     let mut file = open(rt, path)?;
-    Ok(read_all(rt.alloc(), &mut file)?)
+    Ok(read_source(rt.alloc(), &mut file)?)
 }
 
 impl<F: Read + Drop> Source for FileSource<F> {

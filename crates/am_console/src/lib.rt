@@ -13,5 +13,6 @@ mod foreign;
 pub mod matcher_words;
 pub mod progress;
 mod setting_words;
+pub mod source;
 pub mod story_words;
 mod time_words;

@@ -1,9 +1,9 @@
 //! What is wrong with the settings of `global` and of integrations, in words. `console` calls it.
 use am_cli::fault::FaultKind;
 use am_command::spelling::Nearest;
-use am_config::explained::reason_for;
-use am_config::findings::Reason;
-use am_config::settings::{Part, Rule, Wanted, row_of};
+use am_settings::explained::reason_for;
+use am_settings::findings::{Reason, Rejection};
+use am_settings::settings::{Part, Rule, Wanted, row_of};
 use serde_json::Value;
 use std::alloc::{AllocError, Global};
 
@@ -14,7 +14,10 @@ pub fn explain_setting(
     pointer: &str,
     fault_kind: FaultKind,
 ) -> Result<Option<String>, AllocError> {
-    let Some(reason) = reason_for(alloc, top, pointer, fault_kind)? else {
+    let Some(rejection) = rejection_of(fault_kind) else {
+        return Ok(None);
+    };
+    let Some(reason) = reason_for(alloc, top, pointer, rejection)? else {
         return Ok(None);
     };
     let name = match pointer.rsplit_once('/') {
@@ -24,6 +27,17 @@ pub fn explain_setting(
     let mut words = String::new(alloc);
     push_reason(alloc, reason, name, top.pointer(pointer), &mut words)?;
     Ok(Some(words))
+}
+
+/// Returns why a setting is rejected, if it can be for this.
+fn rejection_of(fault_kind: FaultKind) -> Option<Rejection> {
+    match fault_kind {
+        FaultKind::Missing => Some(Rejection::Missing),
+        FaultKind::WrongType => Some(Rejection::WrongType),
+        FaultKind::BadValue => Some(Rejection::BadValue),
+        FaultKind::Unknown => Some(Rejection::Unknown),
+        FaultKind::Full | FaultKind::Unsupported => None,
+    }
 }
 
 /// Adds why the value of a field of this name is rejected.

@@ -1,4 +1,4 @@
-//! What is wrong with a story's expectations, and with its output, in words. `console` asks here before `am_command`.
+//! What is wrong with a story's expectations, in words. `console` asks here before `am_command`.
 use am_alerts::duration::read_duration;
 use am_alerts::limits::MAX_MATCHERS;
 use am_cli::fault::{FaultKind, InputFault};
@@ -6,14 +6,6 @@ use am_plans::causes::{Cause, cause_of_matchers, cause_of_set};
 use am_plans::expectation::MAX_EXPECTATIONS;
 use serde_json::Value;
 use std::alloc::{AllocError, Global};
-
-/// Why a page isn't made where lines are to be left out.
-pub const PAGE_HAS_NO_LINES: &str =
-    "--receiver, --group, --alert and --changes leave out lines; a page has none";
-
-/// Why a page isn't made of a story that reloads or restarts the dispatcher.
-const PAGE_HAS_ONE_DISPATCHER: &str =
-    "a page shows one dispatcher; it can't show a reload or a restart";
 
 /// A field of an expectation, and what is there.
 #[derive(Clone, Copy)]
@@ -26,17 +18,13 @@ struct Field<'v, 'p> {
     value: &'v Value,
 }
 
-/// Returns what is wrong with the value at a JSON pointer of a story, where it is about an expectation, or about a page that
-/// isn't made.
+/// Returns what is wrong with the value at a JSON pointer of a story, where it is about an expectation.
 pub fn explain_story(
     alloc: Global,
     story: &Value,
     pointer: &str,
     fault_kind: FaultKind,
 ) -> Result<Option<String>, AllocError> {
-    if pointer == "/output" && fault_kind == FaultKind::BadValue {
-        return explain_page(alloc, story);
-    }
     if pointer == "/expect" && fault_kind == FaultKind::BadValue {
         return Ok(Some(format!(in alloc;
             "there are too many expectations: at most {MAX_EXPECTATIONS}"
@@ -45,31 +33,6 @@ pub fn explain_story(
     match field_at(story, pointer) {
         None => Ok(None),
         Some(field) => explain_field(alloc, &field, fault_kind),
-    }
-}
-
-/// Returns why a page isn't made of a story, where that is why its output is refused. The command line may ask for the page.
-fn explain_page(alloc: Global, story: &Value) -> Result<Option<String>, AllocError> {
-    let words = match story.get("output").and_then(Value::as_str) {
-        None | Some("timeline" | "notices" | "json" | "html") if has_dispatcher_changes(story) => {
-            PAGE_HAS_ONE_DISPATCHER
-        }
-        Some("html") => PAGE_HAS_NO_LINES,
-        _ => return Ok(None),
-    };
-    Ok(Some(String::from_str(alloc, words)?))
-}
-
-/// Returns whether a story reloads or restarts the dispatcher.
-fn has_dispatcher_changes(story: &Value) -> bool {
-    has_items(story, "reload") || has_items(story, "restart")
-}
-
-/// Returns whether a story has something in a list, or one item in place of it.
-fn has_items(story: &Value, name: &str) -> bool {
-    match story.get(name) {
-        None => false,
-        Some(list) => !is_empty(list),
     }
 }
 

@@ -19,7 +19,7 @@ use Rattle.am_alerts.proofs.matcher.MatcherParts.TheSendSync as parts
 use Rattle.am_alerts.proofs.route.Route.TheSendSync as route
 use Rattle.am_alerts.proofs.route_layout.RouteLayout.TheSendSync as layout
 use Rattle.am_alerts.proofs.spans.Span.TheSendSync as span
-use Rattle.am_model.proofs.config.Receiver.TheSendSync as receiver
+use Rattle.am_model.proofs.config.receivers.Receivers.TheSendSync as receivers
 use Rattle.am_model.proofs.config.Limits.TheSendSync as limits
 use Rattle.am_mute.proofs.silence_index.SilenceIndex.TheSendSync as silence_index
 use Rattle.am_mute.proofs.sources.Sources.TheSendSync as sources
@@ -145,10 +145,10 @@ pub rule_sync : IsSync rule_row.the_row
 rule_sync = search (every, matcher_sync, sequence.the_sync, text.the_sync) depth 40 fits 10000
 
 pub config_send : IsSend config_row.the_row
-config_send = search (every, routes_send, receiver.the_send, rule_send, limits.the_send, sequence.the_send) depth 40 fits 10000
+config_send = search (every, routes_send, receivers.the_send, rule_send, limits.the_send, sequence.the_send) depth 40 fits 10000
 
 pub config_sync : IsSync config_row.the_row
-config_sync = search (every, routes_sync, receiver.the_sync, rule_sync, limits.the_sync, sequence.the_sync) depth 40 fits 10000
+config_sync = search (every, routes_sync, receivers.the_sync, rule_sync, limits.the_sync, sequence.the_sync) depth 40 fits 10000
 
 pub state_send : IsSend state_row.the_row
 state_send = search (every, known.the_send, groups.the_send, silences_send, log.the_send, name.the_send, labels.the_send, labels.the_sync, flush.the_send, line.the_send) depth 40 fits 10000

@@ -1,19 +1,20 @@
 -- What a line is answered by.
-use Rattle.std.proofs.Common.{◌≡◌, ◌++◌, ◌∷◌, [], inl, inr, List, ℕ, Option, Some, None, Result, Ok, Err, IfOk, IfErr, IsSomeAnd, subst, sym}
+use Rattle.std.proofs.Common.{◌≡◌, ◌++◌, ◌∷◌, [], inl, inr, List, ℕ, None, Result, Ok, Err, IfOk, IfErr, subst, sym}
 use Rattle.json.specs.Print.{print}
 use Rattle.json.specs.Token.{Token}
-use Rattle.serde_json.specs.Data.{Members}
-use Rattle.serde_json.specs.Find.{as_object}
+use Rattle.serde_json.specs.Data.{Data}
 use Rattle.serde_json.specs.Read.{read}
 use Rattle.am_cli.specs.declared.reader.Mode.TheVariants.{Strict}
 use Rattle.am_model.specs.Config.{config_fault}
+use Rattle.am_lines.specs.declared.call.CallName.{CallName}
+use Rattle.am_lines.specs.declared.call.CallName.TheVariants as call
 use Rattle.am_lines.specs.declared.fault.LineFault.{LineFault}
 use Rattle.am_lines.specs.declared.request.Request.{Request}
 use Rattle.am_lines.specs.declared.request.Request.TheVariants.{Open}
 use Rattle.am_lines.specs.declared.lines.LineRead.{LineRead}
 use Rattle.am_lines.specs.declared.request.Opening.{Opening}
-use Rattle.am_lines.specs.Lines.{IsRead}
-use Rattle.am_lines.specs.Request.{HasOneMember, IsRequestIn, IsRequestOf}
+use Rattle.am_lines.specs.Lines.{IsOneLine, IsRead}
+use Rattle.am_lines.specs.Request.{IsCallOf, IsRequestIn}
 use Rattle.am_dispatch.specs.Refusal.{IsCauseOfUnopened}
 use Rattle.am_dispatch.specs.Serve.{IsOpenedBy, Opened, OpensNone}
 use Rattle.am_dispatch.specs.Session.{Does, IsRequest, IsAnswerTo}
@@ -21,9 +22,9 @@ use Rattle.am_dispatch.specs.declared.session.Session.{Session}
 
 -- what is answered, where the answer began with nothing
 pub answers_line : (old new : Session) (text : List ℕ) (request : Request) (before after : List Token)
-    → before ≡ [] → Does old request new before after → text ≡ print after ++ 10 ∷ [] → IsAnswerTo old request text new
-answers_line old new text request before after empty does text_is =
-    record { tokens = after; does = subst (λ (b : List Token). Does old request new b after) empty does; text_is = text_is }
+    → before ≡ [] → Does old request new before after → text ≡ print after ++ 10 ∷ [] → IsOneLine text → IsAnswerTo old request text new
+answers_line old new text request before after empty does text_is one =
+    record { tokens = after; does = subst (λ (b : List Token). Does old request new b after) empty does; text_is = text_is; one = one }
 
 -- a line that asks for a board, which is there
 pub opened_text : {T E : Type 0} (r : Result T E) (items : T → List ℕ) (session : T → Session) (read : LineRead) (kept : List ℕ) (requested : Request) (opening : Opening)
@@ -35,10 +36,10 @@ opened_text (Ok made) items session read kept requested opening is is_request op
 opened_text (Err f) items session read kept requested opening is is_request opened = tt
 
 -- a line's configuration has no fault
-faultless : (o : Option Members) (opening : Opening)
-    → IsSomeAnd o (λ members. HasOneMember members × IsRequestOf Strict members (Open opening)) → config_fault opening.config ≡ None
-faultless None opening is = absurd is
-faultless (Some found) opening is = is.1.0
+faultless : (name : CallName) (value : Data) (opening : Opening) → IsCallOf Strict name value (Open opening) → config_fault opening.config ≡ None
+faultless call.Config value opening is = is.sound
+faultless call.Alertmanager value opening is = is
+faultless name value opening is = absurd is
 
 -- so only memory keeps it from being opened
 unopened_line : (f : LineFault) (text : List ℕ) (requested : Request) (opening : Opening) → requested ≡ Open opening → IsRequest text requested
@@ -46,7 +47,7 @@ unopened_line : (f : LineFault) (text : List ℕ) (requested : Request) (opening
 unopened_line f text requested opening is is_request (inl memory) = subst (λ (g : LineFault). OpensNone text g) (sym memory) tt
 unopened_line f text requested opening is is_request (inr faulty) =
     let opens = subst (λ (q : Request). IsRequestIn Strict is_request.0 q) is is_request.2 in
-    absurd (faulty.0 (faultless (as_object is_request.0) opening opens))
+    absurd (faulty.0 (faultless opens.0 opens.1.value opening opens.1.arguments))
 
 pub unopened_text : {T : Type 0} (r : Result T LineFault) (read : LineRead) (kept : List ℕ) (requested : Request) (opening : Opening)
     → requested ≡ Open opening → ((text : List ℕ) → IsRead read text kept → IsRequest text requested)

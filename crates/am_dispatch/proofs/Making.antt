@@ -1,14 +1,20 @@
 -- What calls of the board leave, and what their answers say.
-use Rattle.std.proofs.Common.{◌≡◌, ◌∙◌, ◌<◌, ◌==◌, ◌++◌, ◌∷◌, ℕ, List, [], Some, Result, Ok, Err, ap, arith, codes, drop, length, refl, remove, slice_get, slice_index_or, subst, sym, true≢false}
+use Rattle.std.proofs.Common.{◌≡◌, ◌∙◌, ◌<◌, ◌==◌, ◌++◌, ◌∷◌, ℕ, Bool, true, false, if◌then◌else◌, List, [], Option, None, Some, Result, Ok, Err, ap, arith, codes, drop, length, refl, remove, slice_get, slice_index_or, subst, sym, true≢false}
 use Rattle.std.proofs.Math.Seq.{drop-append_seam}
 use Rattle.std.specs.List.{position}
-use Rattle.std.specs.Result.{IsOk, OnOk}
+use Rattle.std.specs.Prelude.{IsSome}
+use Rattle.std.specs.Result.{IfOk, IsOk, OnOk}
 use Rattle.std.proofs.lemmas.Option.{slice_get_read}
 use Rattle.std.proofs.lemmas.Result.{on_ok_weaker}
 use Rattle.json.specs.Token.{Token}
 use Rattle.am_model.specs.declared.config.Config.{Config}
+use Rattle.am_model.specs.Causes.{flush_cause, note_cause}
+use Rattle.am_model.specs.Finish.{row_at}
+use Rattle.am_model.specs.State.{FlushState, State, flush_numbered, time}
+use Rattle.am_model.specs.declared.fault.NoteFault.TheVariants.{Foreign}
 use Rattle.am_model.specs.declared.record.Call.{Call}
 use Rattle.am_model.specs.declared.record.Call.TheVariants as call
+use Rattle.am_model.specs.declared.record.Finished.{Finished}
 use Rattle.am_model.specs.declared.record.Record.{Record}
 use Rattle.am_model.specs.declared.record.Reply.{Reply}
 use Rattle.am_model.specs.declared.views.RowView.{RowView}
@@ -17,12 +23,14 @@ use Rattle.am_model.specs.Records.{IsNoteOf, entry}
 use Rattle.am_model.specs.Replay.{IsLegal}
 use Rattle.am_model.specs.Ticket.{TicketData}
 use Rattle.am_board.specs.declared.begin.Begun.{Begun}
-use Rattle.am_board.specs.History.{BoardData, IsFresh, IsReplyAt, handed_out, kept_of, opening, reply_of, with_record}
+use Rattle.am_board.specs.History.{BoardData, IsFresh, IsReplyAt, handed_out, kept_of, opening, records_at, reply_of, state_at, with_record}
+use Rattle.am_board.specs.Logged.{finished_rows, noted_row, row_of_note}
 use Rattle.am_lines.specs.declared.request.Finishing.{Finishing}
 use Rattle.am_lines.specs.declared.request.Loading.{Loading}
 use Rattle.am_lines.specs.declared.request.Noting.{Noting}
 use Rattle.am_lines.specs.declared.request.Opening.{Opening}
 use Rattle.am_lines.specs.declared.request.Reporting.{Reporting}
+use Rattle.am_lines.specs.Logged.{finished_tokens, noted_tokens}
 use Rattle.am_lines.specs.Reply.{flush_tokens, named, opened_tokens, reply_tokens}
 use Rattle.am_lines.specs.Record.{record_tokens}
 use Rattle.am_lines.specs.View.{listed}
@@ -132,14 +140,39 @@ opens r written board tickets x config before after ok is same none answered =
     (is, none, says ∙ ap (λ (c : Config). before ++ opened_tokens c x.ignored) here))
     (answered_ok r written (after ≡ before ++ opened_tokens config x.ignored) ok answered)
 
--- a note of the notice that was found
-pub notes : {T E : Type 0} (r : Result T E) (old new : Session) (n : Noting) (before after : List Token) (index : ℕ) (ticket noted : TicketData) (notice : ℕ)
+-- ---- a note of the notice that was found, with its row
+
+-- what nothing keeps from being noted is of an open flush
+open_where : (config : Config) (records : ℕ) (s : State) (ticket : TicketData) (notice : ℕ) (is_own : Bool) (found : Option FlushState)
+    → (if is_own then flush_cause config records s ticket notice found else Some Foreign) ≡ None → (f : FlushState) × (found ≡ Some f)
+open_where config records s ticket notice true (Some f) none = (f, refl)
+open_where config records s ticket notice true None none = absurd (cc)
+open_where config records s ticket notice false found none = absurd (cc)
+
+-- so it has a row
+pub row_noted : (board : BoardData) (ticket : TicketData) (notice now integration : ℕ)
+    → note_cause board.config board.id (records_at board) (state_at board) ticket notice ≡ None → (row : RowView) × (noted_row board now integration ticket ≡ Some row)
+row_noted board ticket notice now integration none =
+    let there : (f : FlushState) × (flush_numbered (state_at board).flushes ticket.number ≡ Some f) =
+    open_where board.config (records_at board) (state_at board) ticket notice (ticket.board_id == board.id) (flush_numbered (state_at board).flushes ticket.number) none in
+    (row_at board.config (time (state_at board) now) there.0 integration, ap (row_of_note board.config (time (state_at board) now) integration) there.1)
+
+pub some_row : {F : Type 0} (asked : Result (Option RowView) F) (o : Option RowView) → IfOk asked (λ row. row ≡ o) → (row : RowView) × (o ≡ Some row) → IfOk asked (λ row. IsSome row)
+some_row (Ok x) o is there = subst IsSome (sym (is ∙ there.1)) refl
+some_row (Err e) o is there = tt
+
+-- the row that was asked for
+row_is : {F : Type 0} (asked : Result (Option RowView) F) (o : Option RowView) (row : RowView) → IfOk asked (λ x. x ≡ o) → asked ≡ Ok (Some row) → o ≡ Some row
+row_is (Ok x) o row is same = let found : x ≡ Some row = cc in sym is ∙ found
+row_is (Err e) o row is same = absurd (cc)
+
+pub noted_with : (old new : Session) (n : Noting) (before after : List Token) (index : ℕ) (ticket noted : TicketData) (notice : ℕ) (row : RowView)
     → IsFirst n.ticket old.tickets.items index ticket → Some notice ≡ position (λ x. x.integration == n.integration) ticket.notices
     → noted ≡ ticket
     → ((x : Record) × IsNoteOf 0 n.now noted notice x × (new.board ≡ with_record old.board x) × IsReplyAt old.board x.call x.reply)
-    → OnOk r (after ≡ before ++ reply_tokens new.board.config reply.Noted) → OnOk r (Notes old new n before after)
-notes r old new n before after index ticket noted notice at noticed same made =
-    on_ok_weaker {Q = Notes old new n before after} r (λ (answered : after ≡ before ++ reply_tokens new.board.config reply.Noted). record {
+    → noted_row old.board n.now n.integration noted ≡ Some row → after ≡ before ++ noted_tokens new.board.config row → Notes old new n before after
+noted_with old new n before after index ticket noted notice row at noticed same made logged answered =
+    record {
       index = index;
       ticket = ticket;
       at = at;
@@ -149,22 +182,64 @@ notes r old new n before after index ticket noted notice at noticed same made =
       note = subst (λ (t : TicketData). IsNoteOf 0 n.now t notice made.0) same made.1;
       due = made.3;
       recorded = made.2;
-      answered = answered ∙ ap (λ (b : BoardData). before ++ reply_tokens b.config reply.Noted) made.2;
-    })
+      row = row;
+      logged = subst (λ (t : TicketData). noted_row old.board n.now n.integration t ≡ Some row) same logged;
+      answered = answered ∙ ap (λ (b : BoardData). before ++ noted_tokens b.config row) made.2;
+    }
 
--- a finish of the ticket that was found
-pub finishes : {T E : Type 0} (r : Result T E) (old new : Session) (f : Finishing) (before after : List Token) (index : ℕ) (ticket : TicketData)
-    → IsFirst f.ticket old.tickets.items index ticket → new.tickets.items ≡ remove old.tickets.items index
-    → OnOk r (Makes old new (call.Finish f.now ticket.number ticket.outcomes) before after) → OnOk r (Finishes old new f before after)
-finishes r old new f before after index ticket at tickets =
-    on_ok_weaker {Q = Finishes old new f before after} r
-    (λ (makes : Makes old new (call.Finish f.now ticket.number ticket.outcomes) before after). record {
+pub notes : {T E F : Type 0} (r : Result T E) (asked : Result (Option RowView) F) (old new : Session) (n : Noting) (before after : List Token) (index : ℕ) (ticket noted : TicketData) (notice : ℕ)
+    → IsFirst n.ticket old.tickets.items index ticket → Some notice ≡ position (λ x. x.integration == n.integration) ticket.notices
+    → noted ≡ ticket
+    → ((x : Record) × IsNoteOf 0 n.now noted notice x × (new.board ≡ with_record old.board x) × IsReplyAt old.board x.call x.reply)
+    → IfOk asked (λ row. row ≡ noted_row old.board n.now n.integration noted)
+    → OnOk r ((row : RowView) × (asked ≡ Ok (Some row)) × (after ≡ before ++ noted_tokens new.board.config row)) → OnOk r (Notes old new n before after)
+notes r asked old new n before after index ticket noted notice at noticed same made is =
+    on_ok_weaker {Q = Notes old new n before after} r
+    (λ (says : (row : RowView) × (asked ≡ Ok (Some row)) × (after ≡ before ++ noted_tokens new.board.config row)).
+    noted_with old new n before after index ticket noted notice says.0 at noticed same made (row_is asked _ says.0 is says.1) says.2)
+
+-- the row that is answered, by the configuration that the board has
+pub noted_answered : {T E S F G : Type 0} (r : Result T E) (written : Result S F) (asked : Result (Option RowView) G) (row : RowView) (config to : Config) (before after : List Token)
+    → OnOk r (IsOk written) → asked ≡ Ok (Some row) → config ≡ to → OnOk written (after ≡ before ++ noted_tokens config row)
+    → OnOk r ((logged : RowView) × (asked ≡ Ok (Some logged)) × (after ≡ before ++ noted_tokens to logged))
+noted_answered r written asked row config to before after ok is same answered =
+    answered_ok r written ((logged : RowView) × (asked ≡ Ok (Some logged)) × (after ≡ before ++ noted_tokens to logged)) ok
+    (on_ok_weaker {Q = (logged : RowView) × (asked ≡ Ok (Some logged)) × (after ≡ before ++ noted_tokens to logged)} written
+    (λ (says : after ≡ before ++ noted_tokens config row). (row, is, says ∙ ap (λ (c : Config). before ++ noted_tokens c row) same)) answered)
+
+-- ---- a finish of the ticket that was found, with its rows
+
+pub finished_with : (old new : Session) (f : Finishing) (before after : List Token) (index : ℕ) (ticket seen : TicketData) (x : Finished)
+    → IsFirst f.ticket old.tickets.items index ticket → new.tickets.items ≡ remove old.tickets.items index → seen ≡ ticket
+    → IsReplyAt old.board (call.Finish f.now ticket.number ticket.outcomes) (reply.Finished x)
+    → new.board ≡ with_record old.board (entry 0 (call.Finish f.now ticket.number ticket.outcomes) (reply.Finished x))
+    → after ≡ before ++ finished_tokens new.board.config x (finished_rows old.board f.now seen) → Finishes old new f before after
+finished_with old new f before after index ticket seen x at tickets same due recorded answered =
+    record {
       index = index;
       ticket = ticket;
       at = at;
-      makes = makes;
+      x = x;
+      due = due;
+      recorded = recorded;
+      answered = answered
+          ∙ ap (λ (b : BoardData). before ++ finished_tokens b.config x (finished_rows old.board f.now seen)) recorded
+          ∙ ap (λ (t : TicketData). before ++ finished_tokens old.board.config x (finished_rows old.board f.now t)) same;
       tickets = tickets;
-    })
+    }
+
+pub finishes : {T E X F : Type 0} (r : Result T E) (asked : Result X F) (items : X → List RowView) (old new : Session) (f : Finishing) (before after : List Token) (index : ℕ) (ticket seen : TicketData) (x : Finished)
+    → IsFirst f.ticket old.tickets.items index ticket → new.tickets.items ≡ remove old.tickets.items index → seen ≡ ticket
+    → IsReplyAt old.board (call.Finish f.now ticket.number ticket.outcomes) (reply.Finished x)
+    → new.board ≡ with_record old.board (entry 0 (call.Finish f.now ticket.number ticket.outcomes) (reply.Finished x))
+    → IfOk asked (λ rows. items rows ≡ finished_rows old.board f.now seen)
+    → OnOk r (IfOk asked (λ rows. after ≡ before ++ finished_tokens new.board.config x (items rows))) → OnOk r (IsOk asked)
+    → OnOk r (Finishes old new f before after)
+finishes (Ok y) (Ok rows) items old new f before after index ticket seen x at tickets same due recorded is says there =
+    finished_with old new f before after index ticket seen x at tickets same due recorded
+    (says ∙ ap (λ (rs : List RowView). before ++ finished_tokens new.board.config x rs) is)
+finishes (Ok y) (Err e) items old new f before after index ticket seen x at tickets same due recorded is says there = absurd (true≢false (sym there))
+finishes (Err e) asked items old new f before after index ticket seen x at tickets same due recorded is says there = tt
 
 -- a load of the row that is named
 pub loads : {T E : Type 0} (r : Result T E) (old new : Session) (l : Loading) (row : RowView) (before after : List Token)

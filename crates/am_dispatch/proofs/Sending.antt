@@ -1,5 +1,6 @@
 -- Texts that are written, or the front of them.
-use Rattle.std.proofs.Common.{◌≡◌, ◌∙◌, ◌≤◌, ◌++◌, ◌∷◌, [], ℕ, List, true, false, Option, Result, Ok, Err, append_assoc, ap, arith, length, refl, subst, sym}
+use Rattle.std.proofs.Common.{◌≡◌, ◌∙◌, ◌≤◌, ◌++◌, ◌∷◌, [], inl, inr, ℕ, List, true, false, Option, Result, Ok, Err, append_assoc, ap, arith, length, refl, subst, sym}
+use Rattle.std.specs.Prelude.{IsTrue}
 use Rattle.std.specs.Result.{OnErr}
 use Rattle.am_cli.specs.Bytes.{Breaks}
 use Rattle.am_cli.specs.declared.transfer.TheConstants.{MAX_INPUT}
@@ -7,8 +8,8 @@ use Rattle.am_lines.specs.declared.fault.LineFault.{LineFault}
 use Rattle.am_lines.specs.declared.fault.LineFault.TheVariants as fault
 use Rattle.am_lines.specs.declared.lines.LineRead.{LineRead}
 use Rattle.am_lines.specs.declared.lines.LineRead.TheVariants.{Complete, TooLong, NoMemory, End}
-use Rattle.am_lines.specs.Fault.{AnswersFault}
-use Rattle.am_lines.specs.Lines.{IsRead}
+use Rattle.am_lines.specs.Fault.{AnswersFault, changes_nothing, fault_line}
+use Rattle.am_lines.specs.Lines.{IsOneLine, IsRead}
 use Rattle.am_dispatch.specs.Serve.{AnswersLine, IsRefused, Sends, is_remark}
 use Rattle.am_dispatch.specs.Serve.AnswersLine.{Faulted}
 use Rattle.am_dispatch.specs.declared.session.Session.{Session}
@@ -58,6 +59,18 @@ echo_half line taken mid to sends breaks =
           ∙ (ap (λ (t : List ℕ). sends.text ++ t) (sym breaks.is ∙ breaks.parts) ∙ sym (append_assoc sends.text breaks.front breaks.behind));
       takes = breaks.takes ∙ (ap (λ (t : List ℕ). t ++ breaks.front) sends.takes ∙ append_assoc taken sends.text breaks.front);
     }
+
+-- the front of a line that says a fault
+pub fault_begun : (f : LineFault) (line bytes taken to : List ℕ) → bytes ≡ line → IsOneLine line → line ≡ fault_line f
+    → Breaks (λ t. t ≡ bytes) taken to → Breaks (AnswersFault f) taken to
+fault_begun f line bytes taken to same one says =
+    breaks_as taken to (λ t is. subst (AnswersFault f) (sym (is ∙ same)) (one, inl says))
+
+-- the front of the line that says that there was no memory
+pub memory_begun : (f : LineFault) (line bytes taken to : List ℕ) → bytes ≡ line → IsOneLine line → line ≡ fault_line fault.NoMemory
+    → IsTrue (changes_nothing f) → Breaks (λ t. t ≡ bytes) taken to → Breaks (AnswersFault f) taken to
+memory_begun f line bytes taken to same one says nothing =
+    breaks_as taken to (λ t is. subst (AnswersFault f) (sym (is ∙ same)) (one, inr (nothing, says)))
 
 -- a remark that isn't answered by itself was refused memory
 pub remark_only : (read : LineRead) (text kept : List ℕ) (f : LineFault) → IsRead read text kept

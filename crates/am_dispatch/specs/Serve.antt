@@ -11,7 +11,7 @@ use Rattle.am_lines.specs.declared.request.Opening.{Opening}
 use Rattle.am_lines.specs.declared.request.Request.{Request}
 use Rattle.am_lines.specs.declared.request.Request.TheVariants as request
 use Rattle.am_lines.specs.Fault.{IsRefusedAs, AnswersFault}
-use Rattle.am_lines.specs.Lines.{IsLater, LinesData, Moves, is_plain, lines_of}
+use Rattle.am_lines.specs.Lines.{IsLater, IsOneLine, LinesData, Moves, is_plain, lines_of}
 use Rattle.am_lines.specs.Reply.{opened_tokens}
 use Rattle.am_dispatch.specs.Session.{IsAnswered, IsRequest, IsUnread, Refuses}
 use Rattle.am_dispatch.specs.declared.fault.ServeFault.{ServeFault}
@@ -33,6 +33,7 @@ pub record IsOpenedBy (opening : Opening) (text : List ℕ) (new : Session) : Ty
   pub board : new.board ≡ opening_board opening.config BOARD_ID
   pub tickets : new.tickets.items ≡ []
   pub answered : text ≡ print (opened_tokens opening.config opening.ignored) ++ 10 ∷ []
+  pub one : IsOneLine text
 
 -- the line asks for a board, and the session has it
 abbrev pub Opened : List ℕ → List ℕ → Session → Type 0

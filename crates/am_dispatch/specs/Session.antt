@@ -1,16 +1,18 @@
 -- Session: what a session does for a request, and what its answer has.
-use Rattle.std.specs.Prelude.{◌≡◌, ◌≢◌, ◌⊎◌, ◌<◌, ◌==◌, ℕ, List, [], ◌∷◌, ◌++◌, Some, None, codes, length, remove}
+use Rattle.std.specs.Prelude.{◌≡◌, ◌≢◌, ◌⊎◌, ◌<◌, ◌==◌, ℕ, IfSome, List, [], ◌∷◌, ◌++◌, Some, None, codes, length, remove}
 use Rattle.std.specs.List.{position}
 use Rattle.json.specs.Print.{print}
 use Rattle.json.specs.Token.{Token}
 use Rattle.serde_json.specs.Data.{Data}
 use Rattle.serde_json.specs.Read.{read}
 use Rattle.am_cli.specs.Read.{IsNoJson}
+use Rattle.am_cli.specs.declared.fault.FaultKind.{FaultKind}
 use Rattle.am_cli.specs.declared.reader.Mode.TheVariants.{Strict}
 use Rattle.am_cli.specs.declared.transfer.TheConstants.{MAX_INPUT}
 use Rattle.am_model.specs.declared.views.Summary.{Summary}
 use Rattle.am_model.specs.declared.record.Call.{Call}
 use Rattle.am_model.specs.declared.record.Call.TheVariants as call
+use Rattle.am_model.specs.declared.record.Finished.{Finished}
 use Rattle.am_model.specs.declared.record.Record.{Record}
 use Rattle.am_model.specs.declared.record.Reply.{Reply}
 use Rattle.am_model.specs.declared.record.Reply.TheVariants as reply
@@ -27,6 +29,7 @@ use Rattle.am_board.specs.declared.begin.Begun.{Begun}
 use Rattle.am_board.specs.declared.begin.Begun.TheVariants as begun
 use Rattle.am_board.specs.History.{BoardData, IsFresh, IsReplyAt, handed_out, kept_of, opening as opening_board, records_at}
 use Rattle.am_board.specs.History.{reply_of, state_at, with_record}
+use Rattle.am_board.specs.Logged.{finished_rows, noted_row}
 use Rattle.am_lines.specs.declared.fault.LineFault.{LineFault}
 use Rattle.am_lines.specs.declared.fault.LineFault.TheVariants as fault
 use Rattle.am_lines.specs.declared.request.Finishing.{Finishing}
@@ -40,11 +43,14 @@ use Rattle.am_lines.specs.declared.request.Reporting.{Reporting}
 use Rattle.am_lines.specs.declared.request.Opening.{Opening}
 use Rattle.am_lines.specs.declared.request.Request.{Request}
 use Rattle.am_lines.specs.declared.request.Request.TheVariants as request
+use Rattle.am_lines.specs.Call.{form_fault}
 use Rattle.am_lines.specs.Fault.{IsOfInput}
 use Rattle.am_lines.specs.Inserts.{insert_end_tokens}
+use Rattle.am_lines.specs.Lines.{IsOneLine}
+use Rattle.am_lines.specs.Logged.{finished_tokens, noted_tokens}
 use Rattle.am_lines.specs.Record.{record_tokens}
 use Rattle.am_lines.specs.Reply.{named, opened_tokens, reply_tokens}
-use Rattle.am_lines.specs.Request.{IsRequestIn}
+use Rattle.am_lines.specs.Request.{IsRequestIn, IsSureRequestIn}
 use Rattle.am_lines.specs.View.{due_tokens, group_view_tokens, listed, outlook_tokens, row_tokens, summary_tokens}
 use Rattle.am_dispatch.specs.Refusal.{AnswersCause, IsCauseOf}
 use Rattle.am_dispatch.specs.Row.{row_named}
@@ -87,7 +93,7 @@ pub record Reports (old new : Session) (r : Reporting) (before after : List Toke
   pub recorded : IsRecordedAt old.tickets.items index r.integration r.outcome new.tickets.items
   pub answered : after ≡ before ++ named (codes "reported") []
 
--- a note of the notice of an integration of a ticket
+-- a note of the notice of an integration of a ticket, and the answer has the row that it logs
 pub record Notes (old new : Session) (n : Noting) (before after : List Token) : Type 0 where
   pub index : ℕ
   pub ticket : TicketData
@@ -98,14 +104,19 @@ pub record Notes (old new : Session) (n : Noting) (before after : List Token) : 
   pub note : IsNoteOf 0 n.now ticket notice r
   pub due : IsReplyAt old.board r.call r.reply
   pub recorded : new.board ≡ with_record old.board r
-  pub answered : after ≡ before ++ reply_tokens old.board.config reply.Noted
+  pub row : RowView
+  pub logged : noted_row old.board n.now n.integration ticket ≡ Some row
+  pub answered : after ≡ before ++ noted_tokens old.board.config row
 
--- a finish, which takes the ticket
+-- a finish, which takes the ticket, and the answer has the rows that it logs
 pub record Finishes (old new : Session) (f : Finishing) (before after : List Token) : Type 0 where
   pub index : ℕ
   pub ticket : TicketData
   pub at : IsFirst f.ticket old.tickets.items index ticket
-  pub makes : Makes old new (call.Finish f.now ticket.number ticket.outcomes) before after
+  pub x : Finished
+  pub due : IsReplyAt old.board (call.Finish f.now ticket.number ticket.outcomes) (reply.Finished x)
+  pub recorded : new.board ≡ with_record old.board (entry 0 (call.Finish f.now ticket.number ticket.outcomes) (reply.Finished x))
+  pub answered : after ≡ before ++ finished_tokens old.board.config x (finished_rows old.board f.now ticket)
   pub tickets : new.tickets.items ≡ remove old.tickets.items index
 
 -- a load of the row that is named
@@ -163,7 +174,7 @@ pub record HandsOut (old new : Session) : Type 0 where
 
 -- it has, and the line has these records
 abbrev pub Takes : Session → Session → List ℕ → Type 0
-Takes old new text = HandsOut old new × (text ≡ print (taken_tokens old.board) ++ 10 ∷ [])
+Takes old new text = HandsOut old new × (text ≡ print (taken_tokens old.board) ++ 10 ∷ []) × IsOneLine text
 
 -- a new board in the place of the old one
 abbrev pub Opens : Session → Opening → List Token → List Token → Type 0
@@ -234,6 +245,11 @@ Leaves old requested new (fault.NotMade index kind message) = IsSame old new × 
 abbrev pub IsRequest : List ℕ → Request → Type 0
 IsRequest line request = (value : Data) × (read line ≡ Some value) × IsRequestIn Strict value request
 
+-- a value is refused for a fault of this kind: of its form, if that is at fault. It is no request that is never refused
+pub record IsValueRefused (value : Data) (kind : FaultKind) : Type 0 where
+  pub form : IfSome (form_fault value) (λ k. kind ≡ k)
+  pub none : (asked : Request) → IsSureRequestIn Strict value asked → ⊥
+
 -- what keeps a line from asking something: it is no JSON, or too long, or its value is refused; of memory nothing is said
 abbrev pub IsUnread : List ℕ → LineFault → Type 0
 IsUnread line (fault.NotJson column) = IsNoJson line
@@ -241,14 +257,15 @@ IsUnread line fault.TooLong = MAX_INPUT < length line
 IsUnread line fault.NoMemory = Unit {0}
 IsUnread line fault.Untold = ⊥
 IsUnread line fault.Spent = ⊥
-IsUnread line (fault.Refused index kind) = (value : Data) × (read line ≡ Some value)
-IsUnread line (fault.NotMade index kind message) = ⊥
+IsUnread line (fault.Refused pointer kind) = (value : Data) × (read line ≡ Some value) × IsValueRefused value kind
+IsUnread line (fault.NotMade pointer kind message) = ⊥
 
--- the session does what the request asks for, and the text is the answer: its tokens, and a line feed
+-- the session does what the request asks for, and the text is the answer: its tokens, and a line feed, which is its only one
 pub record IsAnswerTo (old : Session) (request : Request) (text : List ℕ) (new : Session) : Type 0 where
   pub tokens : List Token
   pub does : Does old request new [] tokens
   pub text_is : text ≡ print tokens ++ 10 ∷ []
+  pub one : IsOneLine text
 
 -- the line is a request to the session, and the text is the answer to it
 abbrev pub IsAnswered : Session → List ℕ → List ℕ → Session → Type 0

@@ -6,7 +6,7 @@ ghost use Rattle.std.specs.Prelude.{◌≡◌, ◌≢◌, ◌+◌, ◌++◌, [],
 ghost use Rattle.std.specs.Prelude.{IfErr, IfOk, IsErrAnd, IsFalse, IsTrue, OnErr, OnOk};
 ghost use Rattle.am_cli.specs.Bytes.{Breaks};
 ghost use Rattle.am_lines.specs.Fault.{AnswersFault, fault_line};
-ghost use Rattle.am_lines.specs.Lines.{IsRead, end_count};
+ghost use Rattle.am_lines.specs.Lines.{IsOneLine, IsRead, end_count};
 ghost use Rattle.am_dispatch.specs.Refusal.{IsCauseOfUnopened};
 ghost use Rattle.am_dispatch.specs.Serve.{AnswersLine, IsOpenedBy, OpensNone, Opened, Sends, Served, ServesAll, Stops, begins_remark, is_remark};
 ghost use Rattle.am_dispatch.specs.Session.{IsAnswered, IsRequest, IsAnswerTo, IsUnread, Leaves, Refuses};
@@ -224,7 +224,8 @@ fn write_fault<K: Sink>(alloc: Global, fault: &LineFault, sink: &mut K) -> Resul
 
 /// Makes the line that says a fault.
 fn fault_text(alloc: Global, fault: &LineFault) -> Result<Vec<u8>, AllocError>
-    ensures { IfOk result (λ line. line.items ≡ fault_line fault.now) }
+    ensures text { IfOk result (λ line. line.items ≡ fault_line fault.now) }
+    ensures one { IfOk result (λ line. IsOneLine line.items) }
 {
     let mut answer = Answer::new(alloc);
     fault.write(&mut answer)?;

@@ -2,7 +2,7 @@
 use am_alerts::route::{GroupBy, Route, Routes};
 use am_alerts::sequence::Sequence;
 use am_alerts::text::Text;
-use am_board::config::{Config, Integration, Limits, Receiver};
+use am_board::config::{Config, Integration, Limits, Receiver, Receivers};
 use std::alloc::{AllocError, Global};
 
 /// One route, which groups by alertname and waits 30s, 5m and 4h, and one receiver with `page/0`.
@@ -42,9 +42,10 @@ fn grouping(alloc: Global) -> Result<Sequence<Text>, AllocError> {
     listed(alloc, name)
 }
 
-fn receivers(alloc: Global) -> Result<Sequence<Receiver>, AllocError> {
+fn receivers(alloc: Global) -> Result<Receivers, AllocError> {
     let (name, integrations) = both(Text::new(alloc, "team"), integrations(alloc))?;
-    listed(alloc, Receiver { name, integrations })
+    let receivers = listed(alloc, Receiver { name, integrations })?;
+    Receivers::new(alloc, receivers.into_vec())
 }
 
 fn integrations(alloc: Global) -> Result<Sequence<Integration>, AllocError> {

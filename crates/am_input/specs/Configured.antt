@@ -9,6 +9,8 @@ use Rattle.am_cli.specs.Configured.{DecodesToConfig, config_compares_texts}
 use Rattle.am_cli.specs.Decoding.{Has, HasNone}
 use Rattle.am_cli.specs.declared.reader.Mode.{Mode}
 use Rattle.am_cli.specs.declared.reader.Mode.TheVariants.{Strict}
+use Rattle.am_config.specs.Receivers.{ReceiversAre}
+use Rattle.am_config.specs.Rules.{RulesAre}
 use Rattle.am_input.specs.declared.form.Form.{Form}
 use Rattle.am_input.specs.declared.form.Form.TheVariants.{Story, Own, Alertmanager}
 use Rattle.am_input.specs.declared.input.Changes.{Changes}
@@ -34,9 +36,11 @@ form_in value =
     if has_one_of story_names value then Story
     else (if is_some (pointer (codes "/receivers/0/integrations") value) || has_one_of own_names value then Own else Alertmanager)
 
--- a configuration that was read from Alertmanager's has no fault. Not stated: that it is the one of its JSON
-abbrev pub IsReadOfTheirs : Data → Config → Type 0
-IsReadOfTheirs value config = config_fault config ≡ None
+-- a configuration that was read from Alertmanager's has no fault, and its receivers and rules. Not stated: that the routes are its own
+pub record IsReadOfTheirs (value : Data) (config : Config) : Type 0 where
+  pub sound : config_fault config ≡ None
+  pub receivers : ReceiversAre value config.receivers
+  pub rules : RulesAre value config.rules
 
 -- the configuration in a story: that of `config`, or else Alertmanager's, which excludes `config`
 abbrev pub IsConfigIn : Mode → Members → Config → Type 0

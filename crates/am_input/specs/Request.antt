@@ -23,7 +23,7 @@ use Rattle.am_plans.specs.Planned.{ArePlannedWithoutRegexes, ArePlannedIn}
 use Rattle.am_terms.specs.declared.dispatcher_change.DispatcherChange.{DispatcherChange}
 use Rattle.am_terms.specs.declared.rehearsal.Rehearsal.{Rehearsal}
 use Rattle.am_input.specs.Zones.{AreZonesIn}
-use Rattle.am_input.specs.declared.input.TheConstants.{MAINTAIN}
+use Rattle.am_input.specs.declared.input.TheConstants.{MAINTAIN, REMOVE_EMPTY_GROUPS}
 use Rattle.am_input.specs.declared.input.Output.{Output}
 use Rattle.am_input.specs.declared.input.Changes.{Changes}
 use Rattle.am_input.specs.declared.input.Output.TheVariants.{Timeline, Notices, Json, Html}
@@ -65,15 +65,21 @@ abbrev pub maintain_in : Option Data → Option ℕ
 maintain_in None = Some MAINTAIN
 maintain_in (Some member) = interval_in member
 
+-- the time between two removals of empty groups: a member, or 30 seconds where it isn't there
+abbrev pub ticks_in : Option Data → Option ℕ
+ticks_in None = Some REMOVE_EMPTY_GROUPS
+ticks_in (Some member) = interval_in member
+
 -- the names of the members of a story
 abbrev pub member_names : List (List ℕ)
 member_names =
     codes "config" ∷ codes "alertmanager" ∷ codes "reload" ∷ codes "restart" ∷ codes "start" ∷ codes "zones" ∷ codes "until"
-    ∷ codes "alerts" ∷ codes "silences" ∷ codes "maintain" ∷ codes "outages" ∷ codes "expect" ∷ codes "output" ∷ []
+    ∷ codes "alerts" ∷ codes "silences" ∷ codes "maintain" ∷ codes "remove_empty_groups" ∷ codes "outages" ∷ codes "expect"
+    ∷ codes "output" ∷ []
 
 -- these members, each of a known name, with what the command line says in place of some, ask for this output, give this start and have
--- these expectations, of a rehearsal that has the configuration, the actions and the outages that they say, and ends and is maintained
--- as they say; their zones are the rules of zones; and these are the reloads and restarts that they say
+-- these expectations, of a rehearsal that has the configuration, the actions, the outages and the upkeep that they say, and ends when
+-- they say; their zones are the rules of zones; and these are the reloads and restarts that they say
 pub record Requests (mode : Mode) (changes : Changes) (members : Members) (output : Output) (start : Option StartData)
     (expectations : List Expectation) (dispatcher_changes : List DispatcherChange) (rehearsal : Rehearsal) : Type 0 where
   pub known : IsTrue (has_only mode member_names members)
@@ -83,7 +89,8 @@ pub record Requests (mode : Mode) (changes : Changes) (members : Members) (outpu
   pub decodes : output_for changes.overrides.output (get_member (codes "output") members) ≡ Some output
   pub starts : DecodesToStart (get_member (codes "start") members) start
   pub ends : end_for changes.overrides.until members ≡ Some rehearsal.until
-  pub maintains : maintain_in (get_member (codes "maintain") members) ≡ Some rehearsal.maintain
+  pub maintains : maintain_in (get_member (codes "maintain") members) ≡ Some rehearsal.upkeep.maintain
+  pub ticks : ticks_in (get_member (codes "remove_empty_groups") members) ≡ Some rehearsal.upkeep.remove_empty_groups
   pub plans : ArePlannedIn mode members rehearsal.plans.items
   pub outages : HasOr (IsList (DecodesToOutage mode)) [] (codes "outages") members rehearsal.outages.items
   pub targets : IsTrue (have_targets (configs_of rehearsal.config dispatcher_changes) rehearsal.outages.items)

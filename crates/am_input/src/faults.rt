@@ -2,7 +2,7 @@
 use crate::configured::{Configured, read_configured, read_reload};
 use crate::dispatcher_changes::HandedOver;
 use crate::hours::check_start;
-use crate::input::{MEMBERS, Overrides, read_maintain, read_output, read_until};
+use crate::input::{MEMBERS, Overrides, read_maintain, read_output, read_ticks, read_until};
 use crate::time;
 use crate::zone_files::ZoneFiles;
 use crate::zones::read_zones;
@@ -175,6 +175,7 @@ fn event_faults(
     each::<AlertItem>(faults, top, "alerts")?;
     each::<SilenceItem>(faults, top, "silences")?;
     faults.kept(read_maintain(top))?;
+    faults.kept(read_ticks(top))?;
     outage_faults(faults, top, configs)?;
     let plans = plans_in(top)?;
     let plans = plans.as_ref().map(Vec::as_slice);

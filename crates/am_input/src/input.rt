@@ -6,7 +6,7 @@
 //! its end at that time, as Prometheus sends them. The configuration is `am_cli`'s, or
 //! Alertmanager's own (`configured`), whose faults are all reported; of the rest the first fault
 //! is. Contracts say by definitions over the JSON value's fields what was read for `output`,
-//! `start`, `until`, `reload`, `restart`, `maintain`, `alerts`, `silences`, `outages` and `expect` (`Request`, `Decoding`,
+//! `start`, `until`, `reload`, `restart`, `maintain`, `remove_empty_groups`, `alerts`, `silences`, `outages` and `expect` (`Request`, `Decoding`,
 //! `Planned`, `Expected`).
 ghost use Rattle.std.specs.Prelude.{◌≡◌, ◌≤◌, ◌<◌, ℕ, [], IfErr, IfOk, IsTrue, List, Some, codes, false};
 ghost use Rattle.std.specs.Result.{result_ok};
@@ -26,7 +26,7 @@ ghost use Rattle.am_terms.specs.declared.rehearsal.Rehearsal.{Rehearsal};
 ghost use Rattle.am_input.specs.declared.input.Requested.{Requested};
 ghost use Rattle.am_input.specs.declared.input.Input.{Input};
 ghost use Rattle.am_input.specs.Request.{DecodesToStart, IsRequestIn, IsWithoutRegexes, IsRequestWithoutRegexes};
-ghost use Rattle.am_input.specs.Request.{RefusesAll, Requests, end_for, maintain_in, member_names, output_for};
+ghost use Rattle.am_input.specs.Request.{RefusesAll, Requests, end_for, maintain_in, member_names, output_for, ticks_in};
 
 use crate::configured::{Configured, read_configured};
 use crate::dispatcher_changes::{HandedOver, both, either, read_dispatcher_changes};
@@ -49,15 +49,19 @@ use am_plans::planned::read_plans;
 use am_terms::dated::UtcDates;
 use am_terms::dispatcher_change::DispatcherChange;
 use am_terms::expectation::Expectation;
-use am_terms::rehearsal::{MAX_UNTIL, Outage, Rehearsal};
+use am_terms::rehearsal::{MAX_UNTIL, Outage, Rehearsal, Upkeep};
 use serde_json::Value;
 use std::alloc::Global;
 
 /// How often maintenance is made, where the rehearsal doesn't say: every 15 minutes, in milliseconds.
 pub const MAINTAIN: u64 = 900_000;
 
+/// How often empty groups are removed, where the rehearsal doesn't say: every 30 seconds, in
+/// milliseconds.
+pub const REMOVE_EMPTY_GROUPS: u64 = 30_000;
+
 /// The members of a rehearsal.
-pub(crate) const MEMBERS: [&str; 13] = [
+pub(crate) const MEMBERS: [&str; 14] = [
     "config",
     "alertmanager",
     "reload",
@@ -68,6 +72,7 @@ pub(crate) const MEMBERS: [&str; 13] = [
     "alerts",
     "silences",
     "maintain",
+    "remove_empty_groups",
     "outages",
     "expect",
     "output",
@@ -255,24 +260,33 @@ fn read_rehearsal(
     ensures config { IfOk result (λ read. read.0.config ≡ config) }
     ensures until { IfOk result (λ read. read.0.until ≡ until) }
     ensures maintain { IfOk result (λ read.
-        maintain_in (get_member (codes "maintain") (members_view top.now.members)) ≡ Some read.0.maintain) }
+        maintain_in (get_member (codes "maintain") (members_view top.now.members)) ≡ Some read.0.upkeep.maintain) }
+    ensures ticks { IfOk result (λ read. ticks_in (get_member (codes "remove_empty_groups") (members_view top.now.members))
+        ≡ Some read.0.upkeep.remove_empty_groups) }
     ensures plans { IfOk result (λ read. ArePlannedIn top.now.mode (members_view top.now.members) read.0.plans.items) }
     ensures outages { IfOk result (λ read.
         HasOr (IsList (DecodesToOutage top.now.mode)) [] (codes "outages") (members_view top.now.members) read.0.outages.items) }
     ensures targets { IfOk result (λ read. IsTrue (have_targets (configs_of config dispatcher_changes.now) read.0.outages.items)) }
     ensures refused { IfErr result (Excludes (λ (r : Rehearsal).
-        (maintain_in (get_member (codes "maintain") (members_view top.now.members)) ≡ Some r.maintain)
+        (maintain_in (get_member (codes "maintain") (members_view top.now.members)) ≡ Some r.upkeep.maintain)
+        × (ticks_in (get_member (codes "remove_empty_groups") (members_view top.now.members))
+        ≡ Some r.upkeep.remove_empty_groups)
         × HasOr (IsList (DecodesToOutage top.now.mode)) [] (codes "outages") (members_view top.now.members) r.outages.items
         × IsTrue (have_targets (configs_of config dispatcher_changes.now) r.outages.items)
         × ArePlannedWithoutRegexes top.now.mode (members_view top.now.members) r.plans.items)) }
 {
     let maintain = read_maintain(top)?;
+    let remove_empty_groups = read_ticks(top)?;
+    let upkeep = Upkeep {
+        maintain,
+        remove_empty_groups,
+    };
     let outages = read_outages_under(top, &config, dispatcher_changes)?;
     let (plans, origins) = read_plans(top)?;
     let rehearsal = Rehearsal {
         config,
         until,
-        maintain,
+        upkeep,
         plans,
         outages,
     };
@@ -305,6 +319,17 @@ pub(crate) fn read_maintain(top: &Object<'_, '_>) -> Result<u64, InputFault>
 {
     match top.optional("maintain") {
         None => Ok(MAINTAIN),
+        Some(member) => interval(&member),
+    }
+}
+
+/// The time between two removals of empty groups, in milliseconds.
+pub(crate) fn read_ticks(top: &Object<'_, '_>) -> Result<u64, InputFault>
+    ensures value { result_ok result ≡ ticks_in (get_member (codes "remove_empty_groups") (members_view top.now.members)) }
+    ensures some { IfOk result (λ interval. 0 < interval) }
+{
+    match top.optional("remove_empty_groups") {
+        None => Ok(REMOVE_EMPTY_GROUPS),
         Some(member) => interval(&member),
     }
 }

@@ -1,5 +1,10 @@
+pub mod Asked
+pub mod Forms
 pub mod Members
 pub mod NamedPieces
+pub mod Once
+pub mod OneLine
 pub mod Pieces
 pub mod Reading
+pub mod Refusing
 pub mod Splitting

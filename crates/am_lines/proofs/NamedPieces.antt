@@ -12,3 +12,11 @@ pub named_pieces : {T E : Type 0} (r : Result T E) (opened half filled new befor
 named_pieces r opened half filled new before name members further is_opened is_half is_filled =
     last_piece r new filled (end_object ∷ end_object ∷ []) (before ++ named name (members ++ further))
     (rw (is_filled, is_half, is_opened) (simp append_assoc))
+
+-- an object with one member, whose members are three pieces
+pub named_three : {T E : Type 0} (r : Result T E) (opened one two filled new before : List Token) (name : List ℕ) (piece1 piece2 piece3 : List Token)
+    → opened ≡ before ++ begin_object ∷ key name ∷ begin_object ∷ [] → one ≡ opened ++ piece1 → two ≡ one ++ piece2 → filled ≡ two ++ piece3
+    → OnOk r (new ≡ filled ++ end_object ∷ end_object ∷ []) → OnOk r (new ≡ before ++ named name (piece1 ++ piece2 ++ piece3))
+named_three r opened one two filled new before name piece1 piece2 piece3 is_opened is1 is2 is3 =
+    last_piece r new filled (end_object ∷ end_object ∷ []) (before ++ named name (piece1 ++ piece2 ++ piece3))
+    (rw (is3, is2, is1, is_opened) (simp append_assoc))

@@ -19,6 +19,7 @@ use Rattle.am_model.specs.declared.fault.ReportFault.TheVariants as report
 use Rattle.am_lines.specs.declared.fault.LineFault.{LineFault}
 use Rattle.am_lines.specs.declared.fault.LineFault.TheVariants as fault
 use Rattle.am_lines.specs.Answer.{number_member, text_member}
+use Rattle.am_lines.specs.Lines.{IsOneLine}
 use Rattle.am_lines.specs.Reply.{named}
 use Rattle.am_lines.specs.Wanted.{refusal_message}
 
@@ -112,9 +113,10 @@ IsUnmade fault.Spent = ⊥
 IsUnmade (fault.Refused pointer kind) = ⊥
 IsUnmade (fault.NotMade pointer kind message) = Unit {0}
 
--- the text says the fault. Where memory for its words is refused it says that, if the line has changed nothing
+-- the text is one line, which says the fault. Where memory for its words is refused it says that, if the line has changed nothing
 abbrev pub AnswersFault : LineFault → List ℕ → Type 0
-AnswersFault f text = (text ≡ fault_line f) ⊎ (IsTrue (changes_nothing f) × (text ≡ fault_line fault.NoMemory))
+AnswersFault f text =
+    IsOneLine text × ((text ≡ fault_line f) ⊎ (IsTrue (changes_nothing f) × (text ≡ fault_line fault.NoMemory)))
 
 -- a call isn't made, for what has this kind at this pointer
 abbrev pub IsRefusedAs : LineFault → List ℕ → List ℕ → Type 0

@@ -1,7 +1,9 @@
 pub mod Answer
+pub mod Call
 pub mod Fault
 pub mod Inserts
 pub mod Lines
+pub mod Logged
 pub mod Record
 pub mod Reply
 pub mod Request

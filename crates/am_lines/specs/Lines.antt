@@ -23,6 +23,10 @@ abbrev pub is_plain : List ℕ → Bool
 is_plain [] = true
 is_plain (b ∷ bytes) = if b == 10 then false else is_plain bytes
 
+-- one line: bytes without a line feed, and a line feed
+abbrev pub IsOneLine : List ℕ → Type 0
+IsOneLine text = (line : List ℕ) × IsTrue (is_plain line) × (text ≡ line ++ 10 ∷ [])
+
 -- what a reader of lines has: the bytes that were given and aren't used, and whether the input has reported its end
 pub record LinesData : Type 0 where
   pub unused : List ℕ

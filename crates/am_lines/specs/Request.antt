@@ -1,18 +1,23 @@
 -- Request: what a line asks, a line for each member.
-use Rattle.std.specs.Prelude.{◌≡◌, ◌≢◌, ◌<◌, ◌⊎◌, ℕ, List, [], ◌∷◌, Option, Some, None, IsSomeAnd, IsTrue, codes, if◌then◌else◌, is_some}
+use Rattle.std.specs.Prelude.{◌≡◌, ◌<◌, ◌≤◌, ◌&&◌, not, ℕ, Bool, true, false, List, [], ◌∷◌, Option, Some, None, IsSomeAnd, IsTrue, codes, if◌then◌else◌, is_some}
 use Rattle.serde_json.specs.Data.{Data, Members, no_members, member}
-use Rattle.serde_json.specs.Find.{as_null, as_object, as_str, get_member}
+use Rattle.serde_json.specs.Find.{as_null, as_object, as_str}
 use Rattle.am_alerts.specs.AlertData.{alert_fault, alert_of}
+use Rattle.am_alerts.specs.Matcher.{compare_texts}
 use Rattle.am_alerts.specs.declared.labels.Label.{Label}
 use Rattle.am_alerts.specs.declared.limits.TheConstants.{MAX_TIME}
-use Rattle.am_cli.specs.Configured.{DecodesToConfig, DecodesToLabels, DecodesToMatcher}
-use Rattle.am_cli.specs.Decoding.{IsList, IsNumber, IsText, Has, HasIf, HasOr}
-use Rattle.am_cli.specs.Read.{has_only, number_in, duration_in}
+use Rattle.am_cli.specs.Configured.{DecodesToConfig, DecodesToLabels, DecodesToMatcher, config_compares_texts}
+use Rattle.am_cli.specs.Decoding.{IsList, IsNumber, IsObject, IsText, Has, HasIf, HasOr}
+use Rattle.am_cli.specs.Read.{Excludes, has_only, number_in, duration_in}
 use Rattle.am_cli.specs.declared.reader.Mode.{Mode}
 use Rattle.am_config.specs.IgnoredSettings.{nothing}
 use Rattle.am_retry.specs.declared.outcome.Outcome.{Outcome}
 use Rattle.am_retry.specs.declared.outcome.Outcome.TheVariants.{Delivered, Refused, Expired, Starved}
+use Rattle.am_mute.specs.Silence.{silence_fault}
 use Rattle.am_model.specs.Config.{config_fault}
+use Rattle.am_lines.specs.Call.{call_text}
+use Rattle.am_lines.specs.declared.call.CallName.{CallName}
+use Rattle.am_lines.specs.declared.call.CallName.TheVariants as call
 use Rattle.am_lines.specs.declared.request.Finishing.{Finishing}
 use Rattle.am_lines.specs.declared.request.Insertion.{Insertion}
 use Rattle.am_lines.specs.declared.request.ListedInsert.{ListedInsert}
@@ -25,6 +30,7 @@ use Rattle.am_lines.specs.declared.request.Opening.{Opening}
 use Rattle.am_lines.specs.declared.request.Reporting.{Reporting}
 use Rattle.am_lines.specs.declared.request.Silencing.{Silencing}
 use Rattle.am_lines.specs.declared.request.Timed.{Timed}
+use Rattle.am_lines.specs.declared.request.TheConstants.{MAX_POSITION}
 use Rattle.am_lines.specs.declared.request.Request.{Request}
 use Rattle.am_lines.specs.declared.request.Request.TheVariants as request
 
@@ -55,20 +61,28 @@ outcome_word Starved = codes "starved"
 abbrev pub IsOutcome : Data → Outcome → Type 0
 IsOutcome value outcome = as_str value ≡ Some (outcome_word outcome)
 
+-- the position of an integration in its receiver
+abbrev pub IsPosition : Data → ℕ → Type 0
+IsPosition value position = IsNumber value position × (position ≤ MAX_POSITION)
+
+-- the arguments of a call that has none: an object, in strict mode an empty one
+abbrev pub HasNoArguments : Mode → Data → Type 0
+HasNoArguments mode value = IsSomeAnd (as_object value) (λ members. IsTrue (has_only mode [] members))
+
 -- the time of a call that has no other argument
-pub record DecodesToTimed (value : Data) (timed : Timed) : Type 0 where
-  pub members : Members
-  pub object : as_object value ≡ Some members
+pub record HasTimed (mode : Mode) (members : Members) (timed : Timed) : Type 0 where
+  pub only : IsTrue (has_only mode (codes "now" ∷ []) members)
   pub now : Has IsNow (codes "now") members timed.now
+
+abbrev pub DecodesToTimed : Mode → Data → Timed → Type 0
+DecodesToTimed mode value timed = IsObject (HasTimed mode) value timed
 
 -- the names of the arguments of an insert
 abbrev pub insertion_names : List (List ℕ)
 insertion_names = codes "now" ∷ codes "labels" ∷ codes "starts" ∷ codes "ends" ∷ []
 
 -- an alert; without `starts` it starts at the time of the call, without `ends` it has no end
-pub record DecodesToInsertion (mode : Mode) (value : Data) (insertion : Insertion) : Type 0 where
-  pub members : Members
-  pub object : as_object value ≡ Some members
+pub record HasInsertion (mode : Mode) (members : Members) (insertion : Insertion) : Type 0 where
   pub only : IsTrue (has_only mode insertion_names members)
   pub now : Has IsNow (codes "now") members insertion.now
   pub labels : List Label
@@ -80,40 +94,56 @@ pub record DecodesToInsertion (mode : Mode) (value : Data) (insertion : Insertio
   pub is : insertion.alert ≡ alert_of labels starts ends
   pub sound : alert_fault insertion.alert ≡ None
 
--- one of several inserts: an alert, or a value that is refused
+abbrev pub DecodesToInsertion : Mode → Data → Insertion → Type 0
+DecodesToInsertion mode value insertion = IsObject (HasInsertion mode) value insertion
+
+-- one of several inserts: an alert, or a value that is refused, which is none
 abbrev pub DecodesToListed : Mode → Data → ListedInsert → Type 0
 DecodesToListed mode value (listed.Read insertion) = DecodesToInsertion mode value insertion
-DecodesToListed mode value (listed.Refused fault) = Unit {0}
+DecodesToListed mode value (listed.Refused fault) = Excludes (DecodesToInsertion mode value) fault
+
+-- the names of the arguments of a silence
+abbrev pub silencing_names : List (List ℕ)
+silencing_names = codes "now" ∷ codes "id" ∷ codes "matchers" ∷ codes "starts" ∷ codes "ends" ∷ []
 
 -- a silence; without `starts` it starts at the time of the call
-pub record DecodesToSilencing (mode : Mode) (value : Data) (silencing : Silencing) : Type 0 where
-  pub members : Members
-  pub object : as_object value ≡ Some members
+pub record HasSilencing (mode : Mode) (members : Members) (silencing : Silencing) : Type 0 where
+  pub only : IsTrue (has_only mode silencing_names members)
   pub now : Has IsNow (codes "now") members silencing.now
   pub id : Has IsNumber (codes "id") members silencing.silence.id
   pub matchers : Has (IsList (DecodesToMatcher mode)) (codes "matchers") members silencing.silence.matchers
   pub starts : HasOr IsTime silencing.now (codes "starts") members silencing.silence.start
   pub ends : Has IsTime (codes "ends") members silencing.silence.end
+  pub sound : silence_fault silencing.silence ≡ None
 
-pub record DecodesToReporting (value : Data) (reporting : Reporting) : Type 0 where
-  pub members : Members
-  pub object : as_object value ≡ Some members
+abbrev pub DecodesToSilencing : Mode → Data → Silencing → Type 0
+DecodesToSilencing mode value silencing = IsObject (HasSilencing mode) value silencing
+
+pub record HasReporting (mode : Mode) (members : Members) (reporting : Reporting) : Type 0 where
+  pub only : IsTrue (has_only mode (codes "ticket" ∷ codes "integration" ∷ codes "outcome" ∷ []) members)
   pub ticket : Has IsNumber (codes "ticket") members reporting.ticket
-  pub integration : Has IsNumber (codes "integration") members reporting.integration
+  pub integration : Has IsPosition (codes "integration") members reporting.integration
   pub outcome : Has IsOutcome (codes "outcome") members reporting.outcome
 
-pub record DecodesToNoting (value : Data) (noting : Noting) : Type 0 where
-  pub members : Members
-  pub object : as_object value ≡ Some members
+abbrev pub DecodesToReporting : Mode → Data → Reporting → Type 0
+DecodesToReporting mode value reporting = IsObject (HasReporting mode) value reporting
+
+pub record HasNoting (mode : Mode) (members : Members) (noting : Noting) : Type 0 where
+  pub only : IsTrue (has_only mode (codes "now" ∷ codes "ticket" ∷ codes "integration" ∷ []) members)
   pub now : Has IsNow (codes "now") members noting.now
   pub ticket : Has IsNumber (codes "ticket") members noting.ticket
-  pub integration : Has IsNumber (codes "integration") members noting.integration
+  pub integration : Has IsPosition (codes "integration") members noting.integration
 
-pub record DecodesToFinishing (value : Data) (finishing : Finishing) : Type 0 where
-  pub members : Members
-  pub object : as_object value ≡ Some members
+abbrev pub DecodesToNoting : Mode → Data → Noting → Type 0
+DecodesToNoting mode value noting = IsObject (HasNoting mode) value noting
+
+pub record HasFinishing (mode : Mode) (members : Members) (finishing : Finishing) : Type 0 where
+  pub only : IsTrue (has_only mode (codes "now" ∷ codes "ticket" ∷ []) members)
   pub now : Has IsNow (codes "now") members finishing.now
   pub ticket : Has IsNumber (codes "ticket") members finishing.ticket
+
+abbrev pub DecodesToFinishing : Mode → Data → Finishing → Type 0
+DecodesToFinishing mode value finishing = IsObject (HasFinishing mode) value finishing
 
 -- the labels of a group: an object without members for none
 abbrev pub IsGroupLabels : Mode → Data → Option (List Label) → Type 0
@@ -121,67 +151,98 @@ IsGroupLabels mode value None = as_object value ≡ Some no_members
 IsGroupLabels mode value (Some labels) = DecodesToLabels mode value labels
 
 -- a group by the name of its route
-pub record DecodesToGroup (mode : Mode) (value : Data) (group : NamedGroup) : Type 0 where
-  pub members : Members
-  pub object : as_object value ≡ Some members
+pub record HasGroup (mode : Mode) (members : Members) (group : NamedGroup) : Type 0 where
+  pub only : IsTrue (has_only mode (codes "route" ∷ codes "labels" ∷ []) members)
   pub route : Has IsText (codes "route") members group.route
   pub labels : Has (IsGroupLabels mode) (codes "labels") members group.labels
 
+abbrev pub DecodesToGroup : Mode → Data → NamedGroup → Type 0
+DecodesToGroup mode value group = IsObject (HasGroup mode) value group
+
+-- the names of the members of a row
+abbrev pub row_names : List (List ℕ)
+row_names =
+    codes "group" ∷ codes "receiver" ∷ codes "integration" ∷ codes "kind" ∷ codes "moment" ∷ codes "expiry" ∷ codes "firing" ∷ codes "resolved" ∷ []
+
 -- a row of a log, by the names of its route, its receiver, which it may not name, and its integration
-pub record DecodesToRow (mode : Mode) (value : Data) (row : NamedRow) : Type 0 where
-  pub members : Members
-  pub object : as_object value ≡ Some members
+pub record HasRow (mode : Mode) (members : Members) (row : NamedRow) : Type 0 where
+  pub only : IsTrue (has_only mode row_names members)
   pub group : Has (DecodesToGroup mode) (codes "group") members row.group
   pub receiver : HasIf IsText (codes "receiver") members row.receiver
-  pub integration : Has IsNumber (codes "integration") members row.integration
+  pub integration : Has IsPosition (codes "integration") members row.integration
   pub kind : Has IsText (codes "kind") members row.kind
   pub time : Has IsTime (codes "moment") members row.time
   pub expiry : Has IsTime (codes "expiry") members row.expiry
   pub firing : Has (IsList (DecodesToLabels mode)) (codes "firing") members row.firing.items
   pub resolved : Has (IsList (DecodesToLabels mode)) (codes "resolved") members row.resolved.items
 
-pub record DecodesToLoading (mode : Mode) (value : Data) (loading : Loading) : Type 0 where
-  pub members : Members
-  pub object : as_object value ≡ Some members
+abbrev pub DecodesToRow : Mode → Data → NamedRow → Type 0
+DecodesToRow mode value row = IsObject (HasRow mode) value row
+
+pub record HasLoading (mode : Mode) (members : Members) (loading : Loading) : Type 0 where
+  pub only : IsTrue (has_only mode (codes "now" ∷ codes "row" ∷ []) members)
   pub now : Has IsNow (codes "now") members loading.now
   pub row : Has (DecodesToRow mode) (codes "row") members loading.row
 
--- a configuration of our own, of which nothing is ignored, or one of Alertmanager, of which no more is said than that a board may have it
-abbrev pub IsOpening : Mode → Members → Opening → Type 0
-IsOpening mode members opening =
-    (config_fault opening.config ≡ None)
-    × ((Has (DecodesToConfig mode) (codes "config") members opening.config × (opening.ignored ≡ nothing))
-    ⊎ (get_member (codes "alertmanager") members ≢ None))
+abbrev pub DecodesToLoading : Mode → Data → Loading → Type 0
+DecodesToLoading mode value loading = IsObject (HasLoading mode) value loading
 
--- the member with the name of the call has its arguments
-abbrev pub IsRequestOf : Mode → Members → Request → Type 0
-IsRequestOf mode members (request.Open opening) = IsOpening mode members opening
-IsRequestOf mode members (request.Insert x) = Has (DecodesToInsertion mode) (codes "insert") members x
-IsRequestOf mode members (request.Inserts xs) = Has (IsList (DecodesToListed mode)) (codes "inserts") members xs.items
-IsRequestOf mode members (request.Silence x) = Has (DecodesToSilencing mode) (codes "silence") members x
-IsRequestOf mode members (request.Begin x) = Has DecodesToTimed (codes "begin") members x
-IsRequestOf mode members (request.Report x) = Has DecodesToReporting (codes "report") members x
-IsRequestOf mode members (request.Note x) = Has DecodesToNoting (codes "note") members x
-IsRequestOf mode members (request.Finish x) = Has DecodesToFinishing (codes "finish") members x
-IsRequestOf mode members (request.Maintain x) = Has DecodesToTimed (codes "maintain") members x
-IsRequestOf mode members (request.RemoveEmptyGroups x) = Has DecodesToTimed (codes "remove_empty_groups") members x
-IsRequestOf mode members (request.Forget x) = Has DecodesToTimed (codes "forget") members x
-IsRequestOf mode members (request.Load x) = Has (DecodesToLoading mode) (codes "load") members x
-IsRequestOf mode members request.NextDue = get_member (codes "next_due") members ≢ None
-IsRequestOf mode members (request.Outlook x) = Has DecodesToTimed (codes "outlook") members x
-IsRequestOf mode members request.Rows = get_member (codes "rows") members ≢ None
-IsRequestOf mode members request.Groups = get_member (codes "groups") members ≢ None
-IsRequestOf mode members request.Summary = get_member (codes "summary") members ≢ None
-IsRequestOf mode members request.Tickets = get_member (codes "tickets") members ≢ None
-IsRequestOf mode members request.TakeHistory = get_member (codes "take_history") members ≢ None
+-- a configuration of our own, of which nothing is ignored
+pub record IsOwnOpening (mode : Mode) (value : Data) (opening : Opening) : Type 0 where
+  pub config : DecodesToConfig mode value opening.config
+  pub ignored : opening.ignored ≡ nothing
+  pub sound : config_fault opening.config ≡ None
 
--- there is one member, no more
-abbrev pub HasOneMember : Members → Type 0
-HasOneMember no_members = ⊥
-HasOneMember (member name value no_members) = Unit {0}
-HasOneMember (member name value (member next more rest)) = ⊥
+-- the value of a call has the arguments of the request. Of a configuration of Alertmanager no more is said than that a board may have it
+abbrev pub IsCallOf : Mode → CallName → Data → Request → Type 0
+IsCallOf mode call.Config value (request.Open x) = IsOwnOpening mode value x
+IsCallOf mode call.Alertmanager value (request.Open x) = config_fault x.config ≡ None
+IsCallOf mode call.Insert value (request.Insert x) = DecodesToInsertion mode value x
+IsCallOf mode call.Inserts value (request.Inserts xs) = IsList (DecodesToListed mode) value xs.items
+IsCallOf mode call.Silence value (request.Silence x) = DecodesToSilencing mode value x
+IsCallOf mode call.Begin value (request.Begin x) = DecodesToTimed mode value x
+IsCallOf mode call.Report value (request.Report x) = DecodesToReporting mode value x
+IsCallOf mode call.Note value (request.Note x) = DecodesToNoting mode value x
+IsCallOf mode call.Finish value (request.Finish x) = DecodesToFinishing mode value x
+IsCallOf mode call.Maintain value (request.Maintain x) = DecodesToTimed mode value x
+IsCallOf mode call.RemoveEmptyGroups value (request.RemoveEmptyGroups x) = DecodesToTimed mode value x
+IsCallOf mode call.Forget value (request.Forget x) = DecodesToTimed mode value x
+IsCallOf mode call.Load value (request.Load x) = DecodesToLoading mode value x
+IsCallOf mode call.NextDue value request.NextDue = HasNoArguments mode value
+IsCallOf mode call.Outlook value (request.Outlook x) = DecodesToTimed mode value x
+IsCallOf mode call.Rows value request.Rows = HasNoArguments mode value
+IsCallOf mode call.Groups value request.Groups = HasNoArguments mode value
+IsCallOf mode call.Summary value request.Summary = HasNoArguments mode value
+IsCallOf mode call.Tickets value request.Tickets = HasNoArguments mode value
+IsCallOf mode call.TakeHistory value request.TakeHistory = HasNoArguments mode value
+IsCallOf mode name value asked = ⊥
 
--- a line that asks this: an object whose one member has the name of the call
+-- a line that asks this by this call: an object whose one member has the name of the call
+pub record IsRequestBy (mode : Mode) (line : Data) (name : CallName) (asked : Request) : Type 0 where
+  pub value : Data
+  pub object : as_object line ≡ Some (member (call_text name) value no_members)
+  pub arguments : IsCallOf mode name value asked
+
+-- a line that asks this
 abbrev pub IsRequestIn : Mode → Data → Request → Type 0
-IsRequestIn mode line request =
-    IsSomeAnd (as_object line) (λ members. HasOneMember members × IsRequestOf mode members request)
+IsRequestIn mode line asked = (name : CallName) × IsRequestBy mode line name asked
+
+-- whether no matcher of what is asked needs a regex
+abbrev pub needs_no_regex : Request → Bool
+needs_no_regex (request.Open x) = config_compares_texts x.config
+needs_no_regex (request.Silence x) = compare_texts x.silence.matchers
+needs_no_regex asked = true
+
+abbrev pub is_of_alertmanager : CallName → Bool
+is_of_alertmanager call.Alertmanager = true
+is_of_alertmanager name = false
+
+-- whether what is asked by this call is never refused: a regex can be refused for its size, and a configuration of Alertmanager for
+-- what can't be reproduced
+abbrev pub is_never_refused : CallName → Request → Bool
+is_never_refused name asked = not (is_of_alertmanager name) && needs_no_regex asked
+
+-- a line that asks this, and is never refused
+abbrev pub IsSureRequestIn : Mode → Data → Request → Type 0
+IsSureRequestIn mode line asked =
+    (name : CallName) × IsRequestBy mode line name asked × IsTrue (is_never_refused name asked)

@@ -58,7 +58,7 @@ load_message pointer =
 -- what is wanted of a configuration, or of an argument of another call
 abbrev pub argument_message : List ℕ → List ℕ
 argument_message pointer =
-    if starts_with nat_eq pointer (codes "/config") then codes "no board may have this: docs/format.md has what is wanted"
+    if starts_with nat_eq pointer (codes "/config") then codes "no board may have this: docs/scenarios.md has what is wanted"
     else (if starts_with nat_eq pointer (codes "/alertmanager") then codes "no board may have this: am-rehearse check says what is wanted"
     else (if ends_with nat_eq pointer (codes "/now") then now_rule
     else (if ends_with nat_eq pointer (codes "/outcome") then codes "an outcome is delivered, refused, expired or starved"

@@ -4,6 +4,7 @@ ghost use Rattle.std.specs.List.{flat_map};
 ghost use Rattle.json.specs.Print.{print};
 ghost use Rattle.json.specs.Token.{begin_array, begin_object, end_array, end_object, key, null, number, string};
 ghost use Rattle.am_lines.specs.Answer.{array, flag_member, number_member, text_member};
+ghost use Rattle.am_lines.specs.Lines.{IsOneLine};
 
 use am_model::config::Config;
 use json::Writer;
@@ -54,9 +55,10 @@ impl Answer {
         }
     }
 
-    /// Returns the text as a line: its tokens without spaces, and a line feed.
+    /// Returns the text as one line: its tokens without spaces, and a line feed. Strings have none within: it is escaped.
     pub fn into_line(self) -> Result<Vec<u8>, AllocError>
-        ensures { IfOk result (λ line. line.items ≡ print self ++ 10 ∷ []) }
+        ensures text { IfOk result (λ line. line.items ≡ print self ++ 10 ∷ []) }
+        ensures one { IfOk result (λ line. IsOneLine line.items) }
     {
         let Answer { writer } = self;
         let mut line = writer.into_inner();

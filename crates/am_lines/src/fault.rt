@@ -3,6 +3,7 @@ ghost use Rattle.std.specs.Prelude.{◌≡◌, ◌++◌, IfSome, IsTrue, None, O
 ghost use Rattle.am_lines.specs.Fault.{changes_nothing, IsOfBoard, IsOfLoad, IsOfNote, IsOfReport, IsRefusedAs};
 ghost use Rattle.am_lines.specs.Fault.{fault_line, fault_tokens, kind_of, column_member, message_of, pointer_of};
 ghost use Rattle.am_lines.specs.Fault.{refusal_kind};
+ghost use Rattle.am_lines.specs.Lines.{IsOneLine};
 
 use crate::answer::Answer;
 use crate::reply::{begin, end};
@@ -23,7 +24,8 @@ const SPENT_LINE: &str =
 
 /// Returns the line that says that there was no memory. It needs none.
 pub fn no_memory_line() -> &'static str
-    ensures { result.now ≡ fault_line LineFault.NoMemory }
+    ensures line { result.now ≡ fault_line LineFault.NoMemory }
+    ensures one { IsOneLine result.now }
 {
     NO_MEMORY_LINE
 }
@@ -217,6 +219,7 @@ impl LineFault {
     /// Returns the line that says the fault, if that needs no memory. After each other fault all is as before.
     pub fn ready_line(&self) -> Option<&'static str>
         ensures line { IfSome result (λ line. line.now ≡ fault_line self.now) }
+        ensures one { IfSome result (λ line. IsOneLine line.now) }
         ensures none { result ≡ None → IsTrue (changes_nothing self.now) }
     {
         match self {

@@ -1,15 +1,17 @@
 //! The lines of `am-dispatch`: what a line asks of a board, and the text of what the board answers.
 //!
-//! - `lines` finds the lines in what is given. `request` reads what a line asks.
+//! - `lines` finds the lines in what is given. `call` has the names of the calls, and `request` reads what a line asks.
 //! - `answer` is the JSON text of an answer; contracts see its tokens. `parts`, `reply`, `view` and `record` write what the
-//!   board's replies, views and records say, `fault` why a line is refused, `wanted` what it has to be, and
-//!   `inserts` what became of several inserts of one line.
+//!   board's replies, views and records say, `logged` which rows a note or a finish logged, `fault` why a line is refused,
+//!   `wanted` what it has to be, and `inserts` what became of several inserts of one line.
 #![tactic(auto)]
 
 pub mod answer;
+pub mod call;
 pub mod fault;
 pub mod inserts;
 pub mod lines;
+pub mod logged;
 mod parts;
 pub mod record;
 pub mod reply;

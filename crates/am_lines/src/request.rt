@@ -1,16 +1,26 @@
 //! What a line asks, and how it is read. `am_dispatch` calls `read_request`.
 //!
 //! A line is an object with one member. The member's name is that of a call, and its value has the arguments.
-ghost use Rattle.std.specs.Prelude.{◌≡◌, IfOk, IsOkAnd, IsTrue, None, Some, codes};
+ghost use Rattle.std.specs.Prelude.{◌≡◌, ◌≢◌, ◌≤◌, ℕ, List, Option, IfErr, IfOk, IfSome, IsErrAnd, IsTrue, None, Some, codes, length};
 ghost use Rattle.serde_json.specs.Data.{no_members};
 ghost use Rattle.serde_json.specs.Find.{as_object};
 ghost use Rattle.serde_json.specs.View.{members_view, view};
 ghost use Rattle.am_alerts.specs.AlertData.{alert_fault, alert_of};
-ghost use Rattle.am_cli.specs.Configured.{DecodesToLabels, DecodesToMatcher};
+ghost use Rattle.am_alerts.specs.Matcher.{compare_texts};
+ghost use Rattle.am_alerts.specs.declared.labels.Label.{Label};
+ghost use Rattle.am_alerts.specs.declared.limits.TheConstants.{MAX_MATCHERS};
+ghost use Rattle.am_alerts.specs.declared.matcher.MatcherParts.{MatcherParts};
+ghost use Rattle.am_cli.specs.Configured.{DecodesToConfig, DecodesToLabels, DecodesToMatcher, config_compares_texts};
 ghost use Rattle.am_cli.specs.Decoding.{Has, HasIf, IsList, IsNumber, IsText};
-ghost use Rattle.am_mute.specs.Silence.{silence_of};
-ghost use Rattle.am_lines.specs.Request.{DecodesToListed, IsGroupLabels, HasOneMember, IsOpening, IsOutcome, IsRequestIn, IsRequestOf, outcome_word};
+ghost use Rattle.am_cli.specs.Read.{Excludes, IsRefusedBy, is_refusal};
+ghost use Rattle.am_mute.specs.Silence.{silence_fault, silence_of};
+ghost use Rattle.am_config.specs.IgnoredSettings.{nothing};
+ghost use Rattle.am_model.specs.Config.{config_fault};
+ghost use Rattle.am_lines.specs.Request.{DecodesToListed, HasNoArguments, IsCallOf, IsGroupLabels, IsOutcome, IsPosition, IsRequestIn};
+ghost use Rattle.am_lines.specs.Call.{form_fault};
+ghost use Rattle.am_lines.specs.Request.{IsSureRequestIn, is_never_refused, outcome_word};
 
+use crate::call::{CallName, call_named, only_member};
 use crate::time::{ends, now_at, time_at, time_or};
 use am_alerts::alert::{Alert, AlertFault};
 use am_alerts::labels::Labels;
@@ -30,8 +40,8 @@ use am_mute::silence::{Silence, SilenceFault};
 use am_retry::Outcome;
 use std::alloc::Global;
 
-/// The greatest position of an integration that is read.
-const MAX_POSITION: u64 = u32::MAX as u64;
+/// The greatest position of an integration that is read: that of 32 bits.
+const MAX_POSITION: u64 = 4_294_967_295;
 
 /// What a line asks.
 #[derive(Drop)]
@@ -152,124 +162,106 @@ pub struct NamedGroup {
     pub labels: Option<Labels>,
 }
 
-/// The arguments of a call that has none: an empty object.
-#[derive(Drop)]
-struct Nothing;
-
 /// Reads what a line asks.
 ///
 /// # Errors
 ///
 /// The first value that is refused, in the order of reading. Of an `alertmanager.yml` that is refused for several faults it
 /// is the first.
+///
+/// - Clause `form`: a line that is no object with one member, which has the name of a call, is refused for that.
+/// - Clause `refused`: another line is refused only if it is no request, except an `alertmanager.yml` and a pattern that needs
+///   a regex.
+/// - `NoMemory`: out of memory, also for the pointer of a refusal.
 pub fn read_request(reader: &Reader<'_, '_>) -> Result<Request, InputFault>
-    ensures { IfOk result (IsRequestIn reader.now.mode (view reader.now.value)) }
+    ensures requested { IfOk result (IsRequestIn reader.now.mode (view reader.now.value)) }
+    ensures form { IfSome (form_fault (view reader.now.value)) (λ kind. IsErrAnd result (IsRefusedBy kind)) }
+    ensures refused { IfErr result (Excludes (IsSureRequestIn reader.now.mode (view reader.now.value))) }
 {
     let line = reader.object()?;
-    let name = only_name(reader, &line)?;
-    let request = read_call(&line, name)?;
-    Ok(request)
+    let (name, value) = only_member(reader, &line)?;
+    let Some(call) = call_named(name) else {
+        return Err(reader.refuse_at(&reader.pointer().member(name), FaultKind::Unknown));
+    };
+    read_call(&line.member(name, value), call)
 }
 
-/// Reads what a line asks whose member has this name.
-fn read_call(line: &Object<'_, '_>, name: &str) -> Result<Request, InputFault>
-    ensures { IfOk result (IsRequestOf line.now.mode (members_view line.now.members)) }
+/// Reads the arguments of a call.
+fn read_call(value: &Reader<'_, '_>, call: CallName) -> Result<Request, InputFault>
+    ensures requested { IfOk result (IsCallOf value.now.mode call (view value.now.value)) }
+    ensures refused { IfErr result (Excludes (λ request.
+        IsCallOf value.now.mode call (view value.now.value) request × IsTrue (is_never_refused call request))) }
 {
-    match name {
-        "config" => Ok(Request::Open(read_own(line)?)),
-        "alertmanager" => Ok(Request::Open(read_theirs(line)?)),
-        "insert" => Ok(Request::Insert(member(line, "insert")?)),
-        "inserts" => Ok(Request::Inserts(listed_inserts(line)?)),
-        "silence" => Ok(Request::Silence(member(line, "silence")?)),
-        "begin" => Ok(Request::Begin(member(line, "begin")?)),
-        "report" => Ok(Request::Report(member(line, "report")?)),
-        "note" => Ok(Request::Note(member(line, "note")?)),
-        "finish" => Ok(Request::Finish(member(line, "finish")?)),
-        "maintain" => Ok(Request::Maintain(member(line, "maintain")?)),
-        "remove_empty_groups" => Ok(Request::RemoveEmptyGroups(member(
-            line,
-            "remove_empty_groups",
-        )?)),
-        "forget" => Ok(Request::Forget(member(line, "forget")?)),
-        "load" => Ok(Request::Load(member(line, "load")?)),
-        "outlook" => Ok(Request::Outlook(member(line, "outlook")?)),
-        _ => read_bare(line, name),
+    match call {
+        CallName::Config => Ok(Request::Open(read_own(value)?)),
+        CallName::Alertmanager => Ok(Request::Open(read_theirs(value)?)),
+        CallName::Insert => Ok(Request::Insert(Insertion::read(value)?)),
+        CallName::Inserts => Ok(Request::Inserts(value.list::<ListedInsert>()?)),
+        CallName::Silence => Ok(Request::Silence(Silencing::read(value)?)),
+        CallName::Begin => Ok(Request::Begin(Timed::read(value)?)),
+        CallName::Report => Ok(Request::Report(Reporting::read(value)?)),
+        CallName::Note => Ok(Request::Note(Noting::read(value)?)),
+        CallName::Finish => Ok(Request::Finish(Finishing::read(value)?)),
+        CallName::Maintain => Ok(Request::Maintain(Timed::read(value)?)),
+        CallName::RemoveEmptyGroups => Ok(Request::RemoveEmptyGroups(Timed::read(value)?)),
+        CallName::Forget => Ok(Request::Forget(Timed::read(value)?)),
+        CallName::Load => Ok(Request::Load(Loading::read(value)?)),
+        CallName::NextDue => without_arguments(value, Request::NextDue),
+        CallName::Outlook => Ok(Request::Outlook(Timed::read(value)?)),
+        CallName::Rows => without_arguments(value, Request::Rows),
+        CallName::Groups => without_arguments(value, Request::Groups),
+        CallName::Summary => without_arguments(value, Request::Summary),
+        CallName::Tickets => without_arguments(value, Request::Tickets),
+        CallName::TakeHistory => without_arguments(value, Request::TakeHistory),
     }
 }
 
-/// Reads what has no arguments: what asks for a view, or for the history.
-fn read_bare(line: &Object<'_, '_>, name: &str) -> Result<Request, InputFault>
-    ensures { IfOk result (IsRequestOf line.now.mode (members_view line.now.members)) }
+/// Returns what is asked by a call that has no arguments: its value is an empty object.
+fn without_arguments(value: &Reader<'_, '_>, request: Request) -> Result<Request, InputFault>
+    ensures asked { IfOk result (λ r. r ≡ request) }
+    ensures empty { IfOk result (λ _. HasNoArguments value.now.mode (view value.now.value)) }
+    ensures refused { IfErr result (λ fault. IsTrue (is_refusal fault)
+        → HasNoArguments value.now.mode (view value.now.value) → ⊥) }
 {
-    match name {
-        "next_due" => without_fields(member(line, "next_due"), Request::NextDue),
-        "rows" => without_fields(member(line, "rows"), Request::Rows),
-        "groups" => without_fields(member(line, "groups"), Request::Groups),
-        "summary" => without_fields(member(line, "summary"), Request::Summary),
-        "tickets" => without_fields(member(line, "tickets"), Request::Tickets),
-        "take_history" => without_fields(member(line, "take_history"), Request::TakeHistory),
-        _ => Err(line.required(name)?.refuse(FaultKind::Unknown)),
-    }
-}
-
-/// What is asked, if its arguments are none.
-fn without_fields(
-    read: Result<Nothing, InputFault>,
-    request: Request,
-) -> Result<Request, InputFault>
-    ensures { IfOk result (λ r. IsOkAnd read (λ _. r ≡ request)) }
-{
-    let Nothing = read?;
+    let members = value.object()?;
+    members.only(&[])?;
     Ok(request)
 }
 
 /// Reads the value of a member that must be there.
 fn member<'v, T: FromJson<'v>>(line: &Object<'v, '_>, name: &str) -> Result<T, InputFault>
-    ensures { IfOk result (Has (T.decodes_to line.now.mode) name.now (members_view line.now.members)) }
+    ensures decoded { IfOk result (Has (T.decodes_to line.now.mode) name.now (members_view line.now.members)) }
+    ensures refused { IfErr result (Excludes (λ x. Has (T.decodes_to line.now.mode) name.now (members_view line.now.members) x
+        × IsTrue (T.never_refused x))) }
 {
     let value = T::read(&line.required(name)?)?;
     Ok(value)
 }
 
-/// Returns the name of a line's one member. With none, or with several, the line is refused as a whole.
-fn only_name<'v>(reader: &Reader<'v, '_>, line: &Object<'v, '_>) -> Result<&'v str, InputFault>
-    ensures { IfOk result (λ _. HasOneMember (members_view line.now.members)) }
+/// Reads a configuration of our own.
+fn read_own(value: &Reader<'_, '_>) -> Result<Opening, InputFault>
+    ensures fault { IfOk result (λ opening. config_fault opening.config ≡ None) }
+    ensures decoded { IfOk result (λ opening. DecodesToConfig value.now.mode (view value.now.value) opening.config) }
+    ensures ignored { IfOk result (λ opening. opening.ignored ≡ nothing) }
+    ensures refused { IfErr result (Excludes (λ config.
+        DecodesToConfig value.now.mode (view value.now.value) config × IsTrue (config_compares_texts config))) }
 {
-    let members = line.members();
-    let count = members.len();
-    if count > 1 {
-        return Err(reader.refuse(FaultKind::BadValue));
-    }
-    if count < 1 {
-        return Err(reader.refuse(FaultKind::Missing));
-    }
-    match members.keys().next() {
-        Some(name) => Ok(name.as_str()),
-        None => Err(reader.refuse(FaultKind::Missing)),
-    }
-}
-
-/// Reads a configuration of our own, the member `config`.
-fn read_own(line: &Object<'_, '_>) -> Result<Opening, InputFault>
-    ensures { IfOk result (λ opening. IsOpening line.now.mode (members_view line.now.members) opening) }
-{
-    let config = read_config(&line.required("config")?)?;
+    let config = read_config(value)?;
     Ok(Opening {
         config,
         ignored: IgnoredSettings::nothing(),
     })
 }
 
-/// Reads a configuration of Alertmanager, the member `alertmanager`.
-fn read_theirs(line: &Object<'_, '_>) -> Result<Opening, InputFault>
-    ensures { IfOk result (λ opening. IsOpening line.now.mode (members_view line.now.members) opening) }
+/// Reads a configuration of Alertmanager.
+fn read_theirs(value: &Reader<'_, '_>) -> Result<Opening, InputFault>
+    ensures { IfOk result (λ opening. config_fault opening.config ≡ None) }
 {
-    let reader = line.required("alertmanager")?;
-    match read_alertmanager(&reader, None, Checking::NamesAlone) {
+    match read_alertmanager(value, None, Checking::NamesAlone) {
         Ok(read) => {
             // (no line says on which day times begin)
             if read.timed {
-                return Err(reader.refuse(FaultKind::Unsupported));
+                return Err(value.refuse(FaultKind::Unsupported));
             }
             Ok(Opening {
                 config: read.config,
@@ -277,7 +269,7 @@ fn read_theirs(line: &Object<'_, '_>) -> Result<Opening, InputFault>
             })
         }
         Err(Refusal::One(fault)) => Err(fault),
-        Err(Refusal::All(faults)) => Err(first_of(line.alloc(), &faults)),
+        Err(Refusal::All(faults)) => Err(first_of(value.alloc(), &faults)),
     }
 }
 
@@ -295,17 +287,13 @@ fn first_of(alloc: Global, faults: &Faults) -> InputFault {
     }
 }
 
-impl<'v> FromJson<'v> for Nothing {
-    fn read(reader: &Reader<'v, '_>) -> Result<Nothing, InputFault> {
-        reader.object()?.only(&[])?;
-        Ok(Nothing)
-    }
-}
-
 impl<'v> FromJson<'v> for Timed {
+    ghost use Rattle.std.specs.Prelude.{true};
     ghost use Rattle.am_lines.specs.Request.{DecodesToTimed};
 
-    ghost decodes_to = { λ mode value timed. DecodesToTimed value timed };
+    ghost decodes_to = { λ mode value timed. DecodesToTimed mode value timed };
+
+    ghost never_refused = { λ _. true };
 
     fn read(reader: &Reader<'v, '_>) -> Result<Timed, InputFault> {
         let call = reader.object()?;
@@ -317,9 +305,12 @@ impl<'v> FromJson<'v> for Timed {
 }
 
 impl<'v> FromJson<'v> for Insertion {
+    ghost use Rattle.std.specs.Prelude.{true};
     ghost use Rattle.am_lines.specs.Request.{DecodesToInsertion};
 
     ghost decodes_to = { λ mode value insertion. DecodesToInsertion mode value insertion };
+
+    ghost never_refused = { λ _. true };
 
     fn read(reader: &Reader<'v, '_>) -> Result<Insertion, InputFault> {
         let call = reader.object()?;
@@ -333,19 +324,13 @@ impl<'v> FromJson<'v> for Insertion {
     }
 }
 
-/// Reads several inserts, the member `inserts`. The line is refused only where that is no array.
-fn listed_inserts(line: &Object<'_, '_>) -> Result<Vec<ListedInsert>, InputFault>
-    ensures { IfOk result (λ inserts. Has (IsList (DecodesToListed line.now.mode)) (codes "inserts")
-        (members_view line.now.members) inserts.items) }
-{
-    let inserts = line.required("inserts")?.list::<ListedInsert>()?;
-    Ok(inserts)
-}
-
 impl<'v> FromJson<'v> for ListedInsert {
+    ghost use Rattle.std.specs.Prelude.{true};
     ghost use Rattle.am_lines.specs.Request.{DecodesToListed};
 
     ghost decodes_to = { λ mode value insert. DecodesToListed mode value insert };
+
+    ghost never_refused = { λ _. true };
 
     fn read(reader: &Reader<'v, '_>) -> Result<ListedInsert, InputFault> {
         match Insertion::read(reader) {
@@ -364,6 +349,7 @@ fn make_alert(
 ) -> Result<Alert, InputFault>
     ensures alert { IfOk result (λ alert. alert ≡ alert_of labels starts ends) }
     ensures sound { IfOk result (λ alert. alert_fault alert ≡ None) }
+    ensures refused { IfErr result (λ _. alert_fault (alert_of labels starts ends) ≢ None) }
 {
     match Alert::new(labels, starts, ends) {
         Ok(alert) => Ok(alert),
@@ -381,9 +367,12 @@ fn member_at_fault(fault: AlertFault, starts: u64) -> &'static str {
 }
 
 impl<'v> FromJson<'v> for Silencing {
+    ghost use Rattle.am_alerts.specs.Matcher.{compare_texts};
     ghost use Rattle.am_lines.specs.Request.{DecodesToSilencing};
 
     ghost decodes_to = { λ mode value silencing. DecodesToSilencing mode value silencing };
+
+    ghost never_refused = { λ silencing. compare_texts silencing.silence.matchers };
 
     fn read(reader: &Reader<'v, '_>) -> Result<Silencing, InputFault> {
         let call = reader.object()?;
@@ -400,15 +389,14 @@ impl<'v> FromJson<'v> for Silencing {
 
 /// Reads the matchers of a silence. They are counted before the first is read: each can want much memory.
 fn matchers_at(call: &Object<'_, '_>) -> Result<Vec<Matcher>, InputFault>
-    ensures { IfOk result (λ matchers. Has (IsList (DecodesToMatcher call.now.mode)) (codes "matchers")
+    ensures decoded { IfOk result (λ matchers. Has (IsList (DecodesToMatcher call.now.mode)) (codes "matchers")
         (members_view call.now.members) matchers.items) }
+    ensures refused { IfErr result (Excludes (λ (matchers : List MatcherParts).
+        Has (IsList (DecodesToMatcher call.now.mode)) (codes "matchers") (members_view call.now.members) matchers
+        × IsTrue (compare_texts matchers) × (length matchers ≤ MAX_MATCHERS))) }
 {
     let listed = call.required("matchers")?;
-    let count = listed.array()?.len();
-    if count > MAX_MATCHERS {
-        return Err(listed.refuse(FaultKind::BadValue));
-    }
-    let matchers = listed.list::<Matcher>()?;
+    let matchers = listed.list_up_to::<Matcher>(MAX_MATCHERS)?;
     Ok(matchers)
 }
 
@@ -420,7 +408,9 @@ fn make_silence(
     starts: u64,
     ends: u64,
 ) -> Result<Silence, InputFault>
-    ensures { IfOk result (λ silence. silence ≡ silence_of id matchers.items starts ends) }
+    ensures silence { IfOk result (λ silence. silence ≡ silence_of id matchers.items starts ends) }
+    ensures sound { IfOk result (λ silence. silence_fault silence ≡ None) }
+    ensures refused { IfErr result (λ _. silence_fault (silence_of id matchers.items starts ends) ≢ None) }
 {
     match Silence::new(id, matchers, starts, ends) {
         Ok(silence) => Ok(silence),
@@ -442,9 +432,12 @@ fn refuse_member(reader: &Reader<'_, '_>, name: &str) -> InputFault {
 }
 
 impl<'v> FromJson<'v> for Reporting {
+    ghost use Rattle.std.specs.Prelude.{true};
     ghost use Rattle.am_lines.specs.Request.{DecodesToReporting};
 
-    ghost decodes_to = { λ mode value reporting. DecodesToReporting value reporting };
+    ghost decodes_to = { λ mode value reporting. DecodesToReporting mode value reporting };
+
+    ghost never_refused = { λ _. true };
 
     fn read(reader: &Reader<'v, '_>) -> Result<Reporting, InputFault> {
         let call = reader.object()?;
@@ -458,9 +451,12 @@ impl<'v> FromJson<'v> for Reporting {
 }
 
 impl<'v> FromJson<'v> for Noting {
+    ghost use Rattle.std.specs.Prelude.{true};
     ghost use Rattle.am_lines.specs.Request.{DecodesToNoting};
 
-    ghost decodes_to = { λ mode value noting. DecodesToNoting value noting };
+    ghost decodes_to = { λ mode value noting. DecodesToNoting mode value noting };
+
+    ghost never_refused = { λ _. true };
 
     fn read(reader: &Reader<'v, '_>) -> Result<Noting, InputFault> {
         let call = reader.object()?;
@@ -474,9 +470,12 @@ impl<'v> FromJson<'v> for Noting {
 }
 
 impl<'v> FromJson<'v> for Finishing {
+    ghost use Rattle.std.specs.Prelude.{true};
     ghost use Rattle.am_lines.specs.Request.{DecodesToFinishing};
 
-    ghost decodes_to = { λ mode value finishing. DecodesToFinishing value finishing };
+    ghost decodes_to = { λ mode value finishing. DecodesToFinishing mode value finishing };
+
+    ghost never_refused = { λ _. true };
 
     fn read(reader: &Reader<'v, '_>) -> Result<Finishing, InputFault> {
         let call = reader.object()?;
@@ -489,9 +488,12 @@ impl<'v> FromJson<'v> for Finishing {
 }
 
 impl<'v> FromJson<'v> for Loading {
+    ghost use Rattle.std.specs.Prelude.{true};
     ghost use Rattle.am_lines.specs.Request.{DecodesToLoading};
 
     ghost decodes_to = { λ mode value loading. DecodesToLoading mode value loading };
+
+    ghost never_refused = { λ _. true };
 
     fn read(reader: &Reader<'v, '_>) -> Result<Loading, InputFault> {
         let call = reader.object()?;
@@ -503,9 +505,12 @@ impl<'v> FromJson<'v> for Loading {
 }
 
 impl<'v> FromJson<'v> for NamedRow {
+    ghost use Rattle.std.specs.Prelude.{true};
     ghost use Rattle.am_lines.specs.Request.{DecodesToRow};
 
     ghost decodes_to = { λ mode value row. DecodesToRow mode value row };
+
+    ghost never_refused = { λ _. true };
 
     fn read(reader: &Reader<'v, '_>) -> Result<NamedRow, InputFault> {
         let row = reader.object()?;
@@ -542,7 +547,8 @@ impl<'v> FromJson<'v> for NamedRow {
 
 /// Reads the name of a row's receiver, if the row has it.
 fn receiver_at(row: &Object<'_, '_>) -> Result<Option<Text>, InputFault>
-    ensures { IfOk result (HasIf IsText (codes "receiver") (members_view row.now.members)) }
+    ensures decoded { IfOk result (HasIf IsText (codes "receiver") (members_view row.now.members)) }
+    ensures refused { IfErr result (Excludes (λ (name : Option (List ℕ)). HasIf IsText (codes "receiver") (members_view row.now.members) name)) }
 {
     match row.optional("receiver") {
         None => Ok(None),
@@ -551,9 +557,12 @@ fn receiver_at(row: &Object<'_, '_>) -> Result<Option<Text>, InputFault>
 }
 
 impl<'v> FromJson<'v> for NamedGroup {
+    ghost use Rattle.std.specs.Prelude.{true};
     ghost use Rattle.am_lines.specs.Request.{DecodesToGroup};
 
     ghost decodes_to = { λ mode value group. DecodesToGroup mode value group };
+
+    ghost never_refused = { λ _. true };
 
     fn read(reader: &Reader<'v, '_>) -> Result<NamedGroup, InputFault> {
         let group = reader.object()?;
@@ -566,7 +575,9 @@ impl<'v> FromJson<'v> for NamedGroup {
 
 /// Reads the labels of a group, the member `labels`.
 fn group_labels_at(group: &Object<'_, '_>) -> Result<Option<Labels>, InputFault>
-    ensures { IfOk result (Has (IsGroupLabels group.now.mode) (codes "labels") (members_view group.now.members)) }
+    ensures decoded { IfOk result (Has (IsGroupLabels group.now.mode) (codes "labels") (members_view group.now.members)) }
+    ensures refused { IfErr result (Excludes (λ (labels : Option (List Label)).
+        Has (IsGroupLabels group.now.mode) (codes "labels") (members_view group.now.members) labels)) }
 {
     let labels = read_group_labels(&group.required("labels")?)?;
     Ok(labels)
@@ -574,7 +585,9 @@ fn group_labels_at(group: &Object<'_, '_>) -> Result<Option<Labels>, InputFault>
 
 /// Reads a label set, or an object without members for none.
 fn read_group_labels(reader: &Reader<'_, '_>) -> Result<Option<Labels>, InputFault>
-    ensures { IfOk result (IsGroupLabels reader.now.mode (view reader.now.value)) }
+    ensures decoded { IfOk result (IsGroupLabels reader.now.mode (view reader.now.value)) }
+    ensures refused { IfErr result (Excludes (λ (labels : Option (List Label)).
+        IsGroupLabels reader.now.mode (view reader.now.value) labels)) }
 {
     if has_no_members(reader) {
         return Ok(None);
@@ -584,7 +597,8 @@ fn read_group_labels(reader: &Reader<'_, '_>) -> Result<Option<Labels>, InputFau
 
 /// Whether a value is an object without members.
 fn has_no_members(reader: &Reader<'_, '_>) -> bool
-    ensures { IsTrue result → as_object (view reader.now.value) ≡ Some no_members }
+    ensures none { IsTrue result → as_object (view reader.now.value) ≡ Some no_members }
+    ensures some { as_object (view reader.now.value) ≡ Some no_members → IsTrue result }
 {
     let Ok(object) = reader.object() else {
         return false;
@@ -599,8 +613,10 @@ fn has_no_members(reader: &Reader<'_, '_>) -> bool
 
 /// Reads label sets.
 fn label_sets(row: &Object<'_, '_>, name: &str) -> Result<Vec<Labels>, InputFault>
-    ensures { IfOk result (λ sets. Has (IsList (DecodesToLabels row.now.mode)) name.now
+    ensures decoded { IfOk result (λ sets. Has (IsList (DecodesToLabels row.now.mode)) name.now
         (members_view row.now.members) sets.items) }
+    ensures refused { IfErr result (Excludes (λ (sets : List (List Label)).
+        Has (IsList (DecodesToLabels row.now.mode)) name.now (members_view row.now.members) sets)) }
 {
     let sets = row.required(name)?.list::<Labels>()?;
     Ok(sets)
@@ -608,27 +624,31 @@ fn label_sets(row: &Object<'_, '_>, name: &str) -> Result<Vec<Labels>, InputFaul
 
 /// Reads a number that must be there.
 fn number_at(call: &Object<'_, '_>, name: &str) -> Result<u64, InputFault>
-    ensures { IfOk result (Has IsNumber name.now (members_view call.now.members)) }
+    ensures decoded { IfOk result (Has IsNumber name.now (members_view call.now.members)) }
+    ensures refused { IfErr result (Excludes (Has IsNumber name.now (members_view call.now.members))) }
 {
     call.required(name)?.number()
 }
 
 /// Reads the position of an integration in its receiver.
 fn position_at(call: &Object<'_, '_>) -> Result<u32, InputFault>
-    ensures { IfOk result (Has IsNumber (codes "integration") (members_view call.now.members)) }
+    ensures decoded { IfOk result (Has IsPosition (codes "integration") (members_view call.now.members)) }
+    ensures refused { IfErr result (Excludes (Has IsPosition (codes "integration") (members_view call.now.members))) }
 {
     Ok(call.required("integration")?.number_up_to(MAX_POSITION)? as u32)
 }
 
 /// Reads how a sending ended, the member `outcome`.
 fn outcome_at(call: &Object<'_, '_>) -> Result<Outcome, InputFault>
-    ensures { IfOk result (Has IsOutcome (codes "outcome") (members_view call.now.members)) }
+    ensures decoded { IfOk result (Has IsOutcome (codes "outcome") (members_view call.now.members)) }
+    ensures refused { IfErr result (Excludes (Has IsOutcome (codes "outcome") (members_view call.now.members))) }
 {
     read_outcome(&call.required("outcome")?)
 }
 
 fn read_outcome(reader: &Reader<'_, '_>) -> Result<Outcome, InputFault>
-    ensures { IfOk result (IsOutcome (view reader.now.value)) }
+    ensures decoded { IfOk result (IsOutcome (view reader.now.value)) }
+    ensures refused { IfErr result (Excludes (IsOutcome (view reader.now.value))) }
 {
     match reader.text()? {
         "delivered" => Ok(Outcome::Delivered),

@@ -1,8 +1,9 @@
 //! Times in lines: milliseconds, or the text of a duration. `request` calls it.
-ghost use Rattle.std.specs.Prelude.{◌≡◌, None, IfOk, codes};
+ghost use Rattle.std.specs.Prelude.{◌≡◌, ℕ, None, Option, IfErr, IfOk, codes};
 ghost use Rattle.std.specs.Result.{result_ok};
 ghost use Rattle.serde_json.specs.View.{members_view, view};
 ghost use Rattle.am_cli.specs.Decoding.{Has, HasOr};
+ghost use Rattle.am_cli.specs.Read.{Excludes};
 ghost use Rattle.am_lines.specs.Request.{IsEnd, IsNow, IsTime, time_in};
 
 use am_alerts::limits::MAX_TIME;
@@ -23,13 +24,15 @@ fn time(reader: &Reader<'_, '_>) -> Result<u64, InputFault>
 
 /// Reads the time of a call, the member `now`. The greatest time, at which a board's clock would stay, is refused.
 pub(crate) fn now_at(call: &Object<'_, '_>) -> Result<u64, InputFault>
-    ensures { IfOk result (Has IsNow (codes "now") (members_view call.now.members)) }
+    ensures decoded { IfOk result (Has IsNow (codes "now") (members_view call.now.members)) }
+    ensures refused { IfErr result (Excludes (Has IsNow (codes "now") (members_view call.now.members))) }
 {
     now(&call.required("now")?)
 }
 
 fn now(reader: &Reader<'_, '_>) -> Result<u64, InputFault>
-    ensures { IfOk result (IsNow (view reader.now.value)) }
+    ensures decoded { IfOk result (IsNow (view reader.now.value)) }
+    ensures refused { IfErr result (Excludes (IsNow (view reader.now.value))) }
 {
     let now = time(reader)?;
     if now >= MAX_TIME {
@@ -40,14 +43,16 @@ fn now(reader: &Reader<'_, '_>) -> Result<u64, InputFault>
 
 /// Reads a time that must be there.
 pub(crate) fn time_at(object: &Object<'_, '_>, name: &str) -> Result<u64, InputFault>
-    ensures { IfOk result (Has IsTime name.now (members_view object.now.members)) }
+    ensures decoded { IfOk result (Has IsTime name.now (members_view object.now.members)) }
+    ensures refused { IfErr result (Excludes (Has IsTime name.now (members_view object.now.members))) }
 {
     time(&object.required(name)?)
 }
 
 /// Reads a time, or what it is if the member isn't there.
 pub(crate) fn time_or(object: &Object<'_, '_>, name: &str, absent: u64) -> Result<u64, InputFault>
-    ensures { IfOk result (HasOr IsTime absent name.now (members_view object.now.members)) }
+    ensures decoded { IfOk result (HasOr IsTime absent name.now (members_view object.now.members)) }
+    ensures refused { IfErr result (Excludes (HasOr IsTime absent name.now (members_view object.now.members))) }
 {
     match object.optional(name) {
         None => Ok(absent),
@@ -57,7 +62,8 @@ pub(crate) fn time_or(object: &Object<'_, '_>, name: &str, absent: u64) -> Resul
 
 /// Reads when an alert ends, the member `ends`: a time, or `null` for none.
 pub(crate) fn ends(alert: &Object<'_, '_>) -> Result<Option<u64>, InputFault>
-    ensures { IfOk result (HasOr IsEnd None (codes "ends") (members_view alert.now.members)) }
+    ensures decoded { IfOk result (HasOr IsEnd None (codes "ends") (members_view alert.now.members)) }
+    ensures refused { IfErr result (Excludes (λ (end : Option ℕ). HasOr IsEnd None (codes "ends") (members_view alert.now.members) end)) }
 {
     match alert.optional("ends") {
         None => Ok(None),
@@ -66,7 +72,8 @@ pub(crate) fn ends(alert: &Object<'_, '_>) -> Result<Option<u64>, InputFault>
 }
 
 fn end(member: &Reader<'_, '_>) -> Result<Option<u64>, InputFault>
-    ensures { IfOk result (IsEnd (view member.now.value)) }
+    ensures decoded { IfOk result (IsEnd (view member.now.value)) }
+    ensures refused { IfErr result (Excludes (λ (end : Option ℕ). IsEnd (view member.now.value) end)) }
 {
     if member.is_null() {
         return Ok(None);

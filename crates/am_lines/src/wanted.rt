@@ -107,7 +107,7 @@ fn argument_message(pointer: &[u8]) -> &'static str
     ensures { result.now ≡ argument_message pointer.now }
 {
     if begins(pointer, b"/config") {
-        "no board may have this: docs/format.md has what is wanted"
+        "no board may have this: docs/scenarios.md has what is wanted"
     } else if begins(pointer, b"/alertmanager") {
         "no board may have this: am-rehearse check says what is wanted"
     } else if ends(pointer, b"/now") {

@@ -1,10 +1,9 @@
 -- Config: which configurations are valid, and the first fault of one that isn't.
-use Rattle.std.specs.Prelude.{ℕ, ◌≤◌, Bool, not, ◌&&◌, ◌||◌, ◌==◌, nat_lt, nat_le, List, [], length, map, Option}
+use Rattle.std.specs.Prelude.{ℕ, ◌≤◌, Bool, not, ◌&&◌, ◌||◌, ◌==◌, nat_lt, nat_le, List, [], length, Option}
 use Rattle.std.specs.Prelude.{Some, None, slice_get, unwrap_or, if◌then◌else◌}
 use Rattle.std.specs.List.{list_all, list_any}
 use Rattle.std.specs.Option.{option_map, option_or}
-use Rattle.std.specs.Str.{bytes_eq}
-use Rattle.am_alerts.specs.Labels.{is_label_name, has_text_twice}
+use Rattle.am_alerts.specs.Labels.{is_label_name}
 use Rattle.am_alerts.specs.RoutingTree.{routes_in}
 use Rattle.am_alerts.specs.declared.limits.TheConstants.{MAX_DURATION}
 use Rattle.am_model.specs.declared.config.Config.{Config}
@@ -16,6 +15,7 @@ use Rattle.am_model.specs.declared.config.Limits.{Limits}
 use Rattle.am_model.specs.declared.config.Receiver.{Receiver}
 use Rattle.am_model.specs.declared.config.TheConstants.{MAX_RECEIVERS, MAX_INTEGRATIONS, MAX_RULES, MAX_ALERTS, MAX_GROUPS, MAX_SILENCES}
 use Rattle.am_model.specs.declared.config.TheConstants.{MAX_FLUSHES, MAX_HISTORY}
+pub use Rattle.am_model.specs.Receivers.{has_receiver, has_receiver_twice}
 
 -- the limits of a small dispatcher
 abbrev pub default_limits : Limits
@@ -47,17 +47,9 @@ are_allowed limits =
     is_within limits.alerts MAX_ALERTS && is_within limits.groups MAX_GROUPS && is_within limits.silences MAX_SILENCES
     && is_within limits.flushes MAX_FLUSHES && is_within limits.history MAX_HISTORY
 
--- whether there is a receiver of this name
-abbrev pub has_receiver : List Receiver → List ℕ → Bool
-has_receiver receivers name = list_any (λ r. bytes_eq r.name name) receivers
-
 -- whether each route's receiver is there
 abbrev pub has_receivers : Config → Bool
 has_receivers config = list_all (λ r. has_receiver config.receivers r.receiver) (routes_in config.routes)
-
--- whether two receivers have one name
-abbrev pub has_receiver_twice : List Receiver → Bool
-has_receiver_twice receivers = has_text_twice (map (λ r. r.name) receivers)
 
 -- whether a receiver has more integrations than it may
 abbrev pub has_many_integrations : Receiver → Bool

@@ -36,6 +36,8 @@ pub mod Records
 pub mod Rekey
 -- the reply that is due to a call, the state after each record, and which histories are legal
 pub mod Replay
+-- which names the receivers of a configuration have, and where they are
+pub mod Receivers
 -- the key of each route, by which Alertmanager's log knows it again
 pub mod RouteKeys
 -- what a dispatcher of one thread has, as plain lists in the order of arrival

@@ -15,13 +15,13 @@ use Rattle.am_model.specs.declared.notice.TheConstants.{MIN_FLUSH_TIMEOUT, MAX_D
 use Rattle.am_model.specs.Config.{default_limits, greatest_limits}
 use Rattle.am_model.specs.Faults.{board_fault_number}
 
--- law: 64 receivers of 8 integrations, 256 rules; 4,000,000 known alerts, 500,000 groups, 1,024 silences, as many open flushes as groups,
+-- law: 4,096 receivers of 64 integrations, 4,096 rules; 4,000,000 known alerts, 500,000 groups, 1,024 silences, as many open flushes as groups,
 -- 64,000,000 records that are kept, 10^15 that are handed out
 abbrev pub LimitsAre : Type 0
 LimitsAre =
-    (MAX_RECEIVERS ≡ 64)
-    × (MAX_INTEGRATIONS ≡ 8)
-    × (MAX_RULES ≡ 256)
+    (MAX_RECEIVERS ≡ 4_096)
+    × (MAX_INTEGRATIONS ≡ 64)
+    × (MAX_RULES ≡ 4_096)
     × (MAX_ALERTS ≡ 4_000_000)
     × (MAX_GROUPS ≡ 500_000)
     × (MAX_SILENCES ≡ 1_024)

@@ -6,10 +6,12 @@ ghost use Rattle.std.specs.Option.{option_copied};
 ghost use Rattle.std.specs.Str.{bytes_eq};
 ghost use Rattle.am_alerts.specs.Fault.{ok_unless};
 ghost use Rattle.am_alerts.specs.RoutingTree.{last_of};
-ghost use Rattle.am_model.specs.Config.{AreAllowed, IsWithin, is_within, are_allowed, has_receiver, has_receivers, has_receiver_twice};
+ghost use Rattle.am_model.specs.Config.{AreAllowed, IsWithin, is_within, are_allowed, has_receiver, has_receivers};
 ghost use Rattle.am_model.specs.Config.{has_many_integrations, has_good_kinds, default_limits, greatest_limits};
 ghost use Rattle.am_model.specs.Config.{receivers_fault, bounds_fault, config_fault, kind_at};
 ghost use Rattle.am_model.specs.Configured.{route_of, route_muted, integrations_named, integration_text};
+
+mod receivers;
 
 use crate::group::GroupName;
 use am_alerts::labels::is_label_name;
@@ -19,17 +21,18 @@ use am_alerts::sequence::Sequence;
 use am_alerts::spans::muted_until;
 use am_alerts::text::Text;
 use am_mute::inhibit::InhibitRule;
+pub use receivers::Receivers;
 use std::alloc::AllocError;
 use thiserror::Error;
 
 /// The greatest number of receivers of a configuration.
-pub const MAX_RECEIVERS: usize = 64;
+pub const MAX_RECEIVERS: usize = 4_096;
 
 /// The greatest number of integrations of a receiver.
-pub const MAX_INTEGRATIONS: usize = 8;
+pub const MAX_INTEGRATIONS: usize = 64;
 
 /// The greatest number of inhibition rules of a configuration.
-pub const MAX_RULES: usize = 256;
+pub const MAX_RULES: usize = 4_096;
 
 /// The greatest number of known alerts.
 pub const MAX_ALERTS: usize = 4_000_000;
@@ -101,7 +104,7 @@ impl Default for Limits {
 #[derive(Debug, Drop)]
 pub struct Config {
     pub routes: Routes,
-    pub receivers: Sequence<Receiver>,
+    pub receivers: Receivers,
     pub rules: Sequence<InhibitRule>,
     /// How long a log row stays at most, in milliseconds.
     pub retention: u64,
@@ -144,10 +147,7 @@ impl Config {
     pub fn receiver(&self, name: &str) -> Option<&Receiver>
         ensures { option_copied result ≡ find (λ r. bytes_eq r.name name.now) self.now.receivers }
     {
-        self.receivers
-            .as_slice()
-            .iter()
-            .find(|receiver| receiver.name.as_str() == name)
+        self.receivers.named(name)
     }
 
     /// Returns the route of a group, or the root where no route has the group's position.
@@ -234,7 +234,7 @@ impl Config {
         if !self.has_receivers() {
             return Err(ConfigFault::UnknownReceiver);
         }
-        if has_receiver_twice(receivers) {
+        if self.receivers.has_twice() {
             return Err(ConfigFault::ReceiverTwice);
         }
         if receivers.len() > MAX_RECEIVERS {
@@ -271,39 +271,19 @@ impl Config {
         ensures value { result ≡ has_receivers self.now }
         ensures few { last_of self.now.routes ≤ MAX_ROUTES }
     {
-        let receivers = self.receivers.as_slice();
+        let receivers = &self.receivers;
         let children = self.routes.children();
-        has_receiver(receivers, self.routes.root().receiver.as_str())
-            && have_receivers(receivers, children)
+        receivers.has(self.routes.root().receiver.as_str()) && have_receivers(receivers, children)
     }
 }
 
 /// Whether the receiver of each of these routes is there.
-fn have_receivers(receivers: &[Receiver], children: &[Child]) -> bool
+fn have_receivers(receivers: &Receivers, children: &[Child]) -> bool
     ensures { result ≡ list_all (λ c. has_receiver receivers.now c.route.receiver) children.now }
 {
-    children.iter().all(|child| has_receiver(receivers, child.route.receiver.as_str()))
-}
-
-/// Whether there is a receiver of this name.
-fn has_receiver(receivers: &[Receiver], name: &str) -> bool
-    ensures { result ≡ has_receiver receivers.now name.now }
-{
-    receivers
+    children
         .iter()
-        .any(|receiver| receiver.name.as_str() == name)
-}
-
-/// Whether two receivers have one name.
-fn has_receiver_twice(receivers: &[Receiver]) -> bool
-    ensures { result ≡ has_receiver_twice receivers.now }
-{
-    for (i, receiver) in receivers.iter().enumerate() {
-        if has_receiver(&receivers[i + 1..], receiver.name.as_str()) {
-            return true;
-        }
-    }
-    false
+        .all(|child| receivers.has(child.route.receiver.as_str()))
 }
 
 /// Whether a receiver has more integrations than it may.

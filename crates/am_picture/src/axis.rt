@@ -1,17 +1,18 @@
-//! `Axis`: the offset of each time, and the round times along it. The modules that draw call it.
+//! `Axis`: the position of each time, and the round times along it. The modules that draw call it.
 ghost use Rattle.std.specs.Prelude.{◌≤◌, ◌^◌};
 
-use crate::pen::{LEFT, WIDTH, push_offset};
-use crate::scene::Scene;
+use crate::content::push_number;
+use crate::pen::{DAY, Pen, WHOLE, parts_of};
+use crate::story::{Change, Story};
 use crate::ticks::Ticks;
-use am_model::record::Call;
+use am_model::record::{Call, Record};
 use am_terms::clock::TimeFormat;
 use am_terms::event::Event;
-use am_timeline::escape::push_escaped;
-use std::alloc::{AllocError, Global};
+use am_timeline::playback::Playback;
+use std::alloc::AllocError;
 
-/// The milliseconds of a day.
-const DAY: u64 = 86_400_000;
+/// From which position on a time is left of its line, in thousandths.
+const LATE: u64 = 960;
 
 /// The latest end that is shown, in milliseconds: some 34 years.
 const LATEST: u64 = 1_099_511_627_776;
@@ -25,10 +26,10 @@ pub(crate) struct Axis {
 }
 
 impl Axis {
-    /// Returns the axis of a rehearsal, up to the last thing that happens in it.
-    pub(crate) fn of(scene: &Scene) -> Axis {
+    /// Returns the axis of a story, up to the last thing that happens in it.
+    pub(crate) fn of(story: &Story<'_>) -> Axis {
         Axis {
-            end: last_of(scene).max(1_000).min(LATEST),
+            end: last_of(story).max(1_000).min(LATEST),
         }
     }
 
@@ -37,30 +38,37 @@ impl Axis {
         self.end
     }
 
-    /// Returns the offset of a time, in tenths of a pixel. A time after the end has the offset of the end.
-    pub(crate) fn offset(&self, at: u64) -> u64 {
-        LEFT + self.tenths(at)
-    }
-
-    /// Returns how far the offset of a time is from that of the start, in tenths of a pixel, at most `WIDTH`.
-    pub(crate) fn tenths(&self, at: u64) -> u64
-        ensures { result ≤ 9600 }
+    /// Returns the position of a time, in thousandths. A time after the end has the position of the end.
+    pub(crate) fn position(&self, at: u64) -> u64
+        ensures { result ≤ 1000 }
     {
         let end = self.end;
-        if at < end { at * WIDTH / end } else { WIDTH }
+        if at < end { at * WHOLE / end } else { WHOLE }
     }
 }
 
 /// The last time at which something happens.
-fn last_of(scene: &Scene) -> u64 {
+fn last_of(story: &Story<'_>) -> u64 {
     let mut last: u64 = 0;
-    for record in scene.history() {
-        last = time_of(&record.call).max(last);
+    for playback in story.playbacks {
+        last = last_of_dispatcher(playback).max(last);
     }
-    for event in scene.events {
+    last
+}
+
+fn last_of_dispatcher(playback: &Playback<'_>) -> u64 {
+    let mut last = last_record(playback.history());
+    for event in playback.events() {
         last = ended_by(event).max(last);
     }
     last
+}
+
+fn last_record(history: &[Record]) -> u64 {
+    match history.last() {
+        None => 0,
+        Some(record) => time_of(&record.call),
+    }
 }
 
 fn time_of(call: &Call) -> u64 {
@@ -84,155 +92,93 @@ fn ended_by(event: &Event) -> u64 {
     }
 }
 
-/// The times of an axis as its clock shows them.
-#[derive(Clone, Copy)]
-struct Calendar {
-    /// Whether they have dates.
-    is_dated: bool,
-    /// How much of the day is over at the start, in milliseconds; 0 without dates.
-    behind: u64,
-}
-
-/// Adds the axis: its round times, and the grid behind all lanes.
+/// Adds the round times, and a line for each over all that is below, as well as one for each reload and restart.
 pub(crate) fn push_axis<C: TimeFormat>(
-    alloc: Global,
-    axis: &Axis,
-    clock: &C,
+    pen: &Pen<'_, C>,
+    changes: &[Change<'_>],
     out: &mut String,
 ) -> Result<(), AllocError> {
-    let calendar = calendar_of(alloc, clock)?;
-    let ticks = Ticks::new(axis.end(), calendar.behind);
-    push_grid(axis, &ticks, out)?;
-    push_times(alloc, axis, clock, calendar, &ticks, out)
-}
-
-/// Adds a line for each tick, over the whole height.
-fn push_grid(axis: &Axis, ticks: &Ticks, out: &mut String) -> Result<(), AllocError> {
-    out.push_str("<svg xmlns=\"http://www.w3.org/2000/svg\" class=\"grid\" width=\"1290\">")?;
+    let ticks = Ticks::new(pen.axis.end(), pen.calendar.behind);
+    out.push_str("<div class=\"grid\">")?;
     for position in 0..ticks.count() {
         if let Some(at) = ticks.at(position) {
-            push_line(axis.offset(at), out)?;
+            push_line("", pen.axis.position(at), out)?;
         }
     }
-    out.push_str("</svg>\n")
+    for change in changes {
+        push_line(" class=\"c\"", pen.axis.position(change.at), out)?;
+    }
+    out.push_str("</div>\n")?;
+    push_times(pen, &ticks, out)
 }
 
-fn push_line(offset: u64, out: &mut String) -> Result<(), AllocError> {
-    push_offset("<line y2=\"100%\" x1=\"", offset, out)?;
-    push_offset("\" x2=\"", offset, out)?;
-    out.push_str("\"/>")
+/// Adds a line of a class at a position.
+fn push_line(class: &str, position: u64, out: &mut String) -> Result<(), AllocError> {
+    out.push_str("<i")?;
+    out.push_str(class)?;
+    out.push_str(" style=\"--x:")?;
+    push_number(position, out)?;
+    out.push_str("\"></i>")
 }
 
 /// Adds the times of the ticks.
 fn push_times<C: TimeFormat>(
-    alloc: Global,
-    axis: &Axis,
-    clock: &C,
-    calendar: Calendar,
+    pen: &Pen<'_, C>,
     ticks: &Ticks,
     out: &mut String,
 ) -> Result<(), AllocError> {
-    out.push_str(
-        "<svg xmlns=\"http://www.w3.org/2000/svg\" class=\"axis\" width=\"1290\" height=\"34\">",
-    )?;
+    out.push_str("<div class=\"axis\">")?;
     let mut is_first = true;
     for position in 0..ticks.count() {
         if let Some(at) = ticks.at(position) {
-            push_time(alloc, axis, clock, calendar, ticks.step, at, is_first, out)?;
+            push_tick(pen, ticks.step, at, is_first, out)?;
             is_first = false;
         }
     }
-    out.push_str("</svg>\n")
+    out.push_str("</div>\n")
 }
 
 /// Adds the time of a tick, and its day where that is a new one.
-fn push_time<C: TimeFormat>(
-    alloc: Global,
-    axis: &Axis,
-    clock: &C,
-    calendar: Calendar,
+fn push_tick<C: TimeFormat>(
+    pen: &Pen<'_, C>,
     step: u64,
     at: u64,
     is_first: bool,
     out: &mut String,
 ) -> Result<(), AllocError> {
-    let text = time_text(alloc, clock, at)?;
-    let (date, time) = parts_of(text.as_str());
-    let offset = axis.offset(at);
-    push_at(offset, "14", without_seconds(calendar, step, time), out)?;
-    if calendar.is_dated && (is_first || is_new_day(calendar, step, at)) {
-        return push_at(offset, "29", date, out);
-    }
-    if !calendar.is_dated && at % DAY == 0 && at > 0 {
-        return push_days(offset, at / DAY, out);
-    }
-    Ok(())
-}
-
-/// Adds a text that is centered at an offset.
-fn push_at(offset: u64, bottom: &str, text: &str, out: &mut String) -> Result<(), AllocError> {
-    push_offset("<text x=\"", offset, out)?;
-    out.push_str("\" y=\"")?;
-    out.push_str(bottom)?;
+    let position = pen.axis.position(at);
+    out.push_str(if position > LATE {
+        "<span class=\"l\" style=\"--x:"
+    } else {
+        "<span style=\"--x:"
+    })?;
+    push_number(position, out)?;
     out.push_str("\">")?;
-    push_escaped(text, out)?;
-    out.push_str("</text>")
-}
-
-/// Adds a number of days.
-fn push_days(offset: u64, days: u64, out: &mut String) -> Result<(), AllocError> {
-    push_offset("<text y=\"29\" x=\"", offset, out)?;
-    write!(out, "\">{days} d</text>")
+    let mut text = String::new(pen.alloc);
+    pen.push_whole_time(at, &mut text)?;
+    let (date, time) = parts_of(text.as_str());
+    out.push_str(without_seconds(step, time))?;
+    if pen.calendar.is_dated {
+        out.push_str("Z")?;
+        if is_first || is_new_day(pen.calendar.behind, step, at) {
+            out.push_str(" <b>")?;
+            out.push_str(date)?;
+            out.push_str("</b>")?;
+        }
+    }
+    out.push_str("</span>")
 }
 
 /// Whether the tick before this one, a step earlier, is on another day.
-fn is_new_day(calendar: Calendar, step: u64, at: u64) -> bool {
-    let now = calendar.behind.saturating_add(at);
+fn is_new_day(behind: u64, step: u64, at: u64) -> bool {
+    let now = behind.saturating_add(at);
     now / DAY != now.saturating_sub(step) / DAY
 }
 
-/// The time of a date without its seconds, where no tick has any.
-fn without_seconds(calendar: Calendar, step: u64, time: &str) -> &str {
-    if calendar.is_dated && step >= 60_000 {
+/// A time without its seconds, where no tick has any.
+fn without_seconds(step: u64, time: &str) -> &str {
+    if step >= 60_000 {
         return time.strip_suffix(":00").unwrap_or(time);
     }
     time
-}
-
-fn time_text<C: TimeFormat>(alloc: Global, clock: &C, at: u64) -> Result<String, AllocError> {
-    let mut text = String::new(alloc);
-    clock.push_time(at, &mut text)?;
-    Ok(text)
-}
-
-/// The date and the time of day of a text as `2026-11-23T00:00:30Z`. Any other text has no date.
-fn parts_of(text: &str) -> (&str, &str) {
-    match text.split_once('T') {
-        None => ("", text),
-        Some((date, time)) => (date, time.strip_suffix("Z").unwrap_or(time)),
-    }
-}
-
-/// How a clock shows times, by what it shows for the start.
-fn calendar_of<C: TimeFormat>(alloc: Global, clock: &C) -> Result<Calendar, AllocError> {
-    let text = time_text(alloc, clock, 0)?;
-    let (date, time) = parts_of(text.as_str());
-    let is_dated = !date.is_empty();
-    let behind = if is_dated { milliseconds_of(time) } else { 0 };
-    Ok(Calendar { is_dated, behind })
-}
-
-/// How much of its day is over at a time as `08:30:17.250`, in whole seconds, as milliseconds.
-fn milliseconds_of(time: &str) -> u64 {
-    let (whole, _) = time.split_once('.').unwrap_or((time, ""));
-    let (hours, rest) = whole.split_once(':').unwrap_or((whole, ""));
-    let (minutes, seconds) = rest.split_once(':').unwrap_or((rest, ""));
-    number(hours) * 3_600_000 + number(minutes) * 60_000 + number(seconds) * 1_000
-}
-
-/// A number of two digits; 0 for any other text.
-fn number(text: &str) -> u64
-    ensures { result ≤ 99 }
-{
-    text.parse::<u64>().unwrap_or(0).min(99)
 }

@@ -1,72 +1,90 @@
-//! `Lane`: what is drawn of a group. `lanes` gathers it, `page` draws it.
-use crate::span::{Span, end_or_add, is_open};
-use am_alerts::alert::Alert;
-use am_alerts::labels::Labels;
-use am_model::group::GroupName;
-use am_model::preview::MutedAlert;
+//! `Lane`: what a route did with a label set. `gather` fills it, `lane_list` draws it.
 use am_model::reason::Reason;
-use am_terms::shared_preview::SharedPreview;
+use am_retry::Outcome;
 use std::alloc::{AllocError, Global};
 
-/// How many alerts of a group have a row each; those that come later share one.
-pub(crate) const MOST_ROWS: usize = 12;
-
-/// What is drawn of a group.
+/// The groups of one route, receiver and label set, of one dispatcher after another.
 #[derive(Drop)]
 pub(crate) struct Lane {
-    pub(crate) group: GroupName,
-    /// The alerts that came first, `MOST_ROWS` at most.
-    pub(crate) rows: Vec<Row>,
-    pub(crate) others: Others,
-    /// In the order of their times.
-    pub(crate) flushes: Vec<Flush>,
-    /// The notices whose sending ended, in the order of these ends.
-    pub(crate) marks: Vec<Mark>,
+    pub(crate) fold: usize,
+    pub(crate) route: String,
+    pub(crate) receiver: String,
+    /// The kind and the position of each integration.
+    pub(crate) integrations: Vec<String>,
+    /// Whether the filter wants its receiver and its route.
+    pub(crate) is_named: bool,
+    /// Whether an alert came into it that the filter's matchers match.
+    pub(crate) is_matched: bool,
+    pub(crate) flushes: Flushes,
+    /// What came of its flushes, in the order of the events.
+    pub(crate) items: Vec<Item>,
+    /// For each integration the item of the flushes that send it nothing, if the last one did so.
+    pub(crate) quiet: Vec<Option<usize>>,
+    /// The alerts that the last flush left out.
+    pub(crate) muted: Vec<OpenMute>,
+    pub(crate) last: Option<BeginRef>,
 }
 
-/// An alert of a group, with a row of its own.
-#[derive(Drop)]
-pub(crate) struct Row {
-    pub(crate) labels: Labels,
-    /// When it fires.
-    pub(crate) spans: Vec<Span>,
-    /// From each flush that left it out as muted to the next one that didn't.
-    pub(crate) muted: Vec<Span>,
-}
-
-/// The alerts of a group that have no row of their own.
-#[derive(Drop)]
-pub(crate) struct Others {
-    pub(crate) count: usize,
-    /// When one of them starts to fire.
-    pub(crate) starts: Vec<u64>,
-    /// When one of them is resolved.
-    pub(crate) ends: Vec<u64>,
-}
-
-/// A flush.
+/// How many flushes there were, and when.
 #[derive(Clone, Copy)]
-pub(crate) struct Flush {
-    pub(crate) at: u64,
-    /// The index of its event.
-    pub(crate) event: usize,
+pub(crate) struct Flushes {
+    pub(crate) count: u64,
+    pub(crate) first: u64,
+    pub(crate) last: u64,
+}
+
+/// A begin: the position of its dispatcher, and its own among the begins.
+#[derive(Clone, Copy)]
+pub(crate) struct BeginRef {
+    pub(crate) dispatcher: usize,
+    pub(crate) begin: usize,
+}
+
+/// An alert that is left out, and the span of the fold that has begun for it.
+#[derive(Clone, Copy)]
+pub(crate) struct OpenMute {
+    pub(crate) member: usize,
+    pub(crate) mute: usize,
+}
+
+/// What came of flushes for an integration.
+#[derive(Clone, Copy)]
+pub(crate) enum Item {
+    Sent(SentItem),
+    Quiet(QuietItem),
 }
 
 /// A notice whose sending ended.
 #[derive(Clone, Copy)]
-pub(crate) struct Mark {
-    pub(crate) kind: Kind,
+pub(crate) struct SentItem {
+    pub(crate) begin: BeginRef,
     /// The position of its integration.
     pub(crate) integration: u32,
+    pub(crate) outcome: Outcome,
+    pub(crate) attempts: u64,
     /// When its flush was begun.
     pub(crate) since: u64,
     /// When its sending ended.
     pub(crate) at: u64,
-    /// The index of its event.
-    pub(crate) event: usize,
 }
 
-/// What a mark shows.
+/// Flushes one after another that send nothing for one cause.
+#[derive(Clone, Copy)]
+pub(crate) struct QuietItem {
+    /// The position of its integration.
+    pub(crate) integration: usize,
+    pub(crate) cause: QuietCause,
+    pub(crate) flushes: Flushes,
+}
+
+/// Why a flush sends an integration nothing, where its entry of the log isn't the cause.
+#[derive(Clone, Copy, PartialEq, Eq)]
+pub(crate) enum QuietCause {
+    NothingFiring,
+    RouteMuted { until: u64 },
+}
+
+/// What the mark of a notice shows.
 #[derive(Clone, Copy, PartialEq, Eq)]
 pub(crate) enum Kind {
     /// Delivered: the first notice.
@@ -98,126 +116,147 @@ impl Kind {
             | Reason::RouteMuted { .. } => Kind::Repeat,
         }
     }
+
+    /// Returns the class of its mark.
+    pub(crate) fn class(self) -> &'static str {
+        match self {
+            Kind::First => "f",
+            Kind::New => "n",
+            Kind::AllResolved => "r",
+            Kind::SomeResolved => "s",
+            Kind::Repeat => "p",
+            Kind::Failed => "x",
+        }
+    }
+}
+
+impl QuietCause {
+    /// Returns the cause of a reason, if it is one.
+    pub(crate) fn of(reason: &Reason) -> Option<QuietCause> {
+        match reason {
+            Reason::NothingFiring => Some(QuietCause::NothingFiring),
+            Reason::RouteMuted { until } => Some(QuietCause::RouteMuted { until: *until }),
+            Reason::FirstNotice
+            | Reason::NewAlert
+            | Reason::AllResolved
+            | Reason::NewlyResolved
+            | Reason::Repeat
+            | Reason::NothingLeft
+            | Reason::NotYet { .. } => None,
+        }
+    }
+}
+
+impl Flushes {
+    /// Returns no flush.
+    pub(crate) fn none() -> Flushes {
+        Flushes {
+            count: 0,
+            first: 0,
+            last: 0,
+        }
+    }
+
+    /// Returns these and one more.
+    pub(crate) fn with(self, at: u64) -> Flushes {
+        Flushes {
+            count: self.count.saturating_add(1),
+            first: if self.count == 0 { at } else { self.first },
+            last: at,
+        }
+    }
+}
+
+impl SentItem {
+    /// Returns whether it was delivered.
+    pub(crate) fn is_delivered(&self) -> bool {
+        self.outcome == Outcome::Delivered
+    }
 }
 
 impl Lane {
-    /// Returns the lane of a group of which nothing is known yet.
-    pub(crate) fn new(alloc: Global, group: GroupName) -> Lane {
-        Lane {
-            group,
-            rows: Vec::new(alloc),
-            others: Others {
-                count: 0,
-                starts: Vec::new(alloc),
-                ends: Vec::new(alloc),
-            },
-            flushes: Vec::new(alloc),
-            marks: Vec::new(alloc),
-        }
+    /// Returns whether it is drawn.
+    pub(crate) fn is_drawn(&self) -> bool {
+        self.is_named && self.is_matched
     }
 
-    /// Adds an alert, and returns its row, or none if it has none of its own.
-    pub(crate) fn add_alert(
-        &mut self,
-        alloc: Global,
-        labels: &Labels,
-    ) -> Result<Option<usize>, AllocError> {
-        let index = self.rows.len();
-        if index >= MOST_ROWS {
-            self.others.count = self.others.count.saturating_add(1);
-            return Ok(None);
-        }
-        self.rows.push(Row::new(alloc, labels.copy(alloc)?))?;
-        Ok(Some(index))
-    }
-
-    /// Adds that an alert fires, or when it was resolved, to its row.
-    pub(crate) fn add_span(&mut self, row: Option<usize>, alert: &Alert) -> Result<(), AllocError> {
-        let Some(row) = row else {
-            return self.others.add(alert);
-        };
-        match self.rows.get_mut(row) {
-            None => Ok(()),
-            Some(row) => row.add(alert),
-        }
-    }
-
-    /// Adds a flush, with the alerts that it left out.
-    pub(crate) fn add_flush(
-        &mut self,
-        preview: &SharedPreview,
-        event: usize,
-    ) -> Result<(), AllocError> {
-        let at = preview.time();
-        self.flushes.push(Flush { at, event })?;
-        let is_route_muted = is_route_muted(preview.reasons());
-        for row in self.rows.iter_mut() {
-            let is_muted = is_route_muted || has(preview.muted(), &row.labels);
-            row.flush(is_muted, at, event)?;
-        }
-        Ok(())
+    /// Notes whether the filter's matchers match an alert of it.
+    pub(crate) fn match_if(&mut self, is_matched: bool) {
+        self.is_matched = self.is_matched || is_matched;
     }
 
     /// Adds a notice whose sending ended.
-    pub(crate) fn add_mark(&mut self, mark: Mark) -> Result<(), AllocError> {
-        self.marks.push(mark)?;
+    pub(crate) fn add_sent(&mut self, sent: SentItem) -> Result<(), AllocError> {
+        self.items.push(Item::Sent(sent))?;
         Ok(())
     }
-}
 
-impl Row {
-    fn new(alloc: Global, labels: Labels) -> Row {
-        Row {
-            labels,
-            spans: Vec::new(alloc),
-            muted: Vec::new(alloc),
+    /// Adds a flush, with its reasons.
+    pub(crate) fn add_flush(&mut self, at: u64, reasons: &[Reason]) -> Result<(), AllocError> {
+        self.flushes = self.flushes.with(at);
+        for (integration, reason) in reasons.iter().enumerate() {
+            self.add_reason(at, integration, reason)?;
         }
+        Ok(())
     }
 
-    fn add(&mut self, alert: &Alert) -> Result<(), AllocError> {
-        let span = Span {
-            from: alert.starts(),
-            to: alert.ends(),
-            event: 0,
+    /// Adds why a flush sends an integration nothing, if its entry isn't why.
+    fn add_reason(
+        &mut self,
+        at: u64,
+        integration: usize,
+        reason: &Reason,
+    ) -> Result<(), AllocError> {
+        let last = self.quiet.get(integration).copied().unwrap_or(None);
+        let now = match QuietCause::of(reason) {
+            None => None,
+            Some(cause) => Some(self.add_quiet(at, integration, cause, last)?),
         };
-        end_or_add(&mut self.spans, span)
-    }
-
-    /// Adds a flush, and whether it left out the alert.
-    fn flush(&mut self, is_muted: bool, at: u64, event: usize) -> Result<(), AllocError> {
-        if is_muted == is_open(self.muted.as_slice()) {
-            return Ok(());
-        }
-        let to = if is_muted { None } else { Some(at) };
-        end_or_add(
-            &mut self.muted,
-            Span {
-                from: at,
-                to,
-                event,
-            },
-        )
-    }
-}
-
-/// Whether a flush finds its route muted: it leaves out all alerts.
-fn is_route_muted(reasons: &[Reason]) -> bool {
-    reasons
-        .iter()
-        .any(|reason| matches!(reason, Reason::RouteMuted { .. }))
-}
-
-/// Whether one of these alerts has this label set.
-fn has(muted: &[MutedAlert], labels: &Labels) -> bool {
-    muted.iter().any(|alert| alert.labels == *labels)
-}
-
-impl Others {
-    fn add(&mut self, alert: &Alert) -> Result<(), AllocError> {
-        match alert.ends() {
-            None => self.starts.push(alert.starts())?,
-            Some(end) => self.ends.push(end)?,
+        if let Some(quiet) = self.quiet.get_mut(integration) {
+            *quiet = now;
         }
         Ok(())
     }
+
+    /// Adds a flush to the last item of an integration, or an item for it. Returns the item's position.
+    fn add_quiet(
+        &mut self,
+        at: u64,
+        integration: usize,
+        cause: QuietCause,
+        last: Option<usize>,
+    ) -> Result<usize, AllocError> {
+        if let Some(position) = last {
+            if self.extend(position, at, cause) {
+                return Ok(position);
+            }
+        }
+        let position = self.items.len();
+        self.items.push(Item::Quiet(QuietItem {
+            integration,
+            cause,
+            flushes: Flushes::none().with(at),
+        }))?;
+        Ok(position)
+    }
+
+    /// Adds a flush to an item, if it has this cause. Returns whether it has.
+    fn extend(&mut self, position: usize, at: u64, cause: QuietCause) -> bool {
+        match self.items.get_mut(position) {
+            Some(Item::Quiet(quiet)) if quiet.cause == cause => {
+                quiet.flushes = quiet.flushes.with(at);
+                true
+            }
+            _ => false,
+        }
+    }
+}
+
+/// Returns no item for each of so many integrations.
+pub(crate) fn nothing_quiet(alloc: Global, count: usize) -> Result<Vec<Option<usize>>, AllocError> {
+    let mut quiet = Vec::new(alloc);
+    for _integration in 0..count {
+        quiet.push(None)?;
+    }
+    Ok(quiet)
 }

@@ -1,54 +1,37 @@
-//! The legend of a page. `page` calls it.
+//! The legend of a page, and the fields by which its script filters. `page` calls it.
 use crate::lane::Kind;
-use crate::marks::push_shape;
 use std::alloc::AllocError;
 
-/// Adds the legend: what each mark, tick and bar means.
+/// The fields that filter the groups. A page without its script doesn't show them.
+const FILTERS: &str = "<form class=\"js\" id=\"filters\">
+<input id=\"search\" type=\"search\" placeholder=\"label or text\" aria-label=\"search\"/>
+<select id=\"receiver\" aria-label=\"receiver\"><option value=\"\">every receiver</option></select>
+<select id=\"route\" aria-label=\"route\"><option value=\"\">every route</option></select>
+<select id=\"state\" aria-label=\"state\"><option value=\"\">every state</option><option value=\"em\">with a remark</option><option value=\"em.x\">with failures</option><option value=\"li.u\">not notified</option><option value=\"em.m\">muted</option></select>
+<label id=\"zone\"><input type=\"checkbox\" id=\"local\"/> local time</label>
+<output id=\"found\"></output></form>
+";
+
+/// Adds the fields that filter, and what each mark and bar means.
 pub(crate) fn push_legend(out: &mut String) -> Result<(), AllocError> {
+    out.push_str(FILTERS)?;
     out.push_str("<p class=\"legend\">")?;
-    push_mark(Kind::First, "first", "first notification", out)?;
-    push_mark(Kind::New, "new", "new alert", out)?;
-    push_mark(Kind::AllResolved, "resolved", "all resolved", out)?;
-    push_mark(Kind::SomeResolved, "resolved some", "some resolved", out)?;
-    push_mark(Kind::Repeat, "repeat", "repeat", out)?;
-    push_mark(Kind::Failed, "failed", "failed", out)?;
-    push_drawn(SENDING, "attempts", out)?;
-    push_drawn(FIRES, "alert fires", out)?;
-    push_drawn(MUTED, "flushed while muted", out)?;
-    push_drawn(FLUSH, "flush", out)?;
-    out.push_str("</p>\n")
+    push_mark(Kind::First, "first notification", out)?;
+    push_mark(Kind::New, "new alert", out)?;
+    push_mark(Kind::AllResolved, "all resolved", out)?;
+    push_mark(Kind::SomeResolved, "some resolved", out)?;
+    push_mark(Kind::Repeat, "repeat", out)?;
+    push_mark(Kind::Failed, "failed", out)?;
+    out.push_str(
+        "<span class=\"q\">nothing sent</span> <span><b></b>alert fires</span> <span><u></u>muted</span> Open a row to read it.</p>\n",
+    )
 }
-
-/// The line of a sending.
-const SENDING: &str = "<path class=\"s\" d=\"M0 10H24\"/>";
-
-/// The bar of an alert.
-const FIRES: &str = "<rect class=\"a\" y=\"4\" width=\"24\" height=\"11\"/>";
-
-/// The bar of a muted alert.
-const MUTED: &str =
-    "<rect class=\"a\" y=\"4\" width=\"24\" height=\"11\"/><rect class=\"m\" y=\"4\" width=\"24\" height=\"11\"/>";
-
-/// The tick of a flush.
-const FLUSH: &str = "<rect class=\"f\" x=\"12\" y=\"5\" width=\"1\" height=\"9\"/>";
 
 /// Adds a mark with its meaning.
-fn push_mark(kind: Kind, class: &str, meaning: &str, out: &mut String) -> Result<(), AllocError> {
-    out.push_str("<span><svg xmlns=\"http://www.w3.org/2000/svg\" width=\"18\" height=\"20\">")?;
-    push_shape(kind, class, 90, 10, out)?;
-    out.push_str("</path></svg> ")?;
-    push_meaning(meaning, out)
-}
-
-/// Adds a line, a bar or a tick, with its meaning.
-fn push_drawn(drawn: &str, meaning: &str, out: &mut String) -> Result<(), AllocError> {
-    out.push_str("<span><svg xmlns=\"http://www.w3.org/2000/svg\" width=\"26\" height=\"20\">")?;
-    out.push_str(drawn)?;
-    out.push_str("</svg> ")?;
-    push_meaning(meaning, out)
-}
-
-fn push_meaning(meaning: &str, out: &mut String) -> Result<(), AllocError> {
+fn push_mark(kind: Kind, meaning: &str, out: &mut String) -> Result<(), AllocError> {
+    out.push_str("<span class=\"")?;
+    out.push_str(kind.class())?;
+    out.push_str("\">")?;
     out.push_str(meaning)?;
-    out.push_str("</span>\n")
+    out.push_str("</span> ")
 }

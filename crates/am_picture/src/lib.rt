@@ -1,26 +1,38 @@
-//! A rehearsal that ran, drawn as one page of HTML. `am_rehearse` prints it.
+//! A rehearsal that ran, as one page of HTML. `am_rehearse` prints it.
 //!
-//! `page` gathers what is drawn (`lanes`), and then writes the page from top to bottom. Time runs
-//! from left to right. Each group has a lane: its alerts as bars (`bars`), its flushes as ticks
-//! (`flushes`), and a row of notices for each integration (`marks`). Every text that isn't the
-//! page's own goes through `escape` of `am_timeline`, and texts on events are lines of the timeline. What is drawn
-//! of a group is bounded, except for its notices: each has a mark of its own.
+//! `page` gathers what is drawn (`gather`), and then writes the page from top to bottom. Time runs
+//! from left to right, in thousandths of the page's own width. A `Fold` is a label set by which
+//! routes group. It has its alerts, and a `Lane` for each route that has such a group. Each notice
+//! and each label set of a fold is on the page once: as a mark while the fold is closed, and as a
+//! line to read once it is open.
 //!
-//! Times are in milliseconds from the start, offsets on the page in tenths of a pixel.
+//! Times are in milliseconds from the start.
 #![tactic(auto)]
 
+mod alerts;
 mod axis;
-mod bars;
-mod flushes;
+mod bands;
+mod content;
+mod counts;
+mod fold;
+mod fold_list;
+mod gather;
 mod heading;
 mod lane;
-mod lanes;
+mod lane_list;
 mod legend;
-mod marks;
-mod names;
+mod mutes;
+mod new_lane;
+mod notices;
+mod numbers;
+mod order;
+mod overview;
 pub mod page;
+mod parts;
 mod pen;
-pub mod scene;
+mod script;
 mod span;
+pub mod story;
 mod style;
 mod ticks;
+mod verdicts;

@@ -1,64 +1,140 @@
-//! Numbers and shapes, written as SVG. The modules that draw call it.
-use std::alloc::AllocError;
+//! `Pen`: what times look like on a page, as text and as positions. The modules that draw have one.
+ghost use Rattle.std.specs.Prelude.{◌≤◌};
 
-/// How many offsets there are from the left edge to time 0, in tenths of a pixel.
-pub(crate) const LEFT: u64 = 2_900;
+use crate::axis::Axis;
+use crate::content::push_with;
+use am_terms::clock::TimeFormat;
+use std::alloc::{AllocError, Global};
 
-/// How many offsets there are from time 0 to the end, in tenths of a pixel.
-pub(crate) const WIDTH: u64 = 9_600;
+/// How many thousandths the whole time has.
+pub(crate) const WHOLE: u64 = 1_000;
 
-/// Adds a number.
-pub(crate) fn push_number(number: u64, out: &mut String) -> Result<(), AllocError> {
-    write!(out, "{number}")
+/// The milliseconds of a day.
+pub(crate) const DAY: u64 = 86_400_000;
+
+/// What times look like on a page.
+#[derive(Drop)]
+pub(crate) struct Pen<'c, C: TimeFormat> {
+    pub(crate) alloc: Global,
+    clock: &'c C,
+    pub(crate) axis: Axis,
+    pub(crate) calendar: Calendar,
 }
 
-/// Adds a number of tenths, as `12.5` or `12`.
-pub(crate) fn push_tenths(tenths: u64, out: &mut String) -> Result<(), AllocError> {
-    push_number(tenths / 10, out)?;
-    if tenths % 10 == 0 {
-        return Ok(());
+/// The times of a story as its clock shows them.
+#[derive(Clone, Copy)]
+pub(crate) struct Calendar {
+    /// Whether they have dates.
+    pub(crate) is_dated: bool,
+    /// How much of the day is over at the start, in milliseconds; 0 without dates.
+    pub(crate) behind: u64,
+}
+
+impl<'c, C: TimeFormat> Pen<'c, C> {
+    /// Returns the pen of a clock and an axis.
+    pub(crate) fn new(alloc: Global, clock: &'c C, axis: Axis) -> Result<Pen<'c, C>, AllocError> {
+        let calendar = calendar_of(alloc, clock)?;
+        Ok(Pen {
+            alloc,
+            clock,
+            axis,
+            calendar,
+        })
     }
-    out.push_str(".")?;
-    push_number(tenths % 10, out)
+
+    /// Adds a time: as it is counted, or its time of day, with the date where the story goes on for more than a day.
+    pub(crate) fn push_time(&self, at: u64, out: &mut String) -> Result<(), AllocError> {
+        let text = time_text(self.alloc, self.clock, at)?;
+        let (date, time) = parts_of(text.as_str());
+        self.push_parts(date, time, out)
+    }
+
+    /// Adds a time without its seconds, if there are none.
+    pub(crate) fn push_brief(&self, at: u64, out: &mut String) -> Result<(), AllocError> {
+        let text = time_text(self.alloc, self.clock, at)?;
+        let (date, time) = parts_of(text.as_str());
+        self.push_parts(date, time.strip_suffix(":00").unwrap_or(time), out)
+    }
+
+    fn push_parts(&self, date: &str, time: &str, out: &mut String) -> Result<(), AllocError> {
+        if !self.calendar.is_dated {
+            return out.push_str(time);
+        }
+        if !self.is_in_a_day() {
+            let (_, day) = date.split_once('-').unwrap_or(("", date));
+            out.push_str(day)?;
+            out.push_str(" ")?;
+        }
+        out.push_str(time)?;
+        out.push_str("Z")
+    }
+
+    /// Adds a time with all that the clock shows.
+    pub(crate) fn push_whole_time(&self, at: u64, out: &mut String) -> Result<(), AllocError> {
+        self.clock.push_time(at, out)
+    }
+
+    /// Adds two times.
+    pub(crate) fn push_span(&self, from: u64, to: u64, out: &mut String) -> Result<(), AllocError> {
+        self.push_time(from, out)?;
+        out.push_str(" to ")?;
+        self.push_time(to, out)
+    }
+
+    /// Adds the style of an element from one time to another.
+    pub(crate) fn push_from(&self, from: u64, to: u64, out: &mut String) -> Result<(), AllocError> {
+        let start = self.axis.position(from);
+        let end = self.axis.position(to);
+        push_with(" style=\"--x:", start, out)?;
+        push_with(";--w:", end.saturating_sub(start), out)?;
+        out.push_str("\">")
+    }
+
+    /// Whether the story begins and ends on one day.
+    fn is_in_a_day(&self) -> bool {
+        self.calendar.behind.saturating_add(self.axis.end()) < DAY
+    }
 }
 
-/// Adds the front of a rectangle of a class, with its offset, from one offset to another, which is a
-/// pixel away at least.
-pub(crate) fn push_bar(
-    class: &str,
-    from: u64,
-    to: u64,
-    top: u64,
-    height: u64,
-    out: &mut String,
-) -> Result<(), AllocError> {
-    push_field("<rect class=\"", class, out)?;
-    push_offset("\" x=\"", from, out)?;
-    push_offset("\" width=\"", to.saturating_sub(from).max(10), out)?;
-    push_count("\" y=\"", top, out)?;
-    push_count("\" height=\"", height, out)?;
-    out.push_str("\">")
+/// The text of a time.
+pub(crate) fn time_text<C: TimeFormat>(
+    alloc: Global,
+    clock: &C,
+    at: u64,
+) -> Result<String, AllocError> {
+    let mut text = String::new(alloc);
+    clock.push_time(at, &mut text)?;
+    Ok(text)
 }
 
-/// Adds a text and then a word of the page's own.
-pub(crate) fn push_field(front: &str, word: &str, out: &mut String) -> Result<(), AllocError> {
-    out.push_str(front)?;
-    out.push_str(word)
+/// The date and the time of day of a text as `2026-11-23T00:00:30Z`. Any other text has no date.
+pub(crate) fn parts_of(text: &str) -> (&str, &str) {
+    match text.split_once('T') {
+        None => ("", text),
+        Some((date, time)) => (date, time.strip_suffix("Z").unwrap_or(time)),
+    }
 }
 
-/// Adds a text and then a number of tenths.
-pub(crate) fn push_offset(front: &str, tenths: u64, out: &mut String) -> Result<(), AllocError> {
-    out.push_str(front)?;
-    push_tenths(tenths, out)
+/// How a clock shows times, by what it shows for the start.
+fn calendar_of<C: TimeFormat>(alloc: Global, clock: &C) -> Result<Calendar, AllocError> {
+    let text = time_text(alloc, clock, 0)?;
+    let (date, time) = parts_of(text.as_str());
+    let is_dated = !date.is_empty();
+    let behind = if is_dated { milliseconds_of(time) } else { 0 };
+    Ok(Calendar { is_dated, behind })
 }
 
-/// Adds a text and then a number.
-pub(crate) fn push_count(front: &str, number: u64, out: &mut String) -> Result<(), AllocError> {
-    out.push_str(front)?;
-    push_number(number, out)
+/// How much of its day is over at a time as `08:30:17.250`, in whole seconds, as milliseconds.
+fn milliseconds_of(time: &str) -> u64 {
+    let (whole, _) = time.split_once('.').unwrap_or((time, ""));
+    let (hours, rest) = whole.split_once(':').unwrap_or((whole, ""));
+    let (minutes, seconds) = rest.split_once(':').unwrap_or((rest, ""));
+    number(hours) * 3_600_000 + number(minutes) * 60_000 + number(seconds) * 1_000
 }
 
-/// Returns the offset that is a number of rows below another.
-pub(crate) fn below(top: u64, rows: usize, height: u64) -> u64 {
-    top.saturating_add((rows as u64).saturating_mul(height))
+/// A number of two digits; 0 for any other text.
+fn number(text: &str) -> u64
+    ensures { result ≤ 99 }
+{
+    text.parse::<u64>().unwrap_or(0).min(99)
 }

@@ -1,39 +1,39 @@
-//! `Span`: a stretch of time. `lane` and `bars` call it.
+//! `Span`: a stretch of time in which an alert fires. `alerts` calls it.
+use am_alerts::alert::Alert;
 use std::alloc::AllocError;
 
 /// A stretch of time, in milliseconds.
-#[derive(Clone, Copy)]
+#[derive(Clone, Copy, PartialEq, Eq)]
 pub(crate) struct Span {
     pub(crate) from: u64,
     /// The first time after it; none where it hasn't ended.
     pub(crate) to: Option<u64>,
-    /// The index of the event that it comes from; 0 where it comes from an alert.
-    pub(crate) event: usize,
 }
 
-/// Ends the last of these spans, unless it has ended; then `next` is added. The same where there is none.
-pub(crate) fn end_or_add(spans: &mut Vec<Span>, next: Span) -> Result<(), AllocError> {
+/// Adds that an alert fires, or when it was resolved. A dispatcher that takes over is given again what it has to know:
+/// that changes nothing.
+pub(crate) fn add_insert(spans: &mut Vec<Span>, alert: &Alert) -> Result<(), AllocError> {
+    let next = Span {
+        from: alert.starts(),
+        to: alert.ends(),
+    };
     let Some(last) = spans.pop() else {
         return add(spans, next);
     };
-    if last.to.is_some() {
-        add(spans, last)?;
+    if last.to.is_none() {
+        return add(
+            spans,
+            Span {
+                from: last.from,
+                to: next.to,
+            },
+        );
+    }
+    add(spans, last)?;
+    if last.to != next.to {
         return add(spans, next);
     }
-    let ended = Span {
-        from: last.from,
-        to: next.to,
-        event: last.event,
-    };
-    add(spans, ended)
-}
-
-/// Returns whether the last of these spans hasn't ended.
-pub(crate) fn is_open(spans: &[Span]) -> bool {
-    match spans.last() {
-        None => false,
-        Some(last) => last.to.is_none(),
-    }
+    Ok(())
 }
 
 fn add(spans: &mut Vec<Span>, span: Span) -> Result<(), AllocError> {

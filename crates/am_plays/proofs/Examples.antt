@@ -1,10 +1,11 @@
 -- Worked plays: a play that meets all hypotheses, and one whose flushes have to wait, which blocks and passes over a group that is due.
-use Rattle.std.proofs.Common.{◌≡◌, ℕ, ◌+◌, ◌≤◌, ◌<◌, ◌⊎◌, inl, inr, true, false, Some, None, List, [], ◌∷◌, ◌++◌, refl, arith}
+use Rattle.std.proofs.Common.{◌≡◌, ℕ, ◌+◌, ◌≤◌, ◌<◌, ◌⊎◌, inl, inr, true, false, Some, None, List, [], ◌∷◌, ◌++◌, length, refl, arith}
 use Rattle.std.specs.Prelude.{codes, find, max}
 use Rattle.std.specs.Option.{IfSome}
+use Rattle.std.proofs.lemmas.Bool.{false≢true}
 use Rattle.std.proofs.lemmas.List.Elements.{All-cons, All-nil}
 use Rattle.am_retry.specs.declared.outcome.Answer.TheVariants.{Done, Never}
-use Rattle.am_retry.specs.declared.outcome.Outcome.TheVariants.{Delivered, Refused}
+use Rattle.am_retry.specs.declared.outcome.Outcome.TheVariants.{Delivered, Expired, Refused}
 use Rattle.am_alerts.specs.AlertData.{AlertData}
 use Rattle.am_alerts.specs.declared.labels.Label.{Label}
 use Rattle.am_model.specs.declared.config.Config.{Config}
@@ -13,7 +14,8 @@ use Rattle.am_model.specs.declared.notice.Report.{Report}
 use Rattle.am_model.specs.declared.record.Record.{Record}
 use Rattle.am_model.specs.declared.record.Call.TheVariants as call
 use Rattle.am_model.specs.declared.record.Reply.TheVariants.{Noted}
-use Rattle.am_model.specs.Configured.{route_of}
+use Rattle.am_model.specs.declared.views.RowView.{RowView}
+use Rattle.am_model.specs.Configured.{integrations_of, route_of}
 use Rattle.am_model.specs.Notice.{NoticeData}
 use Rattle.am_model.specs.Records.{entry, flush_reply, now_of}
 use Rattle.am_model.specs.State.{is_named}
@@ -22,8 +24,8 @@ use Rattle.am_model.specs.look_back.Laws.{has_open}
 use Rattle.am_model.specs.look_back.Past.{AtEach, past_of, replay_past, time_at}
 use Rattle.am_model.proofs.examples.Base.{a, base, fires, group, group_a, named}
 use Rattle.am_board.specs.History.{state_at}
-use Rattle.am_paging.specs.InTime.{IsOnTime, begun_by, past_until}
-use Rattle.am_paging.specs.Paging.{is_due_a_page}
+use Rattle.am_paging.specs.InTime.{AtSome, HearsBy, IsOnTime, begun_by, is_finish_of, past_until}
+use Rattle.am_paging.specs.Paging.{is_due_a_page, reports_page}
 use Rattle.am_pool.specs.Sendings.{IsAnsweredBy}
 use Rattle.am_rehearsal.specs.Answers.{AreEndsOf}
 use Rattle.am_rehearsal.specs.Next.{next}
@@ -34,7 +36,9 @@ use Rattle.am_terms.specs.declared.event.Event.TheVariants.{Sent}
 use Rattle.am_terms.specs.declared.rehearsal.Action.TheVariants.{Insert}
 use Rattle.am_terms.specs.declared.rehearsal.Outage.{Outage}
 use Rattle.am_terms.specs.declared.rehearsal.TimedAction.{TimedAction}
-use Rattle.am_plays.specs.PlaysInTime.{IsServed, has_no_outage}
+use Rattle.am_terms.specs.declared.rehearsal.Upkeep.{Upkeep}
+use Rattle.am_plays.specs.PlaysDeliver.{IsDueFromTo, delivers_all}
+use Rattle.am_plays.specs.PlaysInTime.{IsServed, has_no_outage, runs_past}
 use Rattle.am_plays.specs.Plays.{ComesBy, has_place}
 
 -- a configuration with this limit of open flushes, and 64 groups
@@ -53,10 +57,14 @@ first_notice ticket name alert =
 abbrev first_ticket : NoticeData → TicketData
 first_ticket n = record { board_id = 1; number = n.ticket; group = n.group; deadline = 330_000; notices = n ∷ []; outcomes = [] }
 
+-- a maintenance each 15 minutes, and a tick each 30 seconds
+abbrev upkeep : Upkeep
+upkeep = record { maintain = 900_000; remove_empty_groups = 30_000; continues = omega arith; ticks = omega arith }
+
 -- ---- an alert at 0 whose receiver answers: notified at 30 seconds, and nothing is due any more until the end after a minute
 
 abbrev minute : Setting
-minute = setting_with 60_000 900_000 [] whole
+minute = setting_with 60_000 upkeep [] whole
 
 abbrev enough : Config
 enough = limited 64
@@ -176,7 +184,7 @@ abbrev hangs : Outage
 hangs = record { receiver = codes "team"; integration = None; from = 0; to = None; answer = Never; takes = 40_000 }
 
 abbrev held_up : Setting
-held_up = setting_with 100_000 900_000 (hangs ∷ []) whole
+held_up = setting_with 100_000 upkeep (hangs ∷ []) whole
 
 abbrev one_at_a_time : Config
 one_at_a_time = limited 1
@@ -371,3 +379,177 @@ hanging_late q is on = by (on.ends refl)
   where
     by : time_at (q ∷ past_of hanging_failed.board.history) ≤ 30_000 + 0 → ⊥
     by h = absurd (omega (arith, is, h))
+
+-- ---- the first play delivers in time: A is due a page from 0 up to the end, and up to 45 seconds too
+
+due_until_end : IsDueFromTo enough group_a labels_a 0 minute.until (past_of finished.board.history)
+due_until_end = record { each = due_a; last = due_at_end }
+
+due_until_then : IsDueFromTo enough group_a labels_a 0 45_000 (past_of finished.board.history)
+due_until_then =
+    record {
+      each = (λ after within. refl, (λ after within. refl, (λ after within. refl, (λ after within. refl, (λ after within. absurd (omega (arith, after)), tt)))));
+      last = refl;
+    }
+
+one_integration : length (integrations_of enough group_a) ≡ 1
+one_integration = refl
+
+-- the note reports it delivered when the group is due, and so does the finish, at the time of the begin
+note_delivers : reports_page group_a 0 labels_a (past_of idle.board.history) (call.Note 30_000 1 0 (Some Delivered)) ≡ true
+note_delivers = refl
+
+noted_then : time_at (past_of noted.board.history) ≡ 30_000
+noted_then = refl
+
+finishes_a : is_finish_of group_a (past_of noted.board.history) (call.Finish 30_000 1 ((0, Delivered) ∷ [])) ≡ true
+finishes_a = refl
+
+finish_delivers : delivers_all (time_at (past_of finished.board.history)) (past_of noted.board.history) (call.Finish 30_000 1 ((0, Delivered) ∷ [])) ≡ true
+finish_delivers = refl
+
+-- ---- left out: that no outage is of the receiver; the notice of the flush that hangs is refused, and nobody hears of A
+
+hanging_due : IsDueFromTo enough group_a labels_a 0 held_up.until (past_of hanging_freed.board.history)
+hanging_due =
+    record {
+      each = (λ after within. refl, (λ after within. refl, (λ after within. refl, (λ after within. absurd (omega (arith, after)), tt))));
+      last = refl;
+    }
+
+hanging_by : begun_by enough group_a 0 0 (past_of hanging_freed.board.history) ≡ 30_000
+hanging_by = refl
+
+hanging_finishes : is_finish_of group_a (past_of hanging_failed.board.history) (call.Finish 70_000 1 ((0, Refused) ∷ [])) ≡ true
+hanging_finishes = refl
+
+hanging_fails : delivers_all (time_at (past_of hanging_freed.board.history)) (past_of hanging_failed.board.history) (call.Finish 70_000 1 ((0, Refused) ∷ [])) ≡ false
+hanging_fails = refl
+
+unheard : (row : RowView) → None ≡ Some row → ⊥
+unheard row is = absurd (cc)
+
+hanging_unheard : AtSome (HearsBy enough group_a 0 labels_a 0 30_000) (past_of hanging_freed.board.history) → ⊥
+hanging_unheard (inl finish) = let late : 70_000 ≤ 30_000 = finish.in_time in absurd (omega (arith, late))
+hanging_unheard (inr (inl nothing)) = elim nothing.reached [ inl reported ↦ false≢true reported | inr heard ↦ false≢true heard.0 ]
+hanging_unheard (inr (inr (inl begin))) = elim begin.reached [ inl reported ↦ false≢true reported | inr heard ↦ unheard heard.1.row heard.1.entry ]
+hanging_unheard (inr (inr (inr (inl insert)))) = let later : 0 < 0 = insert.after in absurd (omega (arith, later))
+hanging_unheard (inr (inr (inr (inr none)))) = none
+
+-- ---- left out: that the dispatcher isn't stopped; it is after 20 seconds, and the notice of the flush at 30 isn't sent any more
+
+abbrev stopped : Setting
+stopped = record minute { span = record { since = 0; cut = Some 20_000 } }
+
+abbrev stopped_start : Scene
+stopped_start = opening_scene stopped enough (insert_of a ∷ [])
+
+abbrev stopped_inserted : Scene
+stopped_inserted = after_plan stopped_start (insert_of a) []
+
+abbrev expired : Report
+expired = record { board_id = 1; ticket = 1; integration = 0; outcome = Expired; attempts = 0; ended = 30_000 }
+
+abbrev unsent : SendingData
+unsent = record { ticket = first_ticket notice_a; begin = 0; ends = record { at = 30_000; index = 0; report = Some expired } ∷ [] }
+
+abbrev stopped_flushed : Scene
+stopped_flushed = with_sending unsent (after_taking stopped_inserted 30_000 (flush_reply 1 group_a 330_000 (notice_a ∷ [])))
+
+abbrev stopped_idle : Scene
+stopped_idle = after_nothing stopped_flushed 30_000
+
+abbrev expired_sending : SendingData
+expired_sending = record { ticket = record (first_ticket notice_a) { outcomes = (0, Expired) ∷ [] }; begin = 0; ends = [] }
+
+abbrev stopped_failed : Scene
+stopped_failed = record stopped_idle { events = stopped_idle.events ++ Sent 0 expired ∷ []; sendings = expired_sending ∷ []; clock = 30_000 }
+
+abbrev stopped_freed : Scene
+stopped_freed = after_finish stopped_failed 0 expired_sending
+
+to_stopped_inserted : Steps stopped stopped_start stopped_inserted
+unfolding Steps next
+to_stopped_inserted = (refl, refl)
+
+unsent_ends : AreEndsOf (answers_for stopped stopped_inserted.board group_a) (Some 20_000) 30_000 0 (notice_a ∷ []) unsent.ends
+unsent_ends = (
+  (
+    refl,
+    refl,
+    (
+      refl,
+      (
+        record {
+          names = (refl, refl, refl);
+          responses = [];
+          answered = All-nil (IsAnsweredBy (answers_for stopped stopped_inserted.board group_a));
+          has = refl;
+          attempts_are = refl;
+          end_is = refl;
+        },
+        refl,
+      ),
+    ),
+  ),
+  tt,
+)
+
+to_stopped_flushed : Steps stopped stopped_inserted stopped_flushed
+unfolding Steps next
+to_stopped_flushed = (unsent, refl, refl, unsent_ends, refl)
+
+to_stopped_idle : Steps stopped stopped_flushed stopped_idle
+unfolding Steps next
+to_stopped_idle = refl
+
+to_stopped_failed : Steps stopped stopped_idle stopped_failed
+unfolding Steps next
+to_stopped_failed = refl
+
+to_stopped_freed : Steps stopped stopped_failed stopped_freed
+unfolding Steps next
+to_stopped_freed = refl
+
+stopped_over : next stopped stopped_freed ≡ None
+unfolding next
+stopped_over = refl
+
+stopped_play : PlaysTo stopped enough (insert_of a ∷ []) stopped_freed.board stopped_freed.events
+stopped_play =
+    record {
+      last = stopped_freed;
+      reached = (5, (stopped_failed, (stopped_idle, (stopped_flushed, (stopped_inserted, (stopped_start, refl, to_stopped_inserted), to_stopped_flushed), to_stopped_idle), to_stopped_failed), to_stopped_freed));
+      over = stopped_over;
+      board_is = refl;
+      events_are = refl;
+    }
+
+stopped_reached : has_no_outage (route_of enough group_a).receiver stopped.outages ≡ true
+stopped_reached = refl
+
+stopped_unserved : runs_past stopped.until stopped.span.cut ≡ false
+stopped_unserved = refl
+
+stopped_due : IsDueFromTo enough group_a labels_a 0 stopped.until (past_of stopped_freed.board.history)
+stopped_due =
+    record {
+      each = (λ after within. refl, (λ after within. refl, (λ after within. refl, (λ after within. absurd (omega (arith, after)), tt))));
+      last = refl;
+    }
+
+stopped_by : begun_by enough group_a 0 0 (past_of stopped_freed.board.history) ≡ 30_000
+stopped_by = refl
+
+stopped_finishes : is_finish_of group_a (past_of stopped_failed.board.history) (call.Finish 30_000 1 ((0, Expired) ∷ [])) ≡ true
+stopped_finishes = refl
+
+stopped_fails : delivers_all (time_at (past_of stopped_freed.board.history)) (past_of stopped_failed.board.history) (call.Finish 30_000 1 ((0, Expired) ∷ [])) ≡ false
+stopped_fails = refl
+
+stopped_unheard : AtSome (HearsBy enough group_a 0 labels_a 0 30_000) (past_of stopped_freed.board.history) → ⊥
+stopped_unheard (inl finish) = elim finish.reached [ inl reported ↦ false≢true reported | inr heard ↦ false≢true heard.0 ]
+stopped_unheard (inr (inl nothing)) = elim nothing.reached [ inl reported ↦ false≢true reported | inr heard ↦ false≢true heard.0 ]
+stopped_unheard (inr (inr (inl begin))) = elim begin.reached [ inl reported ↦ false≢true reported | inr heard ↦ unheard heard.1.row heard.1.entry ]
+stopped_unheard (inr (inr (inr (inl insert)))) = let later : 0 < 0 = insert.after in absurd (omega (arith, later))
+stopped_unheard (inr (inr (inr (inr none)))) = none

@@ -7,7 +7,6 @@ use Rattle.std.proofs.lemmas.Bool.{false≢true, le-leb, leb-true}
 use Rattle.std.proofs.lemmas.Bool.Decides.{nat_tests}
 use Rattle.am_alerts.specs.declared.limits.TheConstants.{MAX_TIME}
 use Rattle.am_board.specs.History.{BoardData, state_at}
-use Rattle.am_model.proofs.legal.EachCall.{inside}
 use Rattle.am_model.proofs.legal.Histories.{after_clock}
 use Rattle.am_model.proofs.lists.Distinct.{all-both, all-push, all-weaker}
 use Rattle.am_model.proofs.states.Alike.{same_name-is}
@@ -32,7 +31,7 @@ use Rattle.am_model.specs.look_back.Past.{AtEach, past_of, time_at}
 use Rattle.am_paging.proofs.Standing.{one-is}
 use Rattle.am_rehearsal.proofs.Coming.{next_else, next_on}
 use Rattle.am_rehearsal.specs.Answers.{tried_until}
-use Rattle.am_rehearsal.specs.Next.{begins_on, comes_by, earlier, in_time, next, next_begin, next_but_begins, next_end, next_end_of, next_finish, next_of_all, next_plan}
+use Rattle.am_rehearsal.specs.Next.{begins_on, comes_by, earlier, in_time, next, next_begin, next_but_begins, next_end, next_end_of, next_finish, next_of_all, next_of_others, next_plan, next_removal}
 use Rattle.am_rehearsal.specs.Play.{LeadsIn, PlaysTo}
 use Rattle.am_rehearsal.specs.Scene.{Scene, SendingData, Setting, opening_scene}
 use Rattle.am_rehearsal.specs.Steps.{IsBegun, IsReplied, Steps, after_end_of, answers_for, is_success, with_report}
@@ -46,7 +45,7 @@ use Rattle.am_plays.proofs.OpenFlights.{Key, key_of}
 use Rattle.am_plays.proofs.PassedOver.{clock-is, open-is, past-more}
 use Rattle.am_plays.proofs.Sound.{IsSound, move-sound, moves, opening-sound, state-more, step-as}
 use Rattle.am_plays.proofs.StepKinds.{step_by}
-use Rattle.am_plays.proofs.Words.{some_of}
+use Rattle.am_plays.proofs.Words.{all-get, all-remove, all-set, said, some_of}
 
 -- ---- what comes by a time
 
@@ -119,35 +118,15 @@ module _ (r : Setting) (c : Scene) where
       by false is =
           same (next r c) (next_of_all r c) (sym (next_else r c is))
           (by_first t (next_but_begins r c) (next_begin r c)
-          (by_first t (earlier (next_end 0 c.sendings) (next_finish c.clock 0 c.sendings)) (earlier (next_plan r.until c.plans) (in_time r.until c.maintenance _)) flights))
-
--- what is said of what is there
-said : {X : Type 0} (o : Option X) (x : X) → o ≡ Some x → (P : X → Type 0) → IsSomeAnd o P → P x
-said o x is P h = subst (λ p. IsSomeAnd p P) is h
+          (by_second t (next_removal r c) (next_of_others r c)
+          (by_first t (earlier (next_end 0 c.sendings) (next_finish c.clock 0 c.sendings)) (earlier (next_plan r.until c.plans) (in_time r.until c.maintenance _)) flights)))
 
 -- a report leaves a ticket its group
-reported_group : (o : Option Report) (t : TicketData) → (with_report o t).group ≡ t.group
+pub reported_group : (o : Option Report) (t : TicketData) → (with_report o t).group ≡ t.group
 reported_group None t = refl
 reported_group (Some p) t = elim (is_some (report_fault t p)) as (λ b. (if b then t else recorded t p).group ≡ t.group) [ true ↦ refl | false ↦ refl ]
 
 -- ---- lists of flushes in flight
-
-module _ {X : Type 0} (P : X → Type 0) where
-  all-set : (xs : List X) (position : ℕ) (x : X) → AllByRecursion P xs → P x → AllByRecursion P (slice_set xs position x)
-  all-set [] position x all h = tt
-  all-set (y ∷ ys) zero x all h = (h, all.1)
-  all-set (y ∷ ys) (suc position) x all h = (all.0, all-set ys position x all.1 h)
-
-  all-remove : (xs : List X) (position : ℕ) → AllByRecursion P xs → AllByRecursion P (remove xs position)
-  all-remove [] zero all = tt
-  all-remove [] (suc position) all = tt
-  all-remove (y ∷ ys) zero all = all.1
-  all-remove (y ∷ ys) (suc position) all = (all.0, all-remove ys position all.1)
-
-  all-get : (xs : List X) (position : ℕ) (x : X) → slice_get xs position ≡ Some x → AllByRecursion P xs → P x
-  all-get [] position x is all = absurd (cc)
-  all-get (y ∷ ys) zero x is all = subst P (inside y x is) all.0
-  all-get (y ∷ ys) (suc position) x is all = all-get ys position x is all.1
 
 any-map : {X Y : Type 0} (f : X → Y) (test : Y → Bool) (xs : List X) → list_any test (map f xs) ≡ list_any (λ x. test (f x)) xs
 any-map f test [] = refl
@@ -155,15 +134,15 @@ any-map f test (x ∷ xs) = λ i. test (f x) || any-map f test xs i
 
 module _ (r : Setting) (name : GroupName) (receiver : List ℕ) (none : has_no_outage receiver r.outages ≡ true) (runs : runs_past r.until r.span.cut ≡ true) (ends : r.until < MAX_TIME) where
   -- whether a flush in flight is the group's
-  abbrev is_own : SendingData → Bool
+  abbrev pub is_own : SendingData → Bool
   is_own s = same_name name s.ticket.group
 
   -- where it is, its ends come by t, and it is no later
-  abbrev IsSwift : ℕ → ℕ → SendingData → Type 0
+  abbrev pub IsSwift : ℕ → ℕ → SendingData → Type 0
   IsSwift t clock s = is_own s ≡ true → (clock ≤ t) × AllByRecursion (λ e. e.at ≤ t) s.ends
 
   -- the receiver is the group's
-  abbrev IsReceiver : Config → Type 0
+  abbrev pub IsReceiver : Config → Type 0
   IsReceiver config = (route_of config name).receiver ≡ receiver
 
   pub record IsPrompt (c : Scene) : Type 0 where
@@ -181,10 +160,10 @@ module _ (r : Setting) (name : GroupName) (receiver : List ℕ) (none : has_no_o
     new = (state_at d.board).clock
 
     -- while a flush of the group is in flight, a step at this time isn't after now
-    abbrev IsEarly : ℕ → Type 0
+    abbrev pub IsEarly : ℕ → Type 0
     IsEarly at = AllByRecursion (λ s. is_own s ≡ true → at ≤ now) c.sendings
 
-    early-next : (n : _) → next r c ≡ Some n → IsEarly n.at
+    pub early-next : (n : _) → next r c ≡ Some n → IsEarly n.at
     early-next n is =
         all-both (IsSwift now c.clock) (Comes r c 0 c.sendings) (λ s. is_own s ≡ true → n.at ≤ now)
         (λ s swift comes own. by (next_comes r c now (swift own).0 (comes now (swift own).0 (swift own).1)))
@@ -224,7 +203,7 @@ module _ (r : Setting) (name : GroupName) (receiver : List ℕ) (none : has_no_o
 
     module _ (at : ℕ) (within : at ≤ r.until) where
       -- each notice of a flush of the group is done at once
-      at_once : (group : GroupName) (opened : Opened) → begun c.board.config c.board.id (state_at c.board) (time (state_at c.board) at) ≡ reply.Flush group opened
+      pub at_once : (group : GroupName) (opened : Opened) → begun c.board.config c.board.id (state_at c.board) (time (state_at c.board) at) ≡ reply.Flush group opened
           → same_name name group ≡ true → AllByRecursion (IsDoneAtOnce (answers_for r c.board group) r.span.cut at) opened.notices
       at_once group opened is own =
           all-weaker (λ (n : NoticeData). time (state_at c.board) at < n.deadline) (IsDoneAtOnce (answers_for r c.board group) r.span.cut at)
@@ -290,8 +269,8 @@ module _ (r : Setting) (name : GroupName) (receiver : List ℕ) (none : has_no_o
     flights : Steps r c d → IsSomeAnd (next r c) (λ n. Goal n.at)
     flights steps =
         step_by r c d Goal (λ position index s e here there done. on_end position index s e.report e.at here (ap (λ (x : Scene). x.sendings) done))
-        (λ position s here done. on_finish position c.clock (ap (λ (x : Scene). x.sendings) done)) (λ p ps done. same_flights p.at (ap (λ (x : Scene). x.sendings) done.1))
-        (λ at done. same_flights at (ap (λ (x : Scene). x.sendings) done)) (λ at within done. begun_by at within (cause_of_none c.board at) done) steps
+        (λ position s here over done. on_finish position c.clock (ap (λ (x : Scene). x.sendings) done)) (λ p ps done. same_flights p.at (ap (λ (x : Scene). x.sendings) done.1))
+        (λ at done. same_flights at (ap (λ (x : Scene). x.sendings) done)) (λ at done. same_flights at (ap (λ (x : Scene). x.sendings) done)) (λ at within done. begun_by at within (cause_of_none c.board at) done) steps
 
     -- ---- a step
 
@@ -331,7 +310,7 @@ module _ (r : Setting) (name : GroupName) (receiver : List ℕ) (none : has_no_o
             let same : new ≡ now = ap (λ (b : BoardData). (state_at b).clock) did.board in
             (subst IsStill (sym did.board) was.still, omega (arith, same))
 
-    prompt : Steps r c d → IsPrompt d
+    pub prompt : Steps r c d → IsPrompt d
     prompt steps =
         let m = some_of (next r c) (λ n. IsMove c d n.at) (moves r c d was.sound steps) in
         let early = early-next m.0 m.1 in
@@ -348,7 +327,7 @@ module _ (r : Setting) (name : GroupName) (receiver : List ℕ) (none : has_no_o
   kept-prompt zero c d was same = subst IsPrompt same was
   kept-prompt (suc k) c d was led = prompt led.0 d (kept-prompt k c led.0 was led.1) led.2
 
-  opening-prompt : (config : Config) (plans : List TimedAction) → IsReceiver config → IsPrompt (opening_scene r config plans)
+  pub opening-prompt : (config : Config) (plans : List TimedAction) → IsReceiver config → IsPrompt (opening_scene r config plans)
   opening-prompt config plans receives = record { sound = opening-sound r config plans; receives = receives; swift = tt; still = tt }
 
 -- while a flush of a group that is served is open, time doesn't move on in a play

@@ -107,7 +107,7 @@ module _ (answer : ℕ → ℕ → ℕ → ℕ → Sent) (cut : Option ℕ) (at 
       let this = outcome-instant n all.0 e.report are.0.2 in
       ((are.0.1 ∙ this.0, this.1), ends-instant (index + 1) ns es are.1 all.1)
 
--- ---- the deadlines of a begin's notices
+-- ---- the deadlines of a begin's notices, and whose they are
 
 all-of : {X : Type 0} (P : X → Type 0) → ((x : X) → P x) → (xs : List X) → AllByRecursion P xs
 all-of P each [] = tt
@@ -127,6 +127,20 @@ AreLater t (reply.Forgotten forgotten) = Unit {0}
 AreLater t (reply.Loaded loaded) = Unit {0}
 AreLater t reply.Noted = Unit {0}
 
+-- each notice of a reply is of this board and of the reply's flush
+abbrev pub AreOwn : ℕ → Reply → Type 0
+AreOwn id (reply.Flush group opened) = AllByRecursion (λ (n : NoticeData). (n.board_id ≡ id) × (n.ticket ≡ opened.number)) opened.notices
+AreOwn id (reply.Inserted inserted) = Unit {0}
+AreOwn id (reply.Silenced silenced) = Unit {0}
+AreOwn id reply.NothingDue = Unit {0}
+AreOwn id (reply.Quiet group removed) = Unit {0}
+AreOwn id (reply.Finished finished) = Unit {0}
+AreOwn id (reply.Maintained maintained) = Unit {0}
+AreOwn id (reply.EmptyGroupsRemoved removed) = Unit {0}
+AreOwn id (reply.Forgotten forgotten) = Unit {0}
+AreOwn id (reply.Loaded loaded) = Unit {0}
+AreOwn id reply.Noted = Unit {0}
+
 module _ (config : Config) (id : ℕ) (s : State) (t : ℕ) where
   later-notifying : (g : GroupState) (notified : List (ℕ × Integration)) → AreLater t (reply_notifying config id s t g notified)
   later-notifying g [] = tt
@@ -143,3 +157,16 @@ module _ (config : Config) (id : ℕ) (s : State) (t : ℕ) where
 
   pub begun-later : AreLater t (begun config id s t)
   begun-later = later-taking (taken s t)
+
+  own-notifying : (g : GroupState) (notified : List (ℕ × Integration)) → AreOwn id (reply_notifying config id s t g notified)
+  own-notifying g [] = tt
+  own-notifying g (i ∷ is) =
+      all-map (notice_for config id s t g) (λ n. (n.board_id ≡ id) × (n.ticket ≡ s.next_number)) (i ∷ is)
+      (all-of (λ (j : ℕ × Integration). (id ≡ id) × (s.next_number ≡ s.next_number)) (λ j. (refl, refl)) (i ∷ is))
+
+  own-taking : (o : Option GroupState) → AreOwn id (reply_taking config id s t o)
+  own-taking None = tt
+  own-taking (Some g) = own-notifying g (notified_of config s t g)
+
+  pub begun-own : AreOwn id (begun config id s t)
+  begun-own = own-taking (taken s t)

@@ -24,7 +24,11 @@ pub mod Examples
 pub mod Instant
 -- while a flush without an outage is open, time doesn't move on
 pub mod InFlight
+-- of a flush of which each sending is a success, all is reported delivered
+pub mod Successes
+-- each flush of a group that is served is finished at its begin, all delivered
+pub mod FinishesDeliver
 -- a play is on time for each group that is served
 pub mod Served
--- and pages it in time
+-- and pages it in time, and is delivered then
 pub mod PagesInPlays

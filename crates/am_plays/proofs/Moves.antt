@@ -17,7 +17,7 @@ use Rattle.am_model.specs.Causes.{insert_cause, note_cause}
 use Rattle.am_model.specs.Finish.{finished}
 use Rattle.am_model.specs.Insert.{inserted}
 use Rattle.am_model.specs.Laws.{IsConsistent}
-use Rattle.am_model.specs.Maintenance.{maintained, silenced}
+use Rattle.am_model.specs.Maintenance.{empty_groups_removed, maintained, silenced}
 use Rattle.am_model.specs.Notice.{NoticeData}
 use Rattle.am_model.specs.Records.{call_of_silence, entry, now_of}
 use Rattle.am_model.specs.Replay.{reply as reply_to}
@@ -29,7 +29,7 @@ use Rattle.am_rehearsal.proofs.Loading.{load_taken, load_reply, no_cause}
 use Rattle.am_rehearsal.specs.Next.{next}
 use Rattle.am_rehearsal.specs.Planned.{call_of, refuses}
 use Rattle.am_rehearsal.specs.Scene.{Scene, SendingData, Setting}
-use Rattle.am_rehearsal.specs.Steps.{IsBegun, IsPlanDone, IsReplied, Steps, after_end, after_end_of, after_finish, after_maintenance, is_success, with_call, with_note, with_report}
+use Rattle.am_rehearsal.specs.Steps.{IsBegun, IsPlanDone, IsReplied, Steps, after_end, after_end_of, after_finish, after_maintenance, after_removal, is_success, with_call, with_note, with_report}
 use Rattle.am_rehearsal.specs.Taking.{cause_of_none}
 use Rattle.am_terms.specs.declared.rehearsal.Action.{Action}
 use Rattle.am_terms.specs.declared.rehearsal.Action.TheVariants.{Insert, Silence, Load}
@@ -280,6 +280,14 @@ module _ (r : Setting) (c d : Scene) where
             (ap (λ (y : Scene). y.board) is) (ap flying is) (ap (λ (y : Scene). y.blocked) is);
       }
 
+  removed_move : (at : ℕ) → d ≡ after_removal c at → IsMove c d at
+  removed_move at is =
+      record {
+        clock = ap (λ (y : Scene). y.clock) is;
+        does = plain_move (call.RemoveEmptyGroups at) at (Some (reply.EmptyGroupsRemoved (empty_groups_removed (state_at c.board)))) refl tt refl
+            (ap (λ (y : Scene). y.board) is) (ap flying is) (ap (λ (y : Scene). y.blocked) is);
+      }
+
   -- a begin that was accepted
   begun_move : (at : ℕ) (p : Reply) → begun c.board.config c.board.id (state_at c.board) (time (state_at c.board) at) ≡ p → d.board ≡ with_record c.board (entry 0 (call.Begin at) p)
       → flying d ≡ keys_after (call.Begin at) p (flying c) → d.blocked ≡ c.blocked → IsRecorded c d at
@@ -342,5 +350,5 @@ module _ (r : Setting) (c d : Scene) where
   -- a step is such a move, at the time of what comes next
   pub step_moves : flying c ≡ open_keys (state_at c.board) → IsConsistent (state_at c.board) → Steps r c d → IsSomeAnd (next r c) (λ n. IsMove c d n.at)
   step_moves same sound steps =
-      step_by r c d (IsMove c d) (λ position index s e here there done. ended position index s e here done) (λ position s here done. finished_move position same sound s here done)
-      (λ p ps done. acted p ps done) (λ at done. maintained_move at done) (λ at within done. begins at done) steps
+      step_by r c d (IsMove c d) (λ position index s e here there done. ended position index s e here done) (λ position s here over done. finished_move position same sound s here done)
+      (λ p ps done. acted p ps done) (λ at done. maintained_move at done) (λ at done. removed_move at done) (λ at within done. begins at done) steps

@@ -43,7 +43,7 @@ module _ (b : BoardData) (x : Call) (p : Reply) where
   pub state-more : state_at more ≡ after_call b.config (state_at b) x
   state-more = replay_appends b.config b.history (entry 0 x p)
 
-  legal-more : IsLegal b.config b.id b.history → reply_to b.config b.id (state_at b) x ≡ Some p → IsLegal b.config b.id more.history
+  pub legal-more : IsLegal b.config b.id b.history → reply_to b.config b.id (state_at b) x ≡ Some p → IsLegal b.config b.id more.history
   legal-more legal is = (legal_appends b.config b.id b.history (entry 0 x p)).1 (legal, is)
 
   pub keys-more : reply_to b.config b.id (state_at b) x ≡ Some p → open_keys (state_at more) ≡ keys_after x p (open_keys (state_at b))

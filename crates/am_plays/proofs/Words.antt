@@ -1,6 +1,9 @@
--- Words about what is there, if anything is.
-use Rattle.std.proofs.Common.{◌≡◌, Option, Some, None, refl, subst}
+-- Words about what is there, if anything is, and about all of a list.
+use Rattle.std.proofs.Common.{◌≡◌, ℕ, zero, suc, List, [], ◌∷◌, remove, Option, Some, None, refl, subst}
+use Rattle.std.specs.Prelude.{slice_get, slice_set}
+use Rattle.std.specs.List.{AllByRecursion}
 use Rattle.std.specs.Option.{IfSome, IsSomeAnd}
+use Rattle.am_model.proofs.legal.EachCall.{inside}
 
 module _ {X : Type 0} (o : Option X) where
   -- what holds of each holds of the one that is there
@@ -42,3 +45,25 @@ module _ {X : Type 0} (o : Option X) where
       by : (p : Option X) → IfSome p (λ x. P x → Q x) → IsSomeAnd p P → IsSomeAnd p Q
       by None leads h = absurd h
       by (Some x) leads h = leads h
+
+-- what is said of what is there
+pub said : {X : Type 0} (o : Option X) (x : X) → o ≡ Some x → (P : X → Type 0) → IsSomeAnd o P → P x
+said o x is P h = subst (λ p. IsSomeAnd p P) is h
+
+-- what holds of all holds still, when one is set or goes, and of each
+module _ {X : Type 0} (P : X → Type 0) where
+  pub all-set : (xs : List X) (position : ℕ) (x : X) → AllByRecursion P xs → P x → AllByRecursion P (slice_set xs position x)
+  all-set [] position x all h = tt
+  all-set (y ∷ ys) zero x all h = (h, all.1)
+  all-set (y ∷ ys) (suc position) x all h = (all.0, all-set ys position x all.1 h)
+
+  pub all-remove : (xs : List X) (position : ℕ) → AllByRecursion P xs → AllByRecursion P (remove xs position)
+  all-remove [] zero all = tt
+  all-remove [] (suc position) all = tt
+  all-remove (y ∷ ys) zero all = all.1
+  all-remove (y ∷ ys) (suc position) all = (all.0, all-remove ys position all.1)
+
+  pub all-get : (xs : List X) (position : ℕ) (x : X) → slice_get xs position ≡ Some x → AllByRecursion P xs → P x
+  all-get [] position x is all = absurd (cc)
+  all-get (y ∷ ys) zero x is all = subst P (inside y x is) all.0
+  all-get (y ∷ ys) (suc position) x is all = all-get ys position x is all.1

@@ -2,3 +2,5 @@
 pub mod Plays
 -- pages come in time to a receiver that no outage names
 pub mod PlaysInTime
+-- and are delivered in time
+pub mod PlaysDeliver

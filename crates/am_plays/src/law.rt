@@ -1,5 +1,6 @@
 //! The laws of plays, as calls that verifiers read. Each has an empty body: its `ensures` is the
 //! statement.
+ghost use Rattle.am_plays.specs.PlaysDeliver.{FlushesDeliver, PlaysDeliverInTime};
 ghost use Rattle.am_plays.specs.PlaysInTime.{PlaysAreOnTime, PlaysPageInTime};
 ghost use Rattle.am_plays.specs.Plays.{BeginsWhenDue, EveryPlay, IsLegalPlay, NothingBlocks, NothingDueIsLeft, NothingDueIsPassedOver};
 
@@ -47,4 +48,17 @@ pub fn nothing_due_is_passed_over()
 pub fn plays_page_in_time()
     ensures on_time { EveryPlay PlaysAreOnTime }
     ensures paged { EveryPlay PlaysPageInTime }
+{}
+
+/// States that a play delivers in time, with no premise on a driver.
+///
+/// Take a group that is served, as `plays_page_in_time` says. Clause `flushes`: each flush of it is
+/// finished at the time of its begin, and the finish reports each of its notices delivered, if it has
+/// something to send. Clause `delivered`: an alert is due a page there from a time x up to a time y,
+/// which is no later than the rehearsal's end. If the latest time comes before y, then by the latest
+/// time a notice that lists the alert is reported delivered to each integration. Or by then the group
+/// is begun, and the integration has heard of it. The latest time is as for `plays_page_in_time`.
+pub fn plays_deliver_in_time()
+    ensures flushes { EveryPlay FlushesDeliver }
+    ensures delivered { EveryPlay PlaysDeliverInTime }
 {}

@@ -1,13 +1,14 @@
 //! Laws of rehearsals for whoever is on call: no flush waits for another, nothing that is due is
-//! passed over, and pages come in time. They follow from the definitions of plays, and ask nothing
-//! of a driver. It stores nothing.
+//! passed over, and pages are delivered in time. They follow from the definitions of plays, and ask
+//! nothing of a driver. It stores nothing.
 //!
 //! - `law`: the laws, as public calls without a body.
 //! - specs `Plays`: what every play has, and what passing over a group that is due is.
-//!   `PlaysInTime`: which groups are served, and by when they are paged.
+//!   `PlaysInTime`: which groups are served, and by when they are paged. `PlaysDeliver`: by when a
+//!   page is delivered.
 //! - proofs: `StepKinds` has the one analysis of the kinds of steps, `Moves` what each does to the
-//!   board. `Sound`, `PassedOver` and `InFlight` carry invariants over steps. `Examples` runs the
-//!   definitions on worked plays.
+//!   board. `Sound`, `PassedOver`, `InFlight` and `FinishesDeliver` carry invariants over steps.
+//!   `Examples` runs the definitions on worked plays.
 #![tactic(auto)]
 
 pub mod law;

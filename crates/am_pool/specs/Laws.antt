@@ -4,9 +4,9 @@ use Rattle.am_pool.specs.declared.fault.PoolFault.TheVariants.{NoMemory, TooMany
 use Rattle.am_pool.specs.declared.law.TheConstants.{POOL_FAULTS}
 use Rattle.am_pool.specs.declared.limits.TheConstants.{MAX_WORKERS, MAX_JOBS}
 
--- law: 8 workers, 1,024 jobs
+-- law: 8 workers, 8,192 jobs
 abbrev pub LimitsAre : Type 0
-LimitsAre = (MAX_WORKERS ≡ 8) × (MAX_JOBS ≡ 1_024)
+LimitsAre = (MAX_WORKERS ≡ 8) × (MAX_JOBS ≡ 8_192)
 
 -- law: the numbers of the faults of a pool
 abbrev pub PoolFaultsAre : Type 0

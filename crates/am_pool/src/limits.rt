@@ -4,7 +4,7 @@
 pub const MAX_WORKERS: usize = 8;
 
 /// The greatest number of jobs of one run.
-pub const MAX_JOBS: usize = 1_024;
+pub const MAX_JOBS: usize = 8_192;
 
 /// The parts of the right to know that each number was taken: one a worker, and one for the filler.
 pub(crate) const ALL_PARTS: u64 = 9;

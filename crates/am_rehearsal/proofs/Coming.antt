@@ -1,12 +1,13 @@
 -- What comes next: what it is about is there, and where nothing comes, nothing is in flight.
 use Rattle.std.proofs.Common.{◌≡◌, ℕ, ◌+◌, ◌<◌, ◌≤◌, zero, suc, max, Bool, true, false, nat_le, nat_lt, IfSome, IsTrue, length, List, [], ◌∷◌, Option, Some, None, get_or, refl, subst, sym, ap, ◌∙◌, arith, add-zero, if◌then◌else◌, not, ◌&&◌, ◌||◌}
 use Rattle.std.specs.Prelude.{is_some, slice_get}
+use Rattle.std.specs.List.{list_any}
 use Rattle.std.specs.Option.{IsSomeAnd}
 use Rattle.std.proofs.lemmas.Bool.{false≢true, leb-true}
 use Rattle.std.proofs.lemmas.Bool.Decides.{nat_tests}
 use Rattle.std.proofs.lemmas.Option.{slice_get_within}
 use Rattle.am_rehearsal.specs.Simulations.{IsThere}
-use Rattle.am_rehearsal.specs.Next.{begin_due, begins_on, comes_by, earlier, in_time, next, next_at, next_begin, next_but_begins, next_end, next_end_of, next_finish, next_of_all, none_left, next_plan}
+use Rattle.am_rehearsal.specs.Next.{begin_due, begins_on, comes_by, earlier, in_time, next, next_at, next_begin, next_but_begins, next_end, next_end_of, next_finish, next_of_all, next_of_others, next_removal, none_left, next_plan, tick_after}
 use Rattle.am_rehearsal.specs.Scene.{Scene, SendingData, Setting}
 use Rattle.am_rehearsal.specs.declared.next.End.{End}
 use Rattle.am_rehearsal.specs.declared.next.Next.{Next}
@@ -14,6 +15,7 @@ use Rattle.am_rehearsal.specs.declared.next.Step.{Step}
 use Rattle.am_rehearsal.specs.declared.next.Step.TheVariants as step
 use Rattle.am_terms.specs.declared.rehearsal.TimedAction.{TimedAction}
 use Rattle.am_model.specs.Begin.{next_due}
+use Rattle.am_model.specs.Maintenance.{has_no_alerts}
 use Rattle.am_board.specs.History.{state_at}
 
 -- what holds of both holds of the earlier
@@ -102,14 +104,28 @@ module _ (r : Setting) (c : Scene) where
   unblocked_there false is =
       begin_there (next_due (state_at c.board)) (subst (λ (b : Bool). IsTrue (c.begins || not b)) (sym is) (free_begins c.begins))
 
-  but_begins_there : IfSome (next_but_begins r c) (IsThere r c)
-  but_begins_there =
+  -- what holds of each removal holds of the next
+  pub removal_keeps : (P : Next → Type 0) → ((at : ℕ) → P (next_at at step.Removal)) → IfSome (next_removal r c) P
+  removal_keeps P each = by (list_any has_no_alerts (state_at c.board).groups)
+    where
+      by : (empty : Bool) → IfSome (if empty then in_time r.until (tick_after r.span.since r.tick c.clock) step.Removal else None) P
+      by true = in_time_keeps P r.until (tick_after r.span.since r.tick c.clock) step.Removal (λ within. each (tick_after r.span.since r.tick c.clock))
+      by false = tt
+
+  removal_there : IfSome (next_removal r c) (IsThere r c)
+  removal_there = removal_keeps (IsThere r c) (λ at. tt)
+
+  others_there : IfSome (next_of_others r c) (IsThere r c)
+  others_there =
       let all : AreFrom 0 c.sendings = λ k s is. let e : k ≡ 0 + k = omega arith in subst (λ (n : ℕ). slice_get c.sendings n ≡ Some s) e is in
       earlier_keeps (IsThere r c) (earlier (next_end 0 c.sendings) (next_finish c.clock 0 c.sendings))
       (earlier (next_plan r.until c.plans) (in_time r.until c.maintenance step.Maintenance))
       (earlier_keeps (IsThere r c) (next_end 0 c.sendings) (next_finish c.clock 0 c.sendings) (sendings_there 0 c.sendings all) (finish_there 0 c.sendings all))
       (earlier_keeps (IsThere r c) (next_plan r.until c.plans) (in_time r.until c.maintenance step.Maintenance) (plan_there c.plans refl)
       (in_time_keeps (IsThere r c) r.until c.maintenance step.Maintenance (λ within. tt)))
+
+  but_begins_there : IfSome (next_but_begins r c) (IsThere r c)
+  but_begins_there = earlier_keeps (IsThere r c) (next_removal r c) (next_of_others r c) removal_there others_there
 
   of_all_there : IfSome (next_of_all r c) (IsThere r c)
   of_all_there = earlier_keeps (IsThere r c) (next_but_begins r c) (next_begin r c) but_begins_there (unblocked_there c.blocked refl)
@@ -142,9 +158,10 @@ module _ (r : Setting) (c : Scene) where
   of_all_none : next_of_all r c ≡ None → (c.sendings ≡ []) × (next_plan r.until c.plans ≡ None)
   of_all_none none =
       let but_begins = (earlier_none (next_but_begins r c) (next_begin r c) none).0 in
+      let others = (earlier_none (next_removal r c) (next_of_others r c) but_begins).1 in
       let both =
       earlier_none (earlier (next_end 0 c.sendings) (next_finish c.clock 0 c.sendings))
-      (earlier (next_plan r.until c.plans) (in_time r.until c.maintenance step.Maintenance)) but_begins
+      (earlier (next_plan r.until c.plans) (in_time r.until c.maintenance step.Maintenance)) others
       in
       let over = earlier_none (next_end 0 c.sendings) (next_finish c.clock 0 c.sendings) both.0 in (
         none_in_flight c.clock 0 c.sendings over.0 over.1,
@@ -198,6 +215,13 @@ module _ (r : Setting) (c : Scene) where
   pub due_begin : (due : Option ℕ) → c.blocked ≡ false → due ≡ next_due (state_at c.board) → begin_due r.until c.clock due ≡ next_begin r c
   due_begin due free is =
       ap (begin_due r.until c.clock) is ∙ sym (ap (λ (b : Bool). if b then None else begin_due r.until c.clock (next_due (state_at c.board))) free)
+
+  -- no removal comes where no group is empty, and else it comes at the next tick
+  pub no_removal : list_any has_no_alerts (state_at c.board).groups ≡ false → None ≡ next_removal r c
+  no_removal none = sym (ap (λ (b : Bool). if b then in_time r.until (tick_after r.span.since r.tick c.clock) step.Removal else None) none)
+
+  pub removal_at : list_any has_no_alerts (state_at c.board).groups ≡ true → in_time r.until (tick_after r.span.since r.tick c.clock) step.Removal ≡ next_removal r c
+  removal_at some = sym (ap (λ (b : Bool). if b then in_time r.until (tick_after r.span.since r.tick c.clock) step.Removal else None) some)
 
 -- the plan in front comes next
 pub front_plan : (until : ℕ) (ps : List TimedAction) (p : TimedAction) → 0 < length ps → p ≡ get_or ps 0 p → in_time until p.at step.Plan ≡ next_plan until ps

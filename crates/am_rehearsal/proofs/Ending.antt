@@ -21,7 +21,7 @@ use Rattle.am_model.specs.Records.{call_of_silence, entry}
 use Rattle.am_model.specs.Replay.{reply as reply_to}
 use Rattle.am_model.specs.State.{GroupState, State, time}
 use Rattle.am_model.specs.Ticket.{TicketData}
-use Rattle.am_model.specs.Maintenance.{maintained, silenced}
+use Rattle.am_model.specs.Maintenance.{empty_groups_removed, maintained, silenced}
 use Rattle.am_model.specs.declared.config.Config.{Config}
 use Rattle.am_model.specs.declared.config.Integration.{Integration}
 use Rattle.am_model.specs.declared.config.TheConstants.{MAX_INTEGRATIONS}
@@ -42,7 +42,7 @@ use Rattle.am_rehearsal.specs.Simulations.{IsAllowed, IsThereFor}
 use Rattle.am_rehearsal.specs.Next.{next}
 use Rattle.am_rehearsal.specs.Planned.{call_of, refuses}
 use Rattle.am_rehearsal.specs.Scene.{Scene, SendingData, Setting}
-use Rattle.am_rehearsal.specs.Steps.{IsBegun, IsDone, IsPlanDone, IsReplied, Steps, after_end, after_end_of, after_finish, after_maintenance, after_nothing, after_plan, after_taking, after_too_many, answers_for, is_success, with_call, with_note, with_report, with_sending}
+use Rattle.am_rehearsal.specs.Steps.{IsBegun, IsDone, IsPlanDone, IsReplied, Steps, after_end, after_end_of, after_finish, after_maintenance, after_nothing, after_plan, after_removal, after_taking, after_too_many, answers_for, is_success, with_call, with_note, with_report, with_sending}
 use Rattle.am_rehearsal.specs.Taking.{cause_of_none}
 use Rattle.am_rehearsal.specs.CauseOfFault.{own_cause}
 use Rattle.am_rehearsal.specs.declared.next.End.{End}
@@ -61,9 +61,9 @@ to_come s = length s.ends + 1
 abbrev pub in_flight : List SendingData → ℕ
 in_flight ss = sum_by to_come ss
 
--- a record that is left can be of a begin that opens a flush of eight notices; a finish lets begins come again
+-- a record that is left can be of a begin that opens a flush of 64 notices; a finish lets begins come again
 abbrev pub weigh : ℕ → ℕ → ℕ → ℕ → ℕ → ℕ
-weigh limit records flight comes goes = 20 * (limit - records) + 2 * flight + comes + goes
+weigh limit records flight comes goes = 132 * (limit - records) + 2 * flight + comes + goes
 
 -- how many calls a board accepted
 abbrev pub calls_of : BoardData → ℕ
@@ -79,7 +79,7 @@ falls_beside : (limit n m f g b d a e : ℕ) → n ≤ m → 2 * g + d + e < 2 *
 falls_beside limit n m f g b d a e more less = omega (arith, more, less)
 
 -- where there is a record more, and at most one flush more
-falls_recorded : (limit n m f g b d a e : ℕ) → n < limit → m ≡ n + 1 → 2 * g + d + e < 2 * f + b + a + 20 → weigh limit m g d e < weigh limit n f b a
+falls_recorded : (limit n m f g b d a e : ℕ) → n < limit → m ≡ n + 1 → 2 * g + d + e < 2 * f + b + a + 132 → weigh limit m g d e < weigh limit n f b a
 falls_recorded limit n m f g b d a e room one less = omega (arith, room, one, less)
 
 -- a call adds a record, or none
@@ -145,8 +145,9 @@ module _ (b : BoardData) where
         has_room 1 (omega arith) (unfull (is_full_for 1) fault.HistoryFull _ (no_cause (silence_cause b.config (records_at b) (state_at b) silence) taken))
     action_room at (Load row) taken = has_room 1 (omega arith) (load_unfull b at row taken)
 
-    maintain_room : (at : ℕ) → own_cause b at step.Maintenance ≡ None → HasRoom
-    maintain_room at none = has_room 1 (omega arith) (unfull (is_full_for 1) fault.HistoryFull None none)
+    -- so a maintenance does, and a removal, which has the same cause
+    upkeep_fits : (at : ℕ) → own_cause b at step.Maintenance ≡ None → HasRoom
+    upkeep_fits at none = has_room 1 (omega arith) (unfull (is_full_for 1) fault.HistoryFull None none)
 
     begin_room : (at : ℕ) → cause_of_none b at ≡ None → HasRoom
     begin_room at none = has_room 2 (omega arith) (unfull (is_full_for 2) fault.HistoryFull _ none)
@@ -177,7 +178,7 @@ module _ (config : Config) (id : ℕ) (s : State) (t : ℕ) (few : HaveFewIntegr
   few_taking None = omega arith
   few_taking (Some g) = few_notifying g (notified_of config s t g) (few_notified config s t g few)
 
-  -- a begin has at most eight notices
+  -- a begin has at most 64 notices
   few_notices : notices_in (begun config id s t) ≤ MAX_INTEGRATIONS
   few_notices = few_taking (taken s t)
 
@@ -273,8 +274,14 @@ module _ (r : Setting) (c d : Scene) (whole : c.board.handed ≡ []) where
   maintained_falls : (at : ℕ) → own_cause c.board at step.Maintenance ≡ None → IsDone r c at d step.Maintenance → Falls
   maintained_falls at none is =
       falls_to (after_maintenance r c at) is
-      (falls_recorded limit records _ flight flight comes comes goes goes (maintain_room c.board whole at none)
+      (falls_recorded limit records _ flight flight comes comes goes goes (upkeep_fits c.board whole at none)
       (called_adds c.board (call.Maintain at) (reply.Maintained (maintained (state_at c.board) (time (state_at c.board) at))) refl) (omega arith))
+
+  removed_falls : (at : ℕ) → own_cause c.board at step.Removal ≡ None → IsDone r c at d step.Removal → Falls
+  removed_falls at none is =
+      falls_to (after_removal c at) is
+      (falls_recorded limit records _ flight flight comes comes goes goes (upkeep_fits c.board whole at none)
+      (called_adds c.board (call.RemoveEmptyGroups at) (reply.EmptyGroupsRemoved (empty_groups_removed (state_at c.board))) refl) (omega arith))
 
   module _ (at : ℕ) (few : HaveFewIntegrations c.board.config) where
     abbrev taken_reply : Reply
@@ -298,10 +305,10 @@ module _ (r : Setting) (c d : Scene) (whole : c.board.handed ≡ []) where
         subst (λ (q : Reply). notices_in q ≤ MAX_INTEGRATIONS) returned (few_notices c.board.config c.board.id (state_at c.board) (time (state_at c.board) at) few)
         in
         let more : in_flight (c.sendings ++ s ∷ []) ≡ flight + (length s.ends + 1) = sum_by_push to_come c.sendings s in
-        let eight : MAX_INTEGRATIONS ≡ 8 = refl in
+        let greatest : MAX_INTEGRATIONS ≡ 64 = refl in
         falls_to (with_sending s taking) sent.4
         (falls_recorded limit records _ flight (in_flight (c.sendings ++ s ∷ [])) comes comes goes 1 room
-        (length_push c.board.history (entry 0 (call.Begin at) flush)) (omega (arith, count, most, more, eight)))
+        (length_push c.board.history (entry 0 (call.Begin at) flush)) (omega (arith, count, most, more, greatest)))
     replied (reply.Inserted inserted) returned room is = absurd is
     replied (reply.Silenced silenced) returned room is = absurd is
     replied (reply.Finished finished) returned room is = absurd is
@@ -328,6 +335,7 @@ module _ (r : Setting) (c d : Scene) (whole : c.board.handed ≡ []) where
     done_falls n (step.Finish position) there allowed done = finished position done
     done_falls n step.Plan there allowed done = acted c.plans done
     done_falls n step.Maintenance there allowed done = maintained_falls n.at allowed done
+    done_falls n step.Removal there allowed done = removed_falls n.at allowed done
     done_falls n step.Begin there allowed done = begun_by n.at few (cause_of_none c.board n.at) refl there.1 done
 
   -- fewer steps lead on from where the next step leads

@@ -45,11 +45,11 @@ pub config_refused : (fault : Option ConfigFault) (returned : BoardFault) → op
 config_refused None returned is = absurd (none-some returned is)
 config_refused (Some f) returned is = (sym (ap fault_of_board (same_Some (board.BadConfig f) returned is)), λ none. absurd (cc))
 
--- a maintenance that isn't done
-maintain_own : (full : Bool) (returned : Fault) → IsAnswer (if full then Some HistoryFull else None) returned
+-- a maintenance or a removal that isn't done
+upkeep_own : (full : Bool) (returned : Fault) → IsAnswer (if full then Some HistoryFull else None) returned
     → IsOwnFault (if full then Some HistoryFull else None) (fault_of_call returned)
-maintain_own true returned answer = subst (λ (f : Fault). IsOwnFault (Some HistoryFull) (fault_of_call f)) (sym answer) refl
-maintain_own false returned answer = subst (λ (f : Fault). IsOwnFault None (fault_of_call f)) (sym answer) tt
+upkeep_own true returned answer = subst (λ (f : Fault). IsOwnFault (Some HistoryFull) (fault_of_call f)) (sym answer) refl
+upkeep_own false returned answer = subst (λ (f : Fault). IsOwnFault None (fault_of_call f)) (sym answer) tt
 
 -- a begin that isn't done, and doesn't wait for a finish
 begin_own : (full many : Bool) (returned : Fault) → (returned ≡ TooManyOpen → ⊥)
@@ -70,7 +70,11 @@ begin_own full many returned other why =
 module _ (b : BoardData) (at : ℕ) (returned : Fault) (becomes : PlayFault) (is : becomes ≡ fault_of_call returned) where
   pub maintain_hindered : IsAnswer (own_cause b at step.Maintenance) returned → IsOwnFault (own_cause b at step.Maintenance) becomes
   maintain_hindered answer =
-      subst (IsOwnFault (own_cause b at step.Maintenance)) (sym is) (maintain_own (is_full b.config (records_at b) (state_at b) 1) returned answer)
+      subst (IsOwnFault (own_cause b at step.Maintenance)) (sym is) (upkeep_own (is_full b.config (records_at b) (state_at b) 1) returned answer)
+
+  pub removal_hindered : IsAnswer (own_cause b at step.Removal) returned → IsOwnFault (own_cause b at step.Removal) becomes
+  removal_hindered answer =
+      subst (IsOwnFault (own_cause b at step.Removal)) (sym is) (upkeep_own (is_full b.config (records_at b) (state_at b) 1) returned answer)
 
   pub begin_hindered : (returned ≡ TooManyOpen → ⊥) → (returned ≡ NoMemory) ⊎ (cause_of_none b at ≡ Some returned) → IsOwnFault (own_cause b at step.Begin) becomes
   begin_hindered other why =

@@ -112,6 +112,9 @@ module _ (r : Setting) where
     maintained : (at : ℕ) → IsDone r c at d step.Maintenance → Stays
     maintained at is = ap all_inputs is ∙ ap (λ (i : InputTrace). both i c.plans) (called_same c.board (call.Maintain at) refl)
 
+    removed : (at : ℕ) → IsDone r c at d step.Removal → Stays
+    removed at is = ap all_inputs is ∙ ap (λ (i : InputTrace). both i c.plans) (called_same c.board (call.RemoveEmptyGroups at) refl)
+
     -- a plan that is done is no longer left
     acted : (ps : List TimedAction) → c.plans ≡ ps → IsSomeAnd (slice_get ps 0) (λ p. p.at ≤ r.until) → IsPlanDone c d ps → Stays
     acted [] left there done = absurd done
@@ -154,6 +157,7 @@ module _ (r : Setting) where
     done_keeps n (step.Finish position) there done = finished position done
     done_keeps n step.Plan there done = acted c.plans refl there done
     done_keeps n step.Maintenance there done = maintained n.at done
+    done_keeps n step.Removal there done = removed n.at done
     done_keeps n step.Begin there done = begun_by n.at (cause_of_none c.board n.at) done
 
     step_keeps : Steps r c d → Stays

@@ -106,6 +106,7 @@ module _ (r : Setting) where
         both_some (slice_get c.sendings position) (λ s. d ≡ after_finish c position s) (λ s. e ≡ after_finish c position s) (d ≡ e) (λ (s : SendingData) v w. v ∙ sym w) a b
     done_once at step.Plan a b = planned_once c.plans a b
     done_once at step.Maintenance a b = a ∙ sym b
+    done_once at step.Removal a b = a ∙ sym b
     done_once at step.Begin a b = begun_once at (cause_of_none c.board at) a b
 
     -- from a scene one step leads to one scene

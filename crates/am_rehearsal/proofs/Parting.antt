@@ -15,6 +15,7 @@ use Rattle.am_rehearsal.specs.declared.playing.PartFault.{PartFault}
 use Rattle.am_rehearsal.specs.declared.playing.PlayedPart.{PlayedPart}
 use Rattle.am_terms.specs.declared.dispatcher_change.DispatcherChange.{DispatcherChange}
 use Rattle.am_terms.specs.declared.rehearsal.Outage.{Outage}
+use Rattle.am_terms.specs.declared.rehearsal.Upkeep.{Upkeep}
 
 -- these changes of the dispatcher led from the first part to these parts, and the part that is not cut yet
 abbrev pub ArePartsSoFar : PartData → List DispatcherChange → List PartData → PartData → Type 0
@@ -40,18 +41,18 @@ board_of_last before (x ∷ y ∷ ys) q is =
     let less : length (x ∷ y ∷ ys) - 1 ≡ suc (length (y ∷ ys) - 1) = omega arith in
     board_of_last (Some x.played.value.board) (y ∷ ys) q (sym (ap (slice_get (x ∷ y ∷ ys)) less) ∙ is)
 
-module _ (maintain : ℕ) (outages : List Outage) where
+module _ (upkeep : Upkeep) (outages : List Outage) where
   -- one played part more
   pub played_more : (before : Option BoardData) (parts : List PartData) (played : List PlayedPart) (p : PartData) (q : PlayedPart)
-      → ArePlayed maintain outages before parts played → PlaysPart maintain outages (last_board before played) p q
-      → ArePlayed maintain outages before (parts ++ p ∷ []) (played ++ q ∷ [])
+      → ArePlayed upkeep outages before parts played → PlaysPart upkeep outages (last_board before played) p q
+      → ArePlayed upkeep outages before (parts ++ p ∷ []) (played ++ q ∷ [])
   played_more before [] [] p q are plays = (plays, tt)
   played_more before [] (y ∷ ys) p q are plays = absurd are
   played_more before (x ∷ xs) [] p q are plays = absurd are
   played_more before (x ∷ xs) (y ∷ ys) p q are plays = (are.0, played_more (Some y.played.value.board) xs ys p q are.1 plays)
 
   -- as many parts run as there are
-  pub as_many : (before : Option BoardData) (parts : List PartData) (played : List PlayedPart) → ArePlayed maintain outages before parts played
+  pub as_many : (before : Option BoardData) (parts : List PartData) (played : List PlayedPart) → ArePlayed upkeep outages before parts played
       → length parts ≡ length played
   as_many before [] [] are = refl
   as_many before [] (y ∷ ys) are = absurd are
@@ -60,16 +61,16 @@ module _ (maintain : ℕ) (outages : List Outage) where
 
   -- why the part that comes next isn't played to its end is why these parts aren't
   pub stopped_at : (parts done : List PartData) (played : List PlayedPart) (p : PartData) (returned : PartFault) → done ≡ take (length done) parts
-      → (length done < length parts) × (p ≡ get_or parts (length done) p) → returned.part ≡ length played → ArePlayed maintain outages None done played
-      → IsCauseOfPartFault maintain outages (last_board None played) p returned.fault → IsCauseOfPartsFault maintain outages parts returned
+      → (length done < length parts) × (p ≡ get_or parts (length done) p) → returned.part ≡ length played → ArePlayed upkeep outages None done played
+      → IsCauseOfPartFault upkeep outages (last_board None played) p returned.fault → IsCauseOfPartsFault upkeep outages parts returned
   stopped_at parts done played p returned so_far turn at are why =
       let n : returned.part ≡ length done = at ∙ sym (as_many None done played are) in
       let first : done ≡ take returned.part parts = so_far ∙ ap (λ (k : ℕ). take k parts) (sym n) in
       let there : slice_get parts returned.part ≡ Some p = ap (slice_get parts) n ∙ slice_get_read parts (length parts) (length done) p refl turn.0 turn.1 in
       record {
         played = played;
-        before = subst (λ (ps : List PartData). ArePlayed maintain outages None ps played) first are;
-        stopped = subst (λ (o : Option PartData). IsSomeAnd o (λ x. IsCauseOfPartFault maintain outages (last_board None played) x returned.fault)) (sym there) why;
+        before = subst (λ (ps : List PartData). ArePlayed upkeep outages None ps played) first are;
+        stopped = subst (λ (o : Option PartData). IsSomeAnd o (λ x. IsCauseOfPartFault upkeep outages (last_board None played) x returned.fault)) (sym there) why;
       }
 
 -- by which rows one more of these rows is found again, and whether it is taken over

@@ -76,6 +76,7 @@ module _ (r : Setting) where
     done_leaves at (step.Finish position) done = finished position done
     done_leaves at step.Plan done = acted c.plans refl done
     done_leaves at step.Maintenance is = same_plans _ is refl
+    done_leaves at step.Removal is = same_plans _ is refl
     done_leaves at step.Begin done = begun_by at (cause_of_none c.board at) done
 
     step_leaves : Steps r c d → Leaves

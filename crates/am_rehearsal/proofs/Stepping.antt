@@ -16,7 +16,7 @@ use Rattle.am_rehearsal.specs.Next.{next}
 use Rattle.am_rehearsal.specs.Planned.{call_of}
 use Rattle.am_rehearsal.specs.Play.{Reaches}
 use Rattle.am_rehearsal.specs.Scene.{Scene, SendingData, Setting}
-use Rattle.am_rehearsal.specs.Steps.{IsDone, IsPlanDone, Steps, after_end, after_end_of, after_finish, after_maintenance, after_plan, is_success, sent_events, with_call, with_note, with_report}
+use Rattle.am_rehearsal.specs.Steps.{IsDone, IsPlanDone, Steps, after_end, after_end_of, after_finish, after_maintenance, after_plan, after_removal, is_success, sent_events, with_call, with_note, with_report}
 use Rattle.am_terms.specs.declared.event.Event.{Event}
 use Rattle.am_rehearsal.specs.declared.next.End.{End}
 use Rattle.am_rehearsal.specs.declared.next.Next.{Next}
@@ -141,3 +141,8 @@ plan_is c p ps b es board events = same_scene ps p.at c.maintenance c.begins c.b
 pub maintenance_is : (r : Setting) (c : Scene) (at next : ℕ) (b : BoardData) (es : List Event) → b ≡ with_call c.board (call.Maintain at) → es ≡ c.events
     → next ≡ later at r.maintain → scene_of b es c.plans c.sendings at next c.begins c.blocked ≡ after_maintenance r c at
 maintenance_is r c at next b es board events due = λ i. scene_of (board i) (events i) c.plans c.sendings at (due i) c.begins c.blocked
+
+-- empty groups are removed
+pub removal_is : (c : Scene) (at : ℕ) (b : BoardData) (es : List Event) → b ≡ with_call c.board (call.RemoveEmptyGroups at) → es ≡ c.events
+    → scene_of b es c.plans c.sendings at c.maintenance c.begins c.blocked ≡ after_removal c at
+removal_is c at b es board events = same_scene c.plans at c.maintenance c.begins c.blocked board events refl

@@ -4,7 +4,7 @@ use Rattle.std.specs.Option.{IsSomeAnd}
 use Rattle.am_model.specs.declared.config.Config.{Config}
 use Rattle.am_model.specs.declared.fault.Fault.{Fault}
 use Rattle.am_model.specs.declared.fault.Fault.TheVariants.{HistoryFull}
-use Rattle.am_model.specs.Causes.{maintain_cause}
+use Rattle.am_model.specs.Causes.{maintain_cause, removal_cause}
 use Rattle.am_model.specs.Config.{config_fault}
 use Rattle.am_board.specs.History.{BoardData, records_at, state_at}
 use Rattle.am_rehearsal.specs.Next.{next}
@@ -24,9 +24,10 @@ abbrev pub refuses_first : BoardData → List TimedAction → Bool
 refuses_first b [] = false
 refuses_first b (p ∷ ps) = refuses b p.at p.act
 
--- why a board refuses the maintenance or the begin that a step at a time is, if it is one and the board does
+-- why a board refuses the maintenance, the removal or the begin that a step at a time is, if it is one and the board does
 abbrev pub own_cause : BoardData → ℕ → Step → Option Fault
 own_cause b at step.Maintenance = maintain_cause b.config (records_at b) (state_at b)
+own_cause b at step.Removal = removal_cause b.config (records_at b) (state_at b)
 own_cause b at step.Begin = cause_of_none b at
 own_cause b at step.Plan = None
 own_cause b at (step.Finish position) = None
@@ -36,7 +37,7 @@ own_cause b at (step.End position index) = None
 abbrev pub IsPlanRefused : List TimedAction → ℕ → Scene → Next → Type 0
 IsPlanRefused plans k c n = (n.what ≡ step.Plan) × (c.plans ≡ drop k plans) × (refuses_first c.board c.plans ≡ true)
 
--- a maintenance or a begin comes next, and the history has no capacity for it
+-- a maintenance, a removal or a begin comes next, and the history has no capacity for it
 abbrev pub IsHistoryFull : Scene → Next → Type 0
 IsHistoryFull c n = own_cause c.board n.at n.what ≡ Some HistoryFull
 

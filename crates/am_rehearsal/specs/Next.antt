@@ -1,7 +1,10 @@
 -- Next: what comes next in a rehearsal.
-use Rattle.std.specs.Prelude.{ℕ, ◌+◌, ◌&&◌, max, Bool, true, false, nat_le, nat_lt, List, [], ◌∷◌, Option, Some, None, if◌then◌else◌}
+use Rattle.std.specs.Prelude.{ℕ, ◌+◌, ◌-◌, ◌%◌, ◌&&◌, max, Bool, true, false, nat_le, nat_lt, List, [], ◌∷◌, Option, Some, None, if◌then◌else◌}
+use Rattle.std.specs.List.{list_any}
 use Rattle.am_board.specs.History.{state_at}
 use Rattle.am_model.specs.Begin.{next_due}
+use Rattle.am_model.specs.Maintenance.{has_no_alerts}
+use Rattle.am_pool.specs.Sendings.{later}
 use Rattle.am_rehearsal.specs.Scene.{Scene, SendingData, Setting}
 use Rattle.am_rehearsal.specs.declared.next.End.{End}
 use Rattle.am_rehearsal.specs.declared.next.Next.{Next}
@@ -63,17 +66,31 @@ begin_due until now (Some due) = in_time until (max due now) step.Begin
 abbrev pub next_begin : Setting → Scene → Option Next
 next_begin r c = if c.blocked then None else begin_due r.until c.clock (next_due (state_at c.board))
 
--- what comes next besides begins: the end of a sending, a finish, a plan or a maintenance
-abbrev pub next_but_begins : Setting → Scene → Option Next
-next_but_begins r c =
+-- the first tick after now: ticks come at each multiple of the period after the dispatcher's start
+abbrev pub tick_after : ℕ → ℕ → ℕ → ℕ
+tick_after since period now = later now (period - (now - since) % period)
+
+-- the removal at the next tick, if some group has no alerts (dispatch.Dispatcher.run, whose ticks come each 30 seconds)
+abbrev pub next_removal : Setting → Scene → Option Next
+next_removal r c =
+    if list_any has_no_alerts (state_at c.board).groups
+    then in_time r.until (tick_after r.span.since r.tick c.clock) step.Removal else None
+
+-- what comes next besides removals and begins: the end of a sending, a finish, a plan or a maintenance
+abbrev pub next_of_others : Setting → Scene → Option Next
+next_of_others r c =
     earlier (earlier (next_end 0 c.sendings) (next_finish c.clock 0 c.sendings))
     (earlier (next_plan r.until c.plans) (in_time r.until c.maintenance step.Maintenance))
+
+-- what comes next besides begins
+abbrev pub next_but_begins : Setting → Scene → Option Next
+next_but_begins r c = earlier (next_removal r c) (next_of_others r c)
 
 -- another begin at once, where one has just taken a group and it isn't after the end
 abbrev pub begins_on : Setting → Scene → Bool
 begins_on r c = c.begins && nat_le c.clock r.until
 
--- the earliest of all; of one time ends come first, then finishes, plans, maintenance and begins
+-- the earliest of all; of one time a removal comes first, then ends, finishes, plans, maintenance and begins
 abbrev pub next_of_all : Setting → Scene → Option Next
 next_of_all r c = earlier (next_but_begins r c) (next_begin r c)
 

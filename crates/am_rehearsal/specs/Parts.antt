@@ -10,8 +10,8 @@ use Rattle.am_terms.specs.declared.dispatcher_change.Carryover.{Carryover}
 use Rattle.am_terms.specs.declared.dispatcher_change.Carryover.TheVariants.{Nothing}
 use Rattle.am_terms.specs.declared.rehearsal.TimedAction.{TimedAction}
 
--- what one dispatcher has of a rehearsal: its configuration, when it runs, the last time of its plans, maintenances and begins, its plans
--- without the loads of the log rows that it takes over, and what it keeps of the dispatcher before it
+-- what one dispatcher has of a rehearsal: its configuration, when it runs, the last time of its plans, maintenances, removals and begins,
+-- its plans without the loads of the log rows that it takes over, and what it keeps of the dispatcher before it
 pub record PartData : Type 0 where
   pub config : Config
   pub span : Span

@@ -34,7 +34,7 @@ whole = record { since = 0; cut = None }
 
 -- the setting of a rehearsal whose dispatcher runs in this span
 abbrev pub setting_in_span : Span → Rehearsal → Setting
-setting_in_span span rehearsal = setting_with rehearsal.until rehearsal.maintain rehearsal.outages.items span
+setting_in_span span rehearsal = setting_with rehearsal.until rehearsal.upkeep rehearsal.outages.items span
 
 -- the setting of a rehearsal
 abbrev pub setting_of : Rehearsal → Setting

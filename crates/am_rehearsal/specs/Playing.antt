@@ -23,6 +23,7 @@ use Rattle.am_terms.specs.declared.dispatcher_change.Carryover.{Carryover}
 use Rattle.am_terms.specs.declared.dispatcher_change.Carryover.TheVariants.{All, Log, Nothing}
 use Rattle.am_terms.specs.declared.rehearsal.Outage.{Outage}
 use Rattle.am_terms.specs.declared.rehearsal.TimedAction.{TimedAction}
+use Rattle.am_terms.specs.declared.rehearsal.Upkeep.{Upkeep}
 
 -- whether the log is kept
 abbrev pub carries_log : Carryover → Bool
@@ -59,23 +60,23 @@ taken_count carryover at config (Some b) = if carries_log carryover then count_b
 abbrev pub loaded_plans : Option BoardData → PartData → List TimedAction
 loaded_plans before p = loads p.span.since (taken_over p.carryover p.config before) ++ p.plans
 
--- what doesn't change in a part: its end and its span, the time between two maintenances, and the outages
-abbrev pub setting_of_part : ℕ → List Outage → PartData → Setting
-setting_of_part maintain outages p = setting_with p.until maintain outages p.span
+-- what doesn't change in a part: its end and its span, its upkeep and the outages
+abbrev pub setting_of_part : Upkeep → List Outage → PartData → Setting
+setting_of_part upkeep outages p = setting_with p.until upkeep outages p.span
 
 -- a part plays so after the board before it, and so many of that board's log rows were taken over
-pub record PlaysPart (maintain : ℕ) (outages : List Outage) (before : Option BoardData) (p : PartData) (q : PlayedPart) : Type 0 where
-  pub plays : PlaysTo (setting_of_part maintain outages p) p.config (loaded_plans before p) q.played.value.board q.played.value.events.items
+pub record PlaysPart (upkeep : Upkeep) (outages : List Outage) (before : Option BoardData) (p : PartData) (q : PlayedPart) : Type 0 where
+  pub plays : PlaysTo (setting_of_part upkeep outages p) p.config (loaded_plans before p) q.played.value.board q.played.value.events.items
   pub rows : q.rows ≡ length (rows_before before)
   pub taken : q.taken ≡ taken_count p.carryover p.span.since p.config before
 
 -- parts play so one after another: each after the board of the one before it, and the first after this board, if there is one
-abbrev pub ArePlayed : ℕ → List Outage → Option BoardData → List PartData → List PlayedPart → Type 0
-ArePlayed maintain outages before [] [] = Unit {0}
-ArePlayed maintain outages before [] (q ∷ qs) = ⊥
-ArePlayed maintain outages before (p ∷ ps) [] = ⊥
-ArePlayed maintain outages before (p ∷ ps) (q ∷ qs) =
-    PlaysPart maintain outages before p q × ArePlayed maintain outages (Some q.played.value.board) ps qs
+abbrev pub ArePlayed : Upkeep → List Outage → Option BoardData → List PartData → List PlayedPart → Type 0
+ArePlayed upkeep outages before [] [] = Unit {0}
+ArePlayed upkeep outages before [] (q ∷ qs) = ⊥
+ArePlayed upkeep outages before (p ∷ ps) [] = ⊥
+ArePlayed upkeep outages before (p ∷ ps) (q ∷ qs) =
+    PlaysPart upkeep outages before p q × ArePlayed upkeep outages (Some q.played.value.board) ps qs
 
 -- the board of the last of these played parts, or else this one
 abbrev pub last_board : Option BoardData → List PlayedPart → Option BoardData
@@ -83,9 +84,9 @@ last_board before [] = before
 last_board before (q ∷ qs) = last_board (Some q.played.value.board) qs
 
 -- these played parts, and one more: so this part plays after the last of them
-abbrev pub IsPlayedNext : ℕ → List Outage → PartData → List PlayedPart → List PlayedPart → Type 0
-IsPlayedNext maintain outages p played more =
-    (q : PlayedPart) × (more ≡ played ++ q ∷ []) × PlaysPart maintain outages (last_board None played) p q
+abbrev pub IsPlayedNext : Upkeep → List Outage → PartData → List PlayedPart → List PlayedPart → Type 0
+IsPlayedNext upkeep outages p played more =
+    (q : PlayedPart) × (more ≡ played ++ q ∷ []) × PlaysPart upkeep outages (last_board None played) p q
 
 -- why log rows aren't taken over: there was no memory, or no dispatcher may have the configuration
 abbrev pub IsTakeFault : Config → PlayFault → Type 0
@@ -95,11 +96,11 @@ IsTakeFault config (play.PlanRefused k) = ⊥
 IsTakeFault config play.Full = ⊥
 
 -- why a part isn't played to its end after the board before it
-abbrev pub IsCauseOfPartFault : ℕ → List Outage → Option BoardData → PartData → PlayFault → Type 0
-IsCauseOfPartFault maintain outages before p = IsCauseOfFault (setting_of_part maintain outages p) p.config (loaded_plans before p)
+abbrev pub IsCauseOfPartFault : Upkeep → List Outage → Option BoardData → PartData → PlayFault → Type 0
+IsCauseOfPartFault upkeep outages before p = IsCauseOfFault (setting_of_part upkeep outages p) p.config (loaded_plans before p)
 
 -- why parts aren't played to their ends: those before the part at this position play so, and after them that one isn't played to its end
-pub record IsCauseOfPartsFault (maintain : ℕ) (outages : List Outage) (parts : List PartData) (returned : PartFault) : Type 0 where
+pub record IsCauseOfPartsFault (upkeep : Upkeep) (outages : List Outage) (parts : List PartData) (returned : PartFault) : Type 0 where
   pub played : List PlayedPart
-  pub before : ArePlayed maintain outages None (take returned.part parts) played
-  pub stopped : IsSomeAnd (slice_get parts returned.part) (λ p. IsCauseOfPartFault maintain outages (last_board None played) p returned.fault)
+  pub before : ArePlayed upkeep outages None (take returned.part parts) played
+  pub stopped : IsSomeAnd (slice_get parts returned.part) (λ p. IsCauseOfPartFault upkeep outages (last_board None played) p returned.fault)

@@ -10,18 +10,21 @@ use Rattle.am_rehearsal.specs.declared.next.End.{End}
 use Rattle.am_rehearsal.specs.declared.span.Span.{Span}
 use Rattle.am_terms.specs.declared.rehearsal.Outage.{Outage}
 use Rattle.am_terms.specs.declared.rehearsal.TimedAction.{TimedAction}
+use Rattle.am_terms.specs.declared.rehearsal.Upkeep.{Upkeep}
 
--- what doesn't change in a rehearsal: its end, the time between two maintenances, its outages, and since when and up to which cut its
--- dispatcher runs
+-- what doesn't change in a rehearsal: its end, the time between two maintenances, that between two ticks, at which empty groups are
+-- removed, its outages, and since when and up to which cut its dispatcher runs
 pub record Setting : Type 0 where
   pub until : ℕ
   pub maintain : ℕ
+  pub tick : ℕ
   pub outages : List Outage
   pub span : Span
 
--- the setting with this end, this time between two maintenances, these outages and this span
-abbrev pub setting_with : ℕ → ℕ → List Outage → Span → Setting
-setting_with until maintain outages span = record { until = until; maintain = maintain; outages = outages; span = span }
+-- the setting with this end, this upkeep, these outages and this span
+abbrev pub setting_with : ℕ → Upkeep → List Outage → Span → Setting
+setting_with until upkeep outages span =
+    record { until = until; maintain = upkeep.maintain; tick = upkeep.remove_empty_groups; outages = outages; span = span }
 
 -- a flush whose notices are in flight: its ticket, which of the begins that took a group opened it, and the ends still to come, by index
 pub record SendingData : Type 0 where

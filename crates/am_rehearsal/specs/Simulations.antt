@@ -16,7 +16,7 @@ use Rattle.am_rehearsal.specs.declared.play.PlayFault.TheVariants as play
 
 -- what doesn't change in it
 abbrev pub setting_in : Simulation → Setting
-setting_in simulation = setting_with simulation.until simulation.maintain simulation.outages.now simulation.span
+setting_in simulation = setting_with simulation.until simulation.upkeep simulation.outages.now simulation.span
 
 -- how far it has come
 abbrev pub scene_in : Simulation → Scene
@@ -38,16 +38,18 @@ IsThereFor r c n (step.End position index) = IsSomeAnd (slice_get c.sendings pos
 IsThereFor r c n (step.Finish position) = position < length c.sendings
 IsThereFor r c n step.Plan = IsSomeAnd (slice_get c.plans 0) (λ p. p.at ≤ r.until)
 IsThereFor r c n step.Maintenance = Unit {0}
+IsThereFor r c n step.Removal = Unit {0}
 IsThereFor r c n step.Begin = (n.at ≤ r.until) × IsTrue (c.begins || not c.blocked)
 
 -- what a step is about is there
 abbrev pub IsThere : Setting → Scene → Next → Type 0
 IsThere r c n = IsThereFor r c n n.what
 
--- the board doesn't refuse a step of this kind, if it is a plan or a maintenance
+-- the board doesn't refuse a step of this kind, if it is a plan, a maintenance or a removal
 abbrev pub IsAllowed : Scene → Next → Step → Type 0
 IsAllowed c n step.Plan = refuses_first c.board c.plans ≡ false
 IsAllowed c n step.Maintenance = own_cause c.board n.at step.Maintenance ≡ None
+IsAllowed c n step.Removal = own_cause c.board n.at step.Removal ≡ None
 IsAllowed c n step.Begin = Unit {0}
 IsAllowed c n (step.Finish position) = Unit {0}
 IsAllowed c n (step.End position index) = Unit {0}
@@ -59,7 +61,7 @@ IsPlanFault refused k play.BadConfig = ⊥
 IsPlanFault refused k (play.PlanRefused position) = (position ≡ k) × (refused ≡ true)
 IsPlanFault refused k play.Full = ⊥
 
--- a maintenance or a begin isn't done for this fault, where this is the board's cause against it
+-- a maintenance, a removal or a begin isn't done for this fault, where this is the board's cause against it
 abbrev pub IsOwnFault : Option Fault → PlayFault → Type 0
 IsOwnFault cause play.NoMemory = Unit {0}
 IsOwnFault cause play.BadConfig = ⊥

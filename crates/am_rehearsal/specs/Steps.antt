@@ -93,6 +93,10 @@ after_plan c p ps = record c { board = with_call c.board (call_of p.at p.act); p
 abbrev pub after_maintenance : Setting → Scene → ℕ → Scene
 after_maintenance r c at = record c { board = with_call c.board (call.Maintain at); clock = at; maintenance = later at r.maintain }
 
+-- after a removal of empty groups
+abbrev pub after_removal : Scene → ℕ → Scene
+after_removal c at = record c { board = with_call c.board (call.RemoveEmptyGroups at); clock = at }
+
 -- after a begin that found no group due
 abbrev pub after_nothing : Scene → ℕ → Scene
 after_nothing c at = record c { board = with_record c.board (entry 0 (call.Begin at) reply.NothingDue); clock = at; begins = false }
@@ -175,6 +179,7 @@ IsDone r c at d (step.End position index) =
 IsDone r c at d (step.Finish position) = IsSomeAnd (slice_get c.sendings position) (λ s. d ≡ after_finish c position s)
 IsDone r c at d step.Plan = IsPlanDone c d c.plans
 IsDone r c at d step.Maintenance = d ≡ after_maintenance r c at
+IsDone r c at d step.Removal = d ≡ after_removal c at
 IsDone r c at d step.Begin =
     let s = state_at c.board in IsBegun r c at d (begin_cause c.board.config (records_at c.board) s (time s at))
 

@@ -13,7 +13,7 @@ pub fn limits_are()
 
 /// States that a rehearsal has one play.
 ///
-/// Its configuration, plans, end, time between maintenances and outages determine the board and the
+/// Its configuration, plans, end, upkeep and outages determine the board and the
 /// events to which it comes.
 pub fn rehearsals_have_one_play()
     ensures { RehearsalsHaveOnePlay }

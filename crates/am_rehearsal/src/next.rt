@@ -1,6 +1,6 @@
 //! What a rehearsal does next. `play` asks for it before each step.
-ghost use Rattle.std.specs.Prelude.{◌≡◌};
-ghost use Rattle.am_rehearsal.specs.Next.{comes_by, earlier, in_time};
+ghost use Rattle.std.specs.Prelude.{◌≡◌, ◌≤◌};
+ghost use Rattle.am_rehearsal.specs.Next.{comes_by, earlier, in_time, tick_after};
 
 use am_board::notice::Report;
 
@@ -14,6 +14,8 @@ pub(crate) struct Next {
 /// One thing that a rehearsal does.
 #[derive(Clone, Copy)]
 pub(crate) enum Step {
+    /// The empty groups are removed.
+    Removal,
     /// The sending of a notice ends: the flush at the first position, the end at the second.
     End(usize, usize),
     /// The flush at this position is finished.
@@ -62,6 +64,16 @@ pub(crate) fn in_time(until: u64, at: u64, what: Step) -> Option<Next>
     } else {
         None
     }
+}
+
+/// Returns the first tick after `now`, in milliseconds. Ticks come at each multiple of `period`
+/// after `since`, the start of the dispatcher.
+pub(crate) fn tick_after(since: u64, period: u64, now: u64) -> u64
+    requires { 1 ≤ period }
+    ensures { result ≡ tick_after since period now }
+{
+    let past = now.saturating_sub(since) % period;
+    now.saturating_add(period - past)
 }
 
 /// Returns whether a step comes by a time.

@@ -20,7 +20,7 @@ use std::marker::Model;
 pub struct Part {
     pub config: Config,
     pub span: Span,
-    /// The last time of its plans, maintenances and begins.
+    /// The last time of its plans, maintenances, removals and begins.
     pub until: u64,
     /// Its plans, without the loads of the log rows that it takes over.
     pub plans: Vec<TimedAction>,

@@ -1,10 +1,14 @@
 //! The clock of a rehearsal. `am_rehearse` calls `play`.
 //!
-//! A rehearsal goes step by step: `next` says what comes next, `step` does it. A step is the end of
-//! the sending of a notice, the finish of a flush, a planned action, a maintenance or a begin. The
-//! earliest comes first, and of one time in this order, so a begin sees everything of its time. A
-//! begin that took a group is followed by another at once. All steps but the ends of failed
-//! sendings are calls of a board: this module decides only when they are made.
+//! A rehearsal goes step by step: `next` says what comes next, `step` does it. A step is a removal of
+//! empty groups, the end of the sending of a notice, the finish of a flush, a planned action, a
+//! maintenance or a begin. The earliest comes first, and of one time in this order, so a begin sees
+//! everything of its time. A begin that took a group is followed by another at once. All steps but the
+//! ends of failed sendings are calls of a board: this module decides only when they are made.
+//!
+//! Empty groups are removed at ticks, which come at each multiple of `remove_empty_groups` after the
+//! dispatcher's start. A tick at which no group is empty is no step, and makes no record. A tick comes
+//! first of its time: a group that is emptied then stays until the next one.
 //!
 //! Answers of outages depend on the time alone. So the notices of a flush are sent by `deliver` as
 //! soon as it is begun, and their reports wait until the clock comes to their ends. When as many
@@ -20,7 +24,7 @@ ghost use Rattle.am_model.specs.Replay.{IsLegal};
 ghost use Rattle.am_rehearsal.specs.Simulations.{scene_in, setting_in, IsAllowed, IsHindered, IsOwnFault, IsPlanFault, IsStopped};
 ghost use Rattle.am_rehearsal.specs.EventOrder.{begin_indices};
 ghost use Rattle.am_rehearsal.specs.Faults.{fault_of_call};
-ghost use Rattle.am_rehearsal.specs.Next.{begins_on, next, next_but_begins, next_begin, next_plan};
+ghost use Rattle.am_rehearsal.specs.Next.{begins_on, next, next_but_begins, next_begin, next_plan, next_removal};
 ghost use Rattle.am_rehearsal.specs.Planned.{inputs_in, planned, refuses};
 ghost use Rattle.am_rehearsal.specs.Play.{setting_in_span, setting_of, PlaysTo, Reaches};
 ghost use Rattle.am_rehearsal.specs.Previews.{previews_of};
@@ -34,7 +38,7 @@ ghost use Rattle.am_rehearsal.specs.declared.next.Step.TheVariants as step;
 use crate::acting::ActFault;
 use crate::flights::Flights;
 use crate::limits::BOARD_ID;
-use crate::next::{Next, Step, comes_by, earlier, in_time};
+use crate::next::{Next, Step, comes_by, earlier, in_time, tick_after};
 use crate::previewing::PreviewingBoard;
 use crate::sending::{Sending, ends_of};
 use crate::span::Span;
@@ -46,7 +50,7 @@ use am_board::own_ticket::OwnTicket;
 use am_board::record::Record;
 use am_seed::Seed;
 use am_terms::event::{Event, PreviewedBegin};
-use am_terms::rehearsal::{Outage, Rehearsal, TimedAction};
+use am_terms::rehearsal::{Outage, Rehearsal, TimedAction, Upkeep};
 use am_terms::watch::Watch;
 use std::alloc::{AllocError, Global};
 use std::collections::VecDeque;
@@ -87,7 +91,7 @@ pub enum PlayFault {
     /// The board refuses the planned action at this position: at a limit of the configuration, or a
     /// log row that doesn't fit.
     PlanRefused(usize),
-    /// The history has no capacity for the begins or maintenances until then.
+    /// The history has no capacity for the begins, maintenances or removals until then.
     Full,
 }
 
@@ -107,7 +111,8 @@ pub enum PlayFault {
 /// - `BadConfig`: no board takes the configuration.
 /// - `PlanRefused`: the planned action at this position comes next, and the board refuses it: at a
 ///   limit, or a log row that doesn't fit.
-/// - `Full`: a begin or a maintenance comes next, and the history has no capacity for it.
+/// - `Full`: a begin, a maintenance or a removal of empty groups comes next, and the history has no
+///   capacity for it.
 /// - `NoMemory`.
 ///
 /// Cost: its board calls, with a preview for each begin, and at each event the notices of one flush.
@@ -133,9 +138,9 @@ pub fn play<W: Watch>(
 
 /// Runs the part of a rehearsal that one dispatcher has, to its end. It starts with an empty board.
 ///
-/// The clock starts at `span.since`, and the first maintenance comes its time after that. An attempt
-/// that would end after `span.cut` fails at the cut, without another try. No attempt begins from the
-/// cut on. All else is as in `play`, with the same clauses.
+/// The clock starts at `span.since`, and the first maintenance and the first tick come their time
+/// after that. An attempt that would end after `span.cut` fails at the cut, without another try. No
+/// attempt begins from the cut on. All else is as in `play`, with the same clauses.
 ///
 /// # Errors
 ///
@@ -161,7 +166,7 @@ pub fn play_span<W: Watch>(
     let Rehearsal {
         config,
         until,
-        maintain,
+        upkeep,
         plans,
         outages,
     } = rehearsal;
@@ -170,7 +175,7 @@ pub fn play_span<W: Watch>(
         seed,
         config,
         until,
-        maintain,
+        upkeep,
         plans,
         outages.as_slice(),
         span,
@@ -185,7 +190,7 @@ pub(crate) fn play_pieces<W: Watch>(
     seed: Seed,
     config: Config,
     until: u64,
-    maintain: u64,
+    upkeep: Upkeep,
     plans: Vec<TimedAction>,
     outages: &[Outage],
     span: Span,
@@ -193,11 +198,11 @@ pub(crate) fn play_pieces<W: Watch>(
 ) -> Result<Played, PlayFault>
     requires until { until ≤ MAX_UNTIL }
     ensures played { IfOk result (λ played.
-        PlaysTo (setting_with until maintain outages.now span) config plans.items played.board played.events.items) }
-    ensures refused { IfErr result (IsCauseOfFault (setting_with until maintain outages.now span) config plans.items) }
+        PlaysTo (setting_with until upkeep outages.now span) config plans.items played.board played.events.items) }
+    ensures refused { IfErr result (IsCauseOfFault (setting_with until upkeep outages.now span) config plans.items) }
 {
     let mut simulation = Simulation::open(
-        alloc, seed, config, until, maintain, plans, outages, span,
+        alloc, seed, config, until, upkeep, plans, outages, span,
     )?;
     match simulation.run(watch) {
         Ok(()) => Ok(simulation.into_played()?),
@@ -214,9 +219,9 @@ struct Simulation<'o> {
     seed: Seed,
     board: PreviewingBoard,
     outages: &'o [Outage],
-    /// The last time of plans, maintenances and begins.
+    /// The last time of plans, maintenances, removals and begins.
     until: u64,
-    maintain: u64,
+    upkeep: Upkeep,
     span: Span,
     /// How many actions were planned.
     count: usize,
@@ -239,14 +244,14 @@ impl<'o> Simulation<'o> {
         seed: Seed,
         config: Config,
         until: u64,
-        maintain: u64,
+        upkeep: Upkeep,
         plans: Vec<TimedAction>,
         outages: &'o [Outage],
         span: Span,
     ) -> Result<Simulation<'o>, PlayFault>
-        ensures setting { IfOk result (λ simulation. setting_in simulation ≡ setting_with until maintain outages.now span) }
+        ensures setting { IfOk result (λ simulation. setting_in simulation ≡ setting_with until upkeep outages.now span) }
         ensures scene { IfOk result (λ simulation.
-            scene_in simulation ≡ opening_scene (setting_with until maintain outages.now span) config plans.items) }
+            scene_in simulation ≡ opening_scene (setting_with until upkeep outages.now span) config plans.items) }
         ensures counted { IfOk result (λ simulation. simulation.count ≡ length plans.items) }
         ensures faultless { OnOk result (config_fault config ≡ None) }
         ensures refused { IfErr result (λ fault. (fault ≡ PlayFault.BadConfig) × (config_fault config ≢ None)) }
@@ -257,13 +262,13 @@ impl<'o> Simulation<'o> {
             board: PreviewingBoard::new(alloc, seed, config)?,
             outages,
             until,
-            maintain,
+            upkeep,
             span,
             count: plans.len(),
             plans: VecDeque::from_vec(plans),
             sendings: Flights::new(alloc),
             clock: span.since,
-            next_maintenance: span.since.saturating_add(maintain),
+            next_maintenance: span.since.saturating_add(upkeep.maintain),
             is_beginning: false,
             is_blocked: false,
         })
@@ -322,7 +327,19 @@ impl<'o> Simulation<'o> {
             self.sendings.next_finish(self.clock),
         );
         let maintenance = in_time(self.until, self.next_maintenance, Step::Maintenance);
-        earlier(over, earlier(self.next_plan(), maintenance))
+        let others = earlier(over, earlier(self.next_plan(), maintenance));
+        earlier(self.next_removal(), others)
+    }
+
+    /// Returns the removal at the next tick, if some group is empty.
+    fn next_removal(&self) -> Option<Next>
+        ensures { result ≡ next_removal (setting_in self.now) (scene_in self.now) }
+    {
+        if !self.board.has_empty_groups() {
+            return None;
+        }
+        let tick = tick_after(self.span.since, self.upkeep.remove_empty_groups, self.clock);
+        in_time(self.until, tick, Step::Removal)
     }
 
     fn next_plan(&self) -> Option<Next>
@@ -368,6 +385,7 @@ impl<'o> Simulation<'o> {
                 Some(plan) => self.act(plan),
             },
             Step::Maintenance => self.make_maintenance(coming.at),
+            Step::Removal => self.remove_empty_groups(coming.at),
             Step::Begin => self.begin(coming.at),
         }
     }
@@ -434,8 +452,22 @@ impl<'o> Simulation<'o> {
         ensures hindered { IfErr result (IsOwnFault (own_cause self.old.board.board at step.Maintenance)) }
     {
         self.clock = at;
-        self.next_maintenance = at.saturating_add(self.maintain);
+        self.next_maintenance = at.saturating_add(self.upkeep.maintain);
         match self.board.maintain(self.alloc, at) {
+            Ok(()) => Ok(()),
+            Err(fault) => Err(full_or_memory(fault)),
+        }
+    }
+
+    fn remove_empty_groups(&mut self, at: u64) -> Result<(), PlayFault>
+        ensures same { setting_in self.new ≡ setting_in self.old }
+        ensures counted { self.new.count ≡ self.old.count }
+        ensures done { OnOk result (IsDone (setting_in self.old) (scene_in self.old) at (scene_in self.new) step.Removal) }
+        ensures allowed { OnOk result (own_cause self.old.board.board at step.Removal ≡ None) }
+        ensures hindered { IfErr result (IsOwnFault (own_cause self.old.board.board at step.Removal)) }
+    {
+        self.clock = at;
+        match self.board.remove_empty_groups(self.alloc, at) {
             Ok(()) => Ok(()),
             Err(fault) => Err(full_or_memory(fault)),
         }
@@ -535,7 +567,7 @@ impl<'o> Simulation<'o> {
             board,
             outages: _,
             until: _,
-            maintain: _,
+            upkeep: _,
             span: _,
             count: _,
             plans: _,

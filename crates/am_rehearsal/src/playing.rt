@@ -25,7 +25,7 @@ use am_model::rekey::{Rekeying, is_led_to};
 use am_model::views::RowView;
 use am_seed::Seed;
 use am_terms::dispatcher_change::Carryover;
-use am_terms::rehearsal::{Outage, TimedAction};
+use am_terms::rehearsal::{Outage, TimedAction, Upkeep};
 use am_terms::watch::Watch;
 use std::alloc::{AllocError, Global};
 
@@ -49,7 +49,7 @@ pub struct PartFault {
 
 /// Runs the parts of a rehearsal to their ends, one after another.
 ///
-/// `maintain` is the time between two maintenances, in milliseconds. Each part runs as by
+/// `upkeep` says how often each dispatcher removes what is over. Each part runs as by
 /// `play_span`. Before its own plans come loads of the log rows that it takes over of the board
 /// before it, if it keeps the log (`am_model::rekey`). `watch` is called at each step.
 ///
@@ -65,16 +65,16 @@ pub fn play_parts<W: Watch>(
     alloc: Global,
     seed: Seed,
     parts: Vec<Part>,
-    maintain: u64,
+    upkeep: Upkeep,
     outages: &[Outage],
     watch: &mut W,
 ) -> Result<Vec<PlayedPart>, PartFault>
-    ensures played { IfOk result (λ played. ArePlayed maintain outages.now None parts.items played.items) }
-    ensures refused { IfErr result (IsCauseOfPartsFault maintain outages.now parts.items) }
+    ensures played { IfOk result (λ played. ArePlayed upkeep outages.now None parts.items played.items) }
+    ensures refused { IfErr result (IsCauseOfPartsFault upkeep outages.now parts.items) }
 {
     let mut played = Vec::new(alloc);
     for part in parts {
-        match play_next(alloc, seed, part, maintain, outages, &mut played, watch) {
+        match play_next(alloc, seed, part, upkeep, outages, &mut played, watch) {
             Ok(()) => {}
             Err(fault) => {
                 return Err(PartFault {
@@ -92,18 +92,18 @@ fn play_next<W: Watch>(
     alloc: Global,
     seed: Seed,
     part: Part,
-    maintain: u64,
+    upkeep: Upkeep,
     outages: &[Outage],
     played: &mut Vec<PlayedPart>,
     watch: &mut W,
 ) -> Result<(), PlayFault>
-    ensures added { OnOk result (IsPlayedNext maintain outages.now part played.old.items played.new.items) }
+    ensures added { OnOk result (IsPlayedNext upkeep outages.now part played.old.items played.new.items) }
     ensures kept { OnErr result (played.new.items ≡ played.old.items) }
-    ensures refused { IfErr result (IsCauseOfPartFault maintain outages.now (last_board None played.old.items) part) }
+    ensures refused { IfErr result (IsCauseOfPartFault upkeep outages.now (last_board None played.old.items) part) }
 {
     played.reserve(1)?;
     let before = last_board(played.as_slice());
-    let next = play_part(alloc, seed, before, part, maintain, outages, watch)?;
+    let next = play_part(alloc, seed, before, part, upkeep, outages, watch)?;
     played.push_reserved(next);
     Ok(())
 }
@@ -124,12 +124,12 @@ fn play_part<W: Watch>(
     seed: Seed,
     before: Option<&Board>,
     part: Part,
-    maintain: u64,
+    upkeep: Upkeep,
     outages: &[Outage],
     watch: &mut W,
 ) -> Result<PlayedPart, PlayFault>
-    ensures played { IfOk result (PlaysPart maintain outages.now (option_copied before.entry) part) }
-    ensures refused { IfErr result (IsCauseOfPartFault maintain outages.now (option_copied before.entry) part) }
+    ensures played { IfOk result (PlaysPart upkeep outages.now (option_copied before.entry) part) }
+    ensures refused { IfErr result (IsCauseOfPartFault upkeep outages.now (option_copied before.entry) part) }
 {
     let Part {
         config,
@@ -142,7 +142,7 @@ fn play_part<W: Watch>(
     let mut plans = loads(alloc, span.since, log.found)?;
     plans.append(&mut own)?;
     let played = play_boxed(
-        alloc, seed, config, until, maintain, plans, outages, span, watch,
+        alloc, seed, config, until, upkeep, plans, outages, span, watch,
     )?;
     Ok(PlayedPart {
         played,
@@ -157,19 +157,19 @@ fn play_boxed<W: Watch>(
     seed: Seed,
     config: Config,
     until: u64,
-    maintain: u64,
+    upkeep: Upkeep,
     plans: Vec<TimedAction>,
     outages: &[Outage],
     span: Span,
     watch: &mut W,
 ) -> Result<Box<Played>, PlayFault>
     requires until { until ≤ MAX_UNTIL }
-    ensures played { IfOk result (λ played. PlaysTo (setting_with until maintain outages.now span) config plans.items
+    ensures played { IfOk result (λ played. PlaysTo (setting_with until upkeep outages.now span) config plans.items
         played.value.board played.value.events.items) }
-    ensures refused { IfErr result (IsCauseOfFault (setting_with until maintain outages.now span) config plans.items) }
+    ensures refused { IfErr result (IsCauseOfFault (setting_with until upkeep outages.now span) config plans.items) }
 {
     let played = play_pieces(
-        alloc, seed, config, until, maintain, plans, outages, span, watch,
+        alloc, seed, config, until, upkeep, plans, outages, span, watch,
     )?;
     match Box::new(alloc, played) {
         Ok(played) => Ok(played),

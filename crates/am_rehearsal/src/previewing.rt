@@ -4,13 +4,14 @@
 //! that the definitions give for its history (`Previews`). Each of these begins is once among the
 //! events, in order (`EventOrder`). Its board hands nothing out, so it keeps its whole history.
 ghost use Rattle.std.specs.Prelude.{◌≡◌, ◌≤◌, ◌+◌, ◌++◌, ◌∷◌, ◌⊎◌, [], Some, None, IfOk, IfErr, OnOk, OnErr, length, vec_len, vec_capacity};
-ghost use Rattle.std.specs.List.{range_with_len};
+ghost use Rattle.std.specs.List.{list_any, range_with_len};
 ghost use Rattle.std.specs.Option.{option_map};
 ghost use Rattle.am_board.specs.History.{records_at, opening, reply_of, state_at, IsFresh};
 ghost use Rattle.am_board.specs.Step.{IsCaused, IsLoadCaused};
 ghost use Rattle.am_model.specs.Begin.{next_due};
-ghost use Rattle.am_model.specs.Causes.{insert_cause, load_cause, maintain_cause, silence_cause};
+ghost use Rattle.am_model.specs.Causes.{insert_cause, load_cause, maintain_cause, removal_cause, silence_cause};
 ghost use Rattle.am_model.specs.Config.{config_fault};
+ghost use Rattle.am_model.specs.Maintenance.{has_no_alerts};
 ghost use Rattle.am_model.specs.Records.{call_of_silence};
 ghost use Rattle.am_model.specs.State.{time};
 ghost use Rattle.am_model.specs.declared.record.Call.TheVariants as call;
@@ -183,6 +184,24 @@ impl PreviewingBoard {
     {
         let _maintained = self.board.maintain(alloc, PASS, now)?;
         Ok(())
+    }
+
+    pub(crate) fn remove_empty_groups(&mut self, alloc: Global, now: u64) -> Result<(), Fault>
+        ensures input_trace { input_trace self.new.board ≡ input_trace self.old.board }
+        ensures called { IfOk result (λ _. self.new.board ≡ with_call self.old.board (call.RemoveEmptyGroups now)) }
+        ensures events { self.new.events ≡ self.old.events }
+        ensures cause { IsCaused
+            (removal_cause self.old.board.config (records_at self.old.board) (state_at self.old.board)) result }
+    {
+        let _removed = self.board.remove_empty_groups(alloc, PASS, now)?;
+        Ok(())
+    }
+
+    /// Returns whether some group has no alerts.
+    pub(crate) fn has_empty_groups(&self) -> bool
+        ensures { result ≡ list_any has_no_alerts (state_at self.now.board).groups }
+    {
+        self.board.has_empty_groups()
     }
 
     /// Keeps that the sending of a notice came to its end, whose flush was opened by the begin at this

@@ -1,11 +1,10 @@
 -- Refusals that are handed on, and what they exclude.
-use Rattle.std.proofs.Common.{◌≡◌, ◌≢◌, ◌∙◌, ◌⊎◌, inl, inr, ℕ, zero, suc, List, [], ◌∷◌, Option, Some, None, Result, Ok, Err, MatchOption, ap, map, slice_get}
+use Rattle.std.proofs.Common.{◌≡◌, inl, inr, ℕ, zero, suc, List, [], ◌∷◌, Option, Some, None, Result, Ok, Err, MatchOption, ap, map, slice_get}
 use Rattle.std.proofs.Common.{refl, subst, sym, true, codes}
 use Rattle.std.specs.Prelude.{IfErr, IsSomeAnd, IsTrue}
 use Rattle.std.specs.Result.{IsErrAnd}
 use Rattle.serde_json.specs.Data.{Data, Members}
 use Rattle.serde_json.specs.Find.{as_object, get_member}
-use Rattle.serde_json.specs.Read.{read as read_text}
 use Rattle.am_cli.specs.Configured.{DecodesToConfig}
 use Rattle.am_cli.specs.Read.{IsRefusedBy}
 use Rattle.am_cli.specs.declared.fault.FaultKind.TheVariants.{Full}
@@ -16,7 +15,7 @@ use Rattle.am_cli.specs.declared.faults.Refusal.TheVariants as refusal
 use Rattle.am_cli.specs.declared.reader.Mode.{Mode}
 use Rattle.am_cli.specs.declared.reader.Mode.TheVariants.{Strict}
 use Rattle.am_input.specs.Configured.{IsConfigFor, IsConfigIn, IsConfigOf, IsReadOfTheirs, file_in, form_in}
-use Rattle.am_input.specs.Request.{IsRequestWithoutRegexes, IsWithoutRegexes, RefusesAll, Requests}
+use Rattle.am_input.specs.Request.{IsRequestIn, IsRequestWithoutRegexes, RefusesAll, Requests}
 use Rattle.am_input.specs.declared.form.Form.{Form}
 use Rattle.am_input.specs.declared.form.Form.TheVariants.{Story, Own, Alertmanager}
 use Rattle.am_input.specs.declared.input.Changes.{Changes}
@@ -33,14 +32,8 @@ use Rattle.am_rehearsal.specs.declared.play.PlayFault.{PlayFault}
 use Rattle.am_rehearsal.specs.declared.play.PlayFault.TheVariants as play
 use Rattle.am_terms.specs.declared.dispatcher_change.DispatcherChange.{DispatcherChange}
 use Rattle.am_terms.specs.declared.rehearsal.Rehearsal.{Rehearsal}
-use Rattle.am_yaml.specs.Document.{IsReadAs, Refuses as RefusesText}
-use Rattle.am_yaml.specs.declared.document.DocumentFault.{DocumentFault}
-use Rattle.am_yaml.specs.declared.document.DocumentFault.TheVariants as document
-use Rattle.am_rehearse.proofs.NoDispatcherChanges.{no_others}
-use Rattle.am_rehearse.specs.Faults.{AreSound, IsCauseOfPlayFault, Refuses, RefusesPlay, fault_of_document, fault_of_input, fault_of_refusal}
-use Rattle.am_rehearse.specs.Faults.{is_limit, leaves_out}
-use Rattle.am_rehearse.specs.Printed.{IsRequestBy, is_page}
-use Rattle.am_rehearse.specs.declared.output_options.OutputOptions.{OutputOptions}
+use Rattle.am_rehearse.specs.Faults.{AreSound, IsCauseOfPlayFault, Refuses, RefusesPlay, fault_of_input, fault_of_refusal}
+use Rattle.am_rehearse.specs.Faults.{is_limit}
 
 -- what is so of a fault is so of it where it is handed on
 pub passed : {T E : Type 0} (P : E → Type 0) (result : Result T E) (fault : E) → IsErrAnd result (λ f. f ≡ fault) → P fault → IfErr result P
@@ -71,7 +64,7 @@ no_faulty rehearsal dispatcher_changes k sound why =
     first = whole_part rehearsal.config rehearsal.until rehearsal.plans.items
 
     by : (o : Option PartData) → slice_get (parts_from first dispatcher_changes) k ≡ o
-        → IsSomeAnd o (λ p. IsCauseOfPartFault rehearsal.maintain rehearsal.outages.items (last_board None why.played) p play.BadConfig) → ⊥
+        → IsSomeAnd o (λ p. IsCauseOfPartFault rehearsal.upkeep rehearsal.outages.items (last_board None why.played) p play.BadConfig) → ⊥
     by None is bad = absurd bad
     by (Some q) is bad = bad (sound_at first dispatcher_changes sound k q is)
 
@@ -94,7 +87,7 @@ sound_by : (theirs own : Option Data) (mode : Mode) (config : Config)
     → config_fault config ≡ None
 sound_by None None mode config decoded = absurd decoded
 sound_by None (Some value) mode config decoded = decoded.sound
-sound_by (Some value) own mode config decoded = decoded.1
+sound_by (Some value) own mode config decoded = decoded.1.sound
 
 sound_in : (mode : Mode) (members : Members) (config : Config) → IsConfigIn mode members config → config_fault config ≡ None
 sound_in mode members config decoded =
@@ -107,7 +100,7 @@ sound_story (Some members) config decoded = sound_in Strict members config decod
 sound_of : (form : Form) (value : Data) (config : Config) → IsConfigOf form value config → config_fault config ≡ None
 sound_of Story value config decoded = sound_story (as_object value) config decoded
 sound_of Own value config decoded = decoded.sound
-sound_of Alertmanager value config decoded = decoded
+sound_of Alertmanager value config decoded = decoded.sound
 
 -- a configuration that is given has no fault
 sound_for : (file : Option Data) (mode : Mode) (members : Members) (config : Config) → IsConfigFor file mode members config
@@ -146,80 +139,23 @@ sound changes story (Some members) decoded = (
   sound_later (file_in changes) Strict members None decoded.hands_over.items story.dispatcher_changes.items decoded.hands_over.are,
 )
 
--- of two rehearsals that are asked for the outputs are the same
-one_output : (changes : Changes) (story other : Input) (object : Option Members)
-    → IsSomeAnd object (λ members. Requests Strict changes members story.output story.start story.expectations.items story.dispatcher_changes.items story.rehearsal)
-    → IsSomeAnd object (λ members. Requests Strict changes members other.output other.start other.expectations.items other.dispatcher_changes.items other.rehearsal
-    × IsWithoutRegexes Strict changes members other.dispatcher_changes.items other.rehearsal) → story.output ≡ other.output
-one_output changes story other None decoded also = absurd decoded
-one_output changes story other (Some members) decoded also = same_some decoded.decodes also.0.decodes
-
--- and where the one has no reloads and no restarts, the other has none
-none_too : (changes : Changes) (story other : Input) (object : Option Members)
-    → IsSomeAnd object (λ members. Requests Strict changes members story.output story.start story.expectations.items story.dispatcher_changes.items story.rehearsal)
-    → IsSomeAnd object (λ members. Requests Strict changes members other.output other.start other.expectations.items other.dispatcher_changes.items other.rehearsal
-    × IsWithoutRegexes Strict changes members other.dispatcher_changes.items other.rehearsal) → other.dispatcher_changes.items ≡ [] → story.dispatcher_changes.items ≡ []
-none_too changes story other None decoded also none = absurd decoded
-none_too changes story other (Some members) decoded also none =
-    no_others Strict (file_in changes) other.rehearsal.until story.rehearsal.until members story.dispatcher_changes.items
-    (subst (λ (hs : List DispatcherChange). AreDispatcherChangesIn Strict (file_in changes) other.rehearsal.until members hs) none also.0.hands_over)
-    decoded.hands_over
-
--- what a text says is given by the value that it is read as
-as_read : (text : List ℕ) (value : Data) (P : Data → Type 0) → IsReadAs text value → IsSomeAnd (read_text text) P → P value
-as_read text value P is decoded = by (read_text text) is decoded
-  where
-    by : (o : Option Data) → MatchOption o (Unit {0}) (λ d. d ≡ value) → IsSomeAnd o P → P value
-    by None is decoded = absurd decoded
-    by (Some d) is decoded = subst P is decoded
-
 -- ---- what is refused
 
 -- a value that is refused asks for nothing that can be played
-pub unread : (changes : Changes) (options : OutputOptions) (text : List ℕ) (value : Data) (refused : Refusal) → IsReadAs text value
+pub unread : (changes : Changes) (value : Data) (refused : Refusal)
     → RefusesAll (λ (story : Input). IsRequestWithoutRegexes changes value story.output story.start story.expectations.items story.dispatcher_changes.items story.rehearsal) refused
-    → Refuses changes options text (fault_of_refusal refused)
-unread changes options text value (refusal.One (input.Refused pointer by)) is none =
-    inl (λ story decoded. none refl story
-    (as_read text value (λ v. IsRequestWithoutRegexes changes v story.output story.start story.expectations.items story.dispatcher_changes.items story.rehearsal) is decoded.requested))
-unread changes options text value (refusal.One input.NoMemory) is none = tt
-unread changes options text value (refusal.All faults) is none =
-    λ story decoded. none story
-    (as_read text value (λ v. IsRequestWithoutRegexes changes v story.output story.start story.expectations.items story.dispatcher_changes.items story.rehearsal) is decoded.requested)
-
--- bytes that aren't read are no JSON text
-pub untold : (changes : Changes) (options : OutputOptions) (text : List ℕ) (fault : DocumentFault) → RefusesText text fault
-    → Refuses changes options text (fault_of_document fault)
-untold changes options text (document.NotText line column) none = none
-untold changes options text (document.NotJson line column) none = none
-untold changes options text (document.NotYaml fault) none = none
-untold changes options text document.NoMemory none = tt
-
--- a page of which lines are to be left out isn't made, nor one of several dispatchers
-pub unshown : (changes : Changes) (options : OutputOptions) (text : List ℕ) (story : Input) (fault : InputFault)
-    → IsRequestBy changes text story.output story.start story.expectations.items story.dispatcher_changes.items story.rehearsal
-    → (is_page story.output ≡ true) × ((leaves_out options ≡ true) ⊎ (story.dispatcher_changes.items ≢ [])) → Refuses changes options text (fault_of_input fault)
-unshown changes options text story input.NoMemory decoded left = tt
-unshown changes options text story (input.Refused pointer by) decoded left =
-    inl (λ other requested.
-    let object = as_object decoded.0 in
-    let theirs =
-    as_read text decoded.0 (λ v. IsRequestWithoutRegexes changes v other.output other.start other.expectations.items other.dispatcher_changes.items other.rehearsal) decoded.1 requested.requested in
-    let same = one_output changes story other object decoded.2 theirs in
-    let whole = requested.whole (ap is_page (sym same) ∙ left.0) in
-    either left.1 (λ some. cc (whole.0, some)) (λ many. many (none_too changes story other object decoded.2 theirs whole.1)))
-  where
-    either : {A B : Type 0} → A ⊎ B → (A → ⊥) → (B → ⊥) → ⊥
-    either (inl a) not_a not_b = not_a a
-    either (inr b) not_a not_b = not_b b
+    → Refuses changes value (fault_of_refusal refused)
+unread changes value (refusal.One (input.Refused pointer by)) none = inl (none refl)
+unread changes value (refusal.One input.NoMemory) none = tt
+unread changes value (refusal.All faults) none = none
 
 -- a rehearsal that was read and isn't played to its end
-pub unended : (changes : Changes) (options : OutputOptions) (text : List ℕ) (story : Input) (fault : InputFault)
-    → IsRequestBy changes text story.output story.start story.expectations.items story.dispatcher_changes.items story.rehearsal → RefusesPlay story.rehearsal story.dispatcher_changes.items fault
-    → Refuses changes options text (fault_of_input fault)
-unended changes options text story input.NoMemory decoded refused = tt
-unended changes options text story (input.Refused pointer by) decoded refused =
-    let full = refused (sound changes story (as_object decoded.0) decoded.2) in
+pub unended : (changes : Changes) (value : Data) (story : Input) (fault : InputFault)
+    → IsRequestIn changes value story.output story.start story.expectations.items story.dispatcher_changes.items story.rehearsal → RefusesPlay story.rehearsal story.dispatcher_changes.items fault
+    → Refuses changes value (fault_of_input fault)
+unended changes value story input.NoMemory decoded refused = tt
+unended changes value story (input.Refused pointer by) decoded refused =
+    let full = refused (sound changes story (as_object value) decoded) in
     inr (
       full.0,
       record {

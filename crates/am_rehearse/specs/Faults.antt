@@ -1,18 +1,13 @@
 -- Faults: how a rehearsal ends without its output, or with an expectation that isn't met.
-use Rattle.std.specs.Prelude.{◌≡◌, ◌||◌, ◌⊎◌, ℕ, Bool, true, false, not, List, [], Option, None, IsSomeAnd, IsTrue}
+use Rattle.std.specs.Prelude.{◌≡◌, ◌⊎◌, ℕ, Bool, true, false, List, [], Option, None, IsTrue}
 use Rattle.std.specs.List.{AllByRecursion}
-use Rattle.serde_json.specs.Read.{read as read_text}
+use Rattle.serde_json.specs.Data.{Data}
 use Rattle.am_cli.specs.declared.fault.FaultKind.TheVariants.{Full}
 use Rattle.am_cli.specs.declared.fault.InputFault.{InputFault}
 use Rattle.am_cli.specs.declared.fault.InputFault.TheVariants as input
-use Rattle.am_yaml.specs.Document.{IsNoJson}
-use Rattle.am_yaml.specs.declared.document.DocumentFault.{DocumentFault}
-use Rattle.am_yaml.specs.declared.document.DocumentFault.TheVariants as document
-use Rattle.am_cli.specs.declared.transfer.ReadFault.{ReadFault}
-use Rattle.am_cli.specs.declared.transfer.ReadFault.TheVariants as read
 use Rattle.am_cli.specs.declared.faults.Refusal.{Refusal}
 use Rattle.am_cli.specs.declared.faults.Refusal.TheVariants as refusal
-use Rattle.am_input.specs.Request.{IsRequestWithoutRegexes}
+use Rattle.am_input.specs.Request.{IsRequestIn, IsRequestWithoutRegexes}
 use Rattle.am_input.specs.declared.input.Changes.{Changes}
 use Rattle.am_input.specs.declared.input.Input.{Input}
 use Rattle.am_input.specs.declared.input.Output.{Output}
@@ -28,18 +23,8 @@ use Rattle.am_terms.specs.declared.expectation.Expectation.{Expectation}
 use Rattle.am_terms.specs.declared.dispatcher_change.DispatcherChange.{DispatcherChange}
 use Rattle.am_terms.specs.declared.rehearsal.Rehearsal.{Rehearsal}
 use Rattle.am_terms.specs.UtcDates.{StartData}
-use Rattle.am_timeline.specs.Filtered.{names_nothing}
-use Rattle.am_rehearse.specs.Printed.{IsRequestBy, is_page}
 use Rattle.am_rehearse.specs.declared.fault.RehearseFault.{RehearseFault}
 use Rattle.am_rehearse.specs.declared.fault.RehearseFault.TheVariants as rehearse
-use Rattle.am_rehearse.specs.declared.output_options.OutputOptions.{OutputOptions}
-
--- why an input's text isn't read
-abbrev pub fault_of_document : DocumentFault → RehearseFault
-fault_of_document (document.NotText line column) = rehearse.NotRead (document.NotText line column)
-fault_of_document (document.NotJson line column) = rehearse.NotRead (document.NotJson line column)
-fault_of_document (document.NotYaml fault) = rehearse.NotRead (document.NotYaml fault)
-fault_of_document document.NoMemory = rehearse.NoMemory
 
 -- a fault of what it says is the program's of the same name
 abbrev pub fault_of_input : InputFault → RehearseFault
@@ -51,36 +36,23 @@ abbrev pub fault_of_refusal : Refusal → RehearseFault
 fault_of_refusal (refusal.One fault) = fault_of_input fault
 fault_of_refusal (refusal.All faults) = rehearse.AllRefused faults
 
--- and so is one of reading it
-abbrev pub fault_of_read : ReadFault → RehearseFault
-fault_of_read read.Unreadable = rehearse.Unreadable
-fault_of_read read.NoMemory = rehearse.NoMemory
-
--- 1 is for the input, 2 for what is in it, 3 for memory, 4 for the output and 5 for what was expected
+-- 2 is for what is in the input, 3 for memory, 4 for the output and 5 for what was expected
 abbrev pub status_of : RehearseFault → ℕ
-status_of rehearse.Unreadable = 1
-status_of (rehearse.NotRead fault) = 2
 status_of (rehearse.Refused pointer fault_kind) = 2
 status_of (rehearse.AllRefused faults) = 2
 status_of rehearse.NoMemory = 3
 status_of rehearse.Unwritable = 4
 status_of rehearse.Unmet = 5
 
--- whether lines can be left out of what is printed
-abbrev pub leaves_out : OutputOptions → Bool
-leaves_out options = options.changes || not (names_nothing options.filter)
+-- a value with its configuration in `config` asks for this, and it isn't refused: no file is given for the configuration, and no matcher
+-- needs a regex
+abbrev pub IsPlayable : Changes → Data → Input → Type 0
+IsPlayable changes value story =
+    IsRequestWithoutRegexes changes value story.output story.start story.expectations.items story.dispatcher_changes.items story.rehearsal
 
--- as a JSON text with its configuration in `config`, these bytes ask for this, and it isn't refused: no file is given for the
--- configuration, no matcher needs a regex, and a page leaves no line out and has one dispatcher
-pub record IsPlayable (changes : Changes) (options : OutputOptions) (text : List ℕ) (story : Input) : Type 0 where
-  pub requested : IsSomeAnd (read_text text)
-      (λ value. IsRequestWithoutRegexes changes value story.output story.start story.expectations.items
-      story.dispatcher_changes.items story.rehearsal)
-  pub whole : is_page story.output ≡ true → (leaves_out options ≡ false) × (story.dispatcher_changes.items ≡ [])
-
--- they ask for nothing of that kind
-abbrev pub RequestsNone : Changes → OutputOptions → List ℕ → Type 0
-RequestsNone changes options text = (story : Input) → IsPlayable changes options text story → ⊥
+-- it asks for nothing of that kind
+abbrev pub RequestsNone : Changes → Data → Type 0
+RequestsNone changes value = (story : Input) → IsPlayable changes value story → ⊥
 
 -- whether a limit leaves no capacity
 abbrev pub is_limit : PlayFault → Bool
@@ -92,21 +64,21 @@ is_limit play.Full = true
 -- why a rehearsal with these changes of the dispatcher isn't played to its end
 abbrev pub IsCauseOfPlayFault : Rehearsal → List DispatcherChange → PartFault → Type 0
 IsCauseOfPlayFault rehearsal dispatcher_changes why =
-    IsCauseOfPartsFault rehearsal.maintain rehearsal.outages.items
+    IsCauseOfPartsFault rehearsal.upkeep rehearsal.outages.items
     (parts_from (whole_part rehearsal.config rehearsal.until rehearsal.plans.items) dispatcher_changes) why
 
 -- a limit leaves no capacity for what happens in a rehearsal, or a log row that a new dispatcher takes over doesn't fit
 abbrev pub IsTooLarge : Rehearsal → List DispatcherChange → Type 0
 IsTooLarge rehearsal dispatcher_changes = (why : PartFault) × IsTrue (is_limit why.fault) × IsCauseOfPlayFault rehearsal dispatcher_changes why
 
--- these bytes ask for such a rehearsal
-pub record RequestsTooMuch (changes : Changes) (text : List ℕ) : Type 0 where
+-- a value asks for such a rehearsal
+pub record RequestsTooMuch (changes : Changes) (value : Data) : Type 0 where
   pub output : Output
   pub start : Option StartData
   pub expectations : List Expectation
   pub dispatcher_changes : List DispatcherChange
   pub rehearsal : Rehearsal
-  pub requested : IsRequestBy changes text output start expectations dispatcher_changes rehearsal
+  pub requested : IsRequestIn changes value output start expectations dispatcher_changes rehearsal
   pub too_large : IsTooLarge rehearsal dispatcher_changes
 
 -- a dispatcher may have each of these configurations
@@ -119,14 +91,12 @@ RefusesPlay rehearsal dispatcher_changes (input.Refused pointer fault_kind) =
     AreSound (configs_of rehearsal.config dispatcher_changes) → (fault_kind ≡ Full) × IsTooLarge rehearsal dispatcher_changes
 RefusesPlay rehearsal dispatcher_changes input.NoMemory = Unit {0}
 
--- an input is refused as not read only where it is no JSON text. It is refused at a pointer, or for many faults, only where it asks for
--- nothing that can be played, or where a limit leaves no capacity for the rehearsal that it asks for, which is refused as full
-abbrev pub Refuses : Changes → OutputOptions → List ℕ → RehearseFault → Type 0
-Refuses changes options text rehearse.Unreadable = ⊥
-Refuses changes options text (rehearse.NotRead fault) = IsNoJson text
-Refuses changes options text (rehearse.Refused pointer fault_kind) =
-    RequestsNone changes options text ⊎ ((fault_kind ≡ Full) × RequestsTooMuch changes text)
-Refuses changes options text (rehearse.AllRefused faults) = RequestsNone changes options text
-Refuses changes options text rehearse.NoMemory = Unit {0}
-Refuses changes options text rehearse.Unwritable = ⊥
-Refuses changes options text rehearse.Unmet = ⊥
+-- a value is refused at a pointer, or for many faults, only where it asks for nothing that can be played, or where a limit leaves no
+-- capacity for the rehearsal that it asks for, which is refused as full
+abbrev pub Refuses : Changes → Data → RehearseFault → Type 0
+Refuses changes value (rehearse.Refused pointer fault_kind) =
+    RequestsNone changes value ⊎ ((fault_kind ≡ Full) × RequestsTooMuch changes value)
+Refuses changes value (rehearse.AllRefused faults) = RequestsNone changes value
+Refuses changes value rehearse.NoMemory = Unit {0}
+Refuses changes value rehearse.Unwritable = ⊥
+Refuses changes value rehearse.Unmet = ⊥

@@ -4,7 +4,6 @@ use Rattle.std.specs.Prelude.{if◌then◌else◌}
 use Rattle.std.specs.List.{AllByRecursion, list_all}
 use Rattle.serde_json.specs.Data.{Data}
 use Rattle.am_model.specs.Replay.{IsLegal}
-use Rattle.am_yaml.specs.Document.{IsReadAs}
 use Rattle.am_rehearsal.specs.Parts.{parts_from, whole_part}
 use Rattle.am_rehearsal.specs.Playing.{ArePlayed}
 use Rattle.am_rehearsal.specs.declared.limits.TheConstants.{BOARD_ID}
@@ -39,10 +38,6 @@ abbrev pub expectations_section : List PlaybackData → TimeFormatData → List 
 expectations_section playbacks times expectations =
     if length expectations == 0 then [] else codes "\n" ++ expectations_text playbacks times 0 expectations
 
--- what is below the lines of one dispatcher: the table, and the alerts that nobody was notified of
-abbrev pub summary : PlaybackData → TimeFormatData → List ℕ
-summary playback times = table_text playback times ++ undelivered_text playback times
-
 -- whether an output is a page
 abbrev pub is_page : Output → Bool
 is_page Timeline = false
@@ -70,12 +65,12 @@ selected options playback times =
 abbrev pub has_lines : OutputOptions → PlaybackData → Bool
 has_lines options playback = not (length (filtered playback options.filter).events == 0)
 
--- what an output has of one dispatcher: the short timeline or the full one with what is below it, the notices alone, with those that
+-- what an output has of one dispatcher: the short timeline or the full one with the table below it, the notices alone, with those that
 -- failed or without, or the lines as JSON. The lines are those of the rehearsal that is shown, and what is below them is that of the whole
 -- one
 abbrev pub shown_text : Output → PlaybackData → PlaybackData → TimeFormatData → List ℕ
-shown_text Timeline shown playback times = short_timeline_text shown times ++ summary playback times
-shown_text Full shown playback times = timeline_text shown times ++ summary playback times
+shown_text Timeline shown playback times = short_timeline_text shown times ++ table_text playback times
+shown_text Full shown playback times = timeline_text shown times ++ table_text playback times
 shown_text Notices shown playback times = notices_text true shown times
 shown_text Delivered shown playback times = notices_text false shown times
 shown_text Json shown playback times = json_text shown times
@@ -100,10 +95,10 @@ abbrev pub all_lines : Output → OutputOptions → TimeFormatData → List Head
 all_lines output options times heads [] = []
 all_lines output options times heads (p ∷ ps) = part_text output options times p ++ later_lines output options times heads ps
 
--- what is at the end: what became of the expectations
+-- what is at the end: the spans of firing that an integration missed, and what became of the expectations
 abbrev pub end_text : Output → List PlaybackData → TimeFormatData → List Expectation → List ℕ
 end_text output playbacks times expectations =
-    if has_summary output then expectations_section playbacks times expectations else []
+    if has_summary output then undelivered_text playbacks times ++ expectations_section playbacks times expectations else []
 
 -- the text is this output of these dispatchers, one after another. Of the page nothing is said
 abbrev pub IsPrinted : Output → OutputOptions → List Head → List PlaybackData → TimeFormatData → List Expectation → List ℕ → Type 0
@@ -141,7 +136,7 @@ pub record IsOutputOf (changes : List Change) (played : List PlayedPart) (output
 -- these dispatchers are those to which a rehearsal with these changes of the dispatcher plays, one after another
 abbrev pub PlaysThrough : Rehearsal → List DispatcherChange → List PlayedPart → Type 0
 PlaysThrough rehearsal dispatcher_changes played =
-    ArePlayed rehearsal.maintain rehearsal.outages.items None
+    ArePlayed rehearsal.upkeep rehearsal.outages.items None
     (parts_from (whole_part rehearsal.config rehearsal.until rehearsal.plans.items) dispatcher_changes) played
 
 -- the text is this output of what a rehearsal with these changes of the dispatcher plays to
@@ -151,27 +146,19 @@ pub record IsOutputOfRun (rehearsal : Rehearsal) (dispatcher_changes : List Disp
   pub plays : PlaysThrough rehearsal dispatcher_changes played
   pub tale : IsOutputOf (map change_of dispatcher_changes) played output options times expectations met text
 
--- these bytes are read as a value that asks for this, which is that of a JSON text where they are one
-abbrev pub IsRequestBy : Changes → List ℕ → Output → Option StartData → List Expectation → List DispatcherChange → Rehearsal → Type 0
-IsRequestBy changes input output start expectations dispatcher_changes rehearsal =
-    (value : Data) × IsReadAs input value × IsRequestIn changes value output start expectations dispatcher_changes rehearsal
-
--- the text is the output that these bytes ask for, of a rehearsal with the end and the maintenance that they ask for, by the times and
--- the expectations that they ask for, with the reloads and restarts that they say
-pub record IsOutputFor (changes : Changes) (options : OutputOptions) (input : List ℕ) (met : Bool) (text : List ℕ) : Type 0 where
+-- the text is the output that a value asks for, of a rehearsal with the end and the maintenance that it asks for, by the times and
+-- the expectations that it asks for, with the reloads and restarts that it says
+pub record IsOutputFor (changes : Changes) (options : OutputOptions) (value : Data) (met : Bool) (text : List ℕ) : Type 0 where
   pub output : Output
   pub start : Option StartData
   pub expectations : List Expectation
   pub dispatcher_changes : List DispatcherChange
   pub rehearsal : Rehearsal
-  pub requested : IsRequestBy changes input output start expectations dispatcher_changes rehearsal
+  pub requested : IsRequestIn changes value output start expectations dispatcher_changes rehearsal
   pub tale : IsOutputOfRun rehearsal dispatcher_changes output options (times_from start) expectations met text
 
--- of bytes that were given before and now, and of bytes that were taken before and now: what was taken since is the output that those that
--- were given since ask for
-pub record WritesOutput (changes : Changes) (options : OutputOptions) (met : Bool) (given_before given taken_before taken : List ℕ) : Type 0 where
-  pub input : List ℕ
+-- of bytes that were taken before and now: what was taken since is the output that a value asks for
+pub record WritesOutput (changes : Changes) (options : OutputOptions) (met : Bool) (value : Data) (taken_before taken : List ℕ) : Type 0 where
   pub text : List ℕ
-  pub given_is : given ≡ given_before ++ input
-  pub printed : IsOutputFor changes options input met text
+  pub printed : IsOutputFor changes options value met text
   pub taken_is : taken ≡ taken_before ++ text

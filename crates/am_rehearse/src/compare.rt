@@ -1,29 +1,30 @@
 //! `am-rehearse compare`: simulates a story under two configurations, and prints what differs.
-use crate::play::until_of;
+use crate::head::{Change, changes_of};
+use crate::play_options::until_of;
 use crate::render::logbook_of;
-use crate::run::play_alone;
-use am_cli::fault::{FaultKind, InputFault};
+use crate::run::play_or_refuse;
+use am_cli::fault::InputFault;
 use am_cli::faults::Refusal;
-use am_cli::pointer::JsonPointer;
 use am_command::exit_status::ExitStatus;
 use am_command::request::CompareRequest;
 use am_commands::faults::accept;
 use am_commands::given::given_to;
 use am_commands::ignored::say_ignored;
 use am_commands::once::accept_inputs;
+use am_commands::reload_files::read_reload_files;
 use am_commands::system_zones::SystemZones;
+use am_commands::wrapped::read_configuration;
 use am_config::dropped::IgnoredSettings;
 use am_console::console::{Console, Document};
 use am_console::progress::Progress;
 use am_input::faults::ReceiversOf;
 use am_input::input::{Changes, Input, Overrides, read_input};
 use am_input::zone_files::ZoneFiles;
-use am_rehearsal::play::Played;
 use am_rehearsal::playing::PlayedPart;
 use am_seed::Seed;
-use am_terms::clock::Elapsed;
+use am_terms::clock::{Elapsed, TimeFormat, push_column};
 use am_terms::dated::UtcDates;
-use am_terms::dispatcher_change::{Carryover, DispatcherChange};
+use am_terms::dispatcher_change::Carryover;
 use am_terms::watch::Watch;
 use am_timeline::comparison::{Comparison, compare_notices};
 use am_timeline::playback::Playback;
@@ -34,7 +35,10 @@ use std::time::Clock;
 /// A story that ran.
 #[derive(Drop)]
 struct PlayedStory {
-    part: PlayedPart,
+    /// Of each dispatcher what it did.
+    parts: Vec<PlayedPart>,
+    /// When the dispatchers change.
+    changes: Vec<Change>,
     /// The time of the start, if the story says it.
     start: Option<UtcDates>,
     /// What of the configuration is ignored.
@@ -64,7 +68,8 @@ fn try_compare<R: Files + Eprint + AllocGlobal + Clock>(
         until: until_of(rt, request.until)?,
     };
     accept_inputs(rt, &[request.old, request.new, request.story])?;
-    let story = console.read(rt, request.story)?;
+    let mut story = console.read(rt, request.story)?;
+    read_reload_files(rt, console, &mut story, overrides)?;
     let compared = compared(rt, seed, console, &story, request, overrides)?;
     Ok(print(rt, console, &compared, request.exit_code))
 }
@@ -112,7 +117,7 @@ fn played_under<R: Files + Eprint + AllocGlobal + Clock>(
     path: &str,
     overrides: Overrides,
 ) -> Result<PlayedStory, ExitStatus> {
-    let config = console.read(rt, path)?;
+    let config = read_configuration(rt, console, path)?;
     accept_under(rt, console, story, &config, overrides)?;
     let changes = Changes {
         config: Some(&config.value),
@@ -186,53 +191,76 @@ fn play_input<W: Watch>(
         output: _,
         dropped,
     } = input;
-    check_dispatcher_changes(alloc, dispatcher_changes.as_slice())?;
-    let part = play_alone(alloc, seed, rehearsal, origins.as_slice(), watch)?;
+    let changes = changes_of(alloc, dispatcher_changes.as_slice())?;
+    let origins = origins.as_slice();
+    let parts = play_or_refuse(alloc, seed, rehearsal, dispatcher_changes, origins, watch)?;
     Ok(PlayedStory {
-        part,
+        parts,
+        changes,
         start,
         ignored: dropped,
     })
 }
 
-/// Refuses a story that reloads or restarts the dispatcher.
-fn check_dispatcher_changes(
-    alloc: Global,
-    dispatcher_changes: &[DispatcherChange],
-) -> Result<(), InputFault> {
-    let name = match dispatcher_changes.first() {
-        None => return Ok(()),
-        Some(dispatcher_change) if dispatcher_change.carryover == Carryover::All => "reload",
-        Some(_) => "restart",
-    };
-    Err(
-        JsonPointer::Root
-            .member(name)
-            .refuse(alloc, FaultKind::BadValue),
-    )
-}
-
+/// Compares what each dispatcher of a story did with what it did under the other configuration. Between two dispatchers is a line on
+/// their change.
 fn compare_played(
     alloc: Global,
     old: &PlayedStory,
     new: &PlayedStory,
 ) -> Result<Comparison, AllocError> {
-    let log = logbook_of(alloc, &old.part.played)?;
-    let playback = Playback::new(&log, old.part.played.events.as_slice());
-    compare_with(alloc, &playback, &old.start, &new.part.played)
+    let mut text = String::new(alloc);
+    let mut differs = false;
+    for (index, (old_part, new_part)) in old.parts.iter().zip(new.parts.as_slice()).enumerate() {
+        let before = index.checked_sub(1);
+        if let Some(change) = before.and_then(|before| old.changes.get(before)) {
+            push_change_at(&old.start, change, &mut text)?;
+        }
+        let compared = compare_parts(alloc, old_part, new_part, &old.start)?;
+        text.push_str(compared.text.as_str())?;
+        differs = differs || compared.differs;
+    }
+    Ok(Comparison { text, differs })
 }
 
-/// Compares a playback with a story that ran, with dates if its start is given.
-fn compare_with(
+/// Compares what a dispatcher did under two configurations, with dates if the story's start is given.
+fn compare_parts(
     alloc: Global,
-    old: &Playback<'_>,
+    old: &PlayedPart,
+    new: &PlayedPart,
     start: &Option<UtcDates>,
-    new: &Played,
 ) -> Result<Comparison, AllocError> {
-    let log = logbook_of(alloc, new)?;
-    let playback = Playback::new(&log, new.events.as_slice());
+    let old_log = logbook_of(alloc, &old.played)?;
+    let new_log = logbook_of(alloc, &new.played)?;
+    let old = Playback::new(&old_log, old.played.events.as_slice());
+    let new = Playback::new(&new_log, new.played.events.as_slice());
     match start {
-        None => compare_notices(alloc, old, &playback, &Elapsed),
-        Some(start) => compare_notices(alloc, old, &playback, start),
+        None => compare_notices(alloc, &old, &new, &Elapsed),
+        Some(start) => compare_notices(alloc, &old, &new, start),
     }
+}
+
+/// Adds the line on a change of dispatchers, with a date if the story's start is given.
+fn push_change_at(
+    start: &Option<UtcDates>,
+    change: &Change,
+    text: &mut String,
+) -> Result<(), AllocError> {
+    match start {
+        None => push_change(&Elapsed, change, text),
+        Some(start) => push_change(start, change, text),
+    }
+}
+
+fn push_change<C: TimeFormat>(
+    clock: &C,
+    change: &Change,
+    text: &mut String,
+) -> Result<(), AllocError> {
+    text.push('\n')?;
+    push_column(clock, change.at, text)?;
+    text.push_str(match change.carryover {
+        Carryover::All => "reload\n\n",
+        Carryover::Log | Carryover::Nothing => "restart\n\n",
+    })
 }

@@ -2,22 +2,13 @@
 //! its status.
 use am_cli::fault::{FaultKind, InputFault};
 use am_cli::faults::{Faults, Refusal};
-use am_cli::transfer::{ReadFault, Unwritable};
+use am_cli::transfer::Unwritable;
 use am_command::exit_status::ExitStatus;
-use am_yaml::document::DocumentFault;
 use thiserror::Error;
 
 /// Why the program ends with a status that isn't 0.
 #[derive(Debug, Drop, Error)]
 pub enum RehearseFault {
-    /// A read failed, or the input has more than 16,777,216 bytes.
-    #[error("am-rehearse: input not readable")]
-    Unreadable,
-    /// The input is neither JSON nor YAML.
-    #[error("am-rehearse: rehearsal refused: {fault}")]
-    NotRead {
-        fault: DocumentFault,
-    },
     /// The rehearsal is refused; the pointer is a JSON pointer.
     #[error("am-rehearse: rehearsal refused at {pointer}: {fault_kind}")]
     Refused {
@@ -50,27 +41,12 @@ impl RehearseFault {
         ensures { code_of result ≡ status_of self.now }
     {
         match self {
-            RehearseFault::Unreadable => ExitStatus::Unreadable,
-            RehearseFault::NotRead { .. }
-            | RehearseFault::Refused { .. }
-            | RehearseFault::AllRefused { .. } => ExitStatus::Rejected,
+            RehearseFault::Refused { .. } | RehearseFault::AllRefused { .. } => {
+                ExitStatus::Rejected
+            }
             RehearseFault::NoMemory => ExitStatus::NoMemory,
             RehearseFault::Unwritable => ExitStatus::Unwritable,
             RehearseFault::Unmet => ExitStatus::Unmet,
-        }
-    }
-}
-
-impl From<DocumentFault> for RehearseFault {
-    ghost use Rattle.std.specs.Prelude.{◌≡◌};
-    ghost use Rattle.am_rehearse.specs.Faults.{fault_of_document};
-
-    ghost from_gives = { λ of_document fault. fault ≡ fault_of_document of_document };
-
-    fn from(fault: DocumentFault) -> RehearseFault {
-        match fault {
-            DocumentFault::NoMemory => RehearseFault::NoMemory,
-            fault => RehearseFault::NotRead { fault },
         }
     }
 }
@@ -105,20 +81,6 @@ impl From<Refusal> for RehearseFault {
         match refusal {
             Refusal::One(fault) => RehearseFault::from(fault),
             Refusal::All(faults) => RehearseFault::AllRefused { faults },
-        }
-    }
-}
-
-impl From<ReadFault> for RehearseFault {
-    ghost use Rattle.std.specs.Prelude.{◌≡◌};
-    ghost use Rattle.am_rehearse.specs.Faults.{fault_of_read};
-
-    ghost from_gives = { λ of_read fault. fault ≡ fault_of_read of_read };
-
-    fn from(fault: ReadFault) -> RehearseFault {
-        match fault {
-            ReadFault::Unreadable => RehearseFault::Unreadable,
-            ReadFault::NoMemory => RehearseFault::NoMemory,
         }
     }
 }

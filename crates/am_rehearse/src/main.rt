@@ -7,12 +7,19 @@
 #![tactic(auto)]
 
 mod compare;
+mod complaints;
 mod fault;
 mod head;
 mod output_options;
+mod overheard;
+mod picture;
 mod play;
+mod play_options;
 mod render;
 mod run;
+mod story_files;
+mod suites;
+mod tally;
 
 use crate::compare::compare;
 use crate::play::play;
@@ -77,8 +84,12 @@ fn answer(rt: &HostRuntime, request: Request<'_>) -> ExitStatus {
     match request {
         Request::Play(request) => answer_play(rt, &request),
         Request::Compare(request) => answer_compare(rt, request),
-        Request::Story(request) => answer_story(rt, request),
-        Request::Check { files, style } => answer_check(rt, files.as_slice(), style),
+        Request::Story(request) => answer_story(rt, &request),
+        Request::Check {
+            files,
+            config,
+            style,
+        } => answer_check(rt, files.as_slice(), config, style),
         Request::Routes {
             file,
             labels,
@@ -128,14 +139,19 @@ fn draw_seed(rt: &HostRuntime) -> Result<Seed, ExitStatus> {
     }
 }
 
-fn answer_story(rt: &HostRuntime, request: StoryRequest<'_>) -> ExitStatus {
+fn answer_story(rt: &HostRuntime, request: &StoryRequest<'_>) -> ExitStatus {
     let mut console = console_for(rt, request.style, false);
     story(rt, &mut console, request)
 }
 
-fn answer_check(rt: &HostRuntime, files: &[&str], style: Style) -> ExitStatus {
+fn answer_check(
+    rt: &HostRuntime,
+    files: &[&str],
+    config: Option<&str>,
+    style: Style,
+) -> ExitStatus {
     let mut console = console_for(rt, style, false);
-    check(rt, &mut console, files)
+    check(rt, &mut console, files, config)
 }
 
 fn answer_routes(rt: &HostRuntime, request: RoutesRequest<'_, '_>, style: Style) -> ExitStatus {

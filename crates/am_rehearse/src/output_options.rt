@@ -1,4 +1,5 @@
 //! `OutputOptions`: what the command line wants to see of a rehearsal, and the seed for its hashes. `run` prints it.
+use am_alerts::text::Text;
 use am_seed::Seed;
 use am_timeline::filtered::Filter;
 
@@ -11,18 +12,10 @@ pub struct OutputOptions {
     pub changes: bool,
     /// Whether a report on the expectations is made, as XML of JUnit.
     pub junit: bool,
+    /// What the story is called on a page: the name of its file.
+    pub story: Text,
+    /// The file of the configuration that takes the place of the story's own.
+    pub config: Option<Text>,
     /// What the hashes of the rehearsal start from. No output depends on it.
     pub seed: Seed,
-}
-
-impl OutputOptions {
-    ghost use Rattle.std.specs.Prelude.{◌≡◌};
-    ghost use Rattle.am_rehearse.specs.Faults.{leaves_out};
-
-    /// Returns whether lines can be left out.
-    pub fn leaves_out(&self) -> bool
-        ensures { result ≡ leaves_out self.now }
-    {
-        self.changes || !self.filter.is_empty()
-    }
 }

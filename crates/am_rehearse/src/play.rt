@@ -1,124 +1,284 @@
-//! `am-rehearse play`: simulates a story.
+//! `am-rehearse play`: simulates stories.
+use crate::complaints::{complain_of_fault, point_at_unmet};
 use crate::fault::RehearseFault;
 use crate::output_options::OutputOptions;
-use crate::run::{Judgement, Report, run_rehearsal};
-use am_alerts::duration::read_duration;
-use am_alerts::matcher::Matcher;
-use am_alerts::sequence::Sequence;
-use am_alerts::text::Text;
-use am_cli::fault::InputFault;
-use am_cli::faults::{Faults, Refusal};
+use crate::overheard::Overheard;
+use crate::play_options::{options_of, output_of, until_of};
+use crate::run::{Judgement, Report, play_value};
+use crate::story_files::story_files;
+use crate::suites::Suites;
+use crate::tally::Tally;
 use am_command::exit_status::ExitStatus;
-use am_command::explain::FileShape;
-use am_command::request::{PlayRequest, STANDARD_INPUT, Selection};
-use am_commands::faults::faults_of;
-use am_commands::given::given_to;
+use am_command::request::PlayRequest;
 use am_commands::ignored::say_ignored;
-use am_commands::once::accept_inputs;
+use am_commands::reload_files::read_reload_files;
 use am_commands::system_zones::SystemZones;
-use am_console::bounds::bounds;
-use am_console::console::{Console, Document};
-use am_console::files::{FileFault, open};
-use am_console::matcher_words::{matcher_of, words_for};
+use am_commands::wrapped::read_configuration;
+use am_console::console::{Console, Document, shown};
 use am_console::progress::Progress;
-use am_console::story_words::PAGE_HAS_NO_LINES;
-use am_input::faults::ReceiversOf;
-use am_input::input::{Changes, Output, Overrides};
+use am_input::input::{Changes, Overrides};
 use am_seed::Seed;
-use am_terms::rehearsal::MAX_UNTIL;
-use am_timeline::filtered::Filter;
 use am_yaml::document::read_document;
+use serde_json::Value;
 use std::fs;
 use std::rt::Files;
 use std::time::Clock;
 
-/// Simulates a story, and returns the status. Its hashes start from this seed.
-pub fn play<R: Files + Eprint + AllocGlobal + Clock>(
+/// A story that is simulated, and what the command line says of all.
+#[derive(Clone, Copy)]
+pub(crate) struct Run<'r> {
+    request: &'r PlayRequest<'r>,
+    /// What the hashes start from.
+    seed: Seed,
+    path: &'r str,
+    /// Whether it is the only story.
+    is_alone: bool,
+    /// The configuration that the command line names.
+    pub(crate) config: Option<&'r Document<'r>>,
+    pub(crate) overrides: Overrides,
+}
+
+/// Simulates stories, and returns the status: of several the least that isn't 0. Hashes start from this seed.
+pub fn play<R: Files + Eprint + AllocGlobal + Clock + Clone + Drop>(
     rt: &R,
     seed: Seed,
     console: &mut Console,
     request: &PlayRequest<'_>,
 ) -> ExitStatus {
     match try_play(rt, seed, console, request) {
-        Ok(()) => ExitStatus::Done,
-        Err(status) => status,
+        Ok(status) | Err(status) => status,
     }
 }
 
-fn try_play<R: Files + Eprint + AllocGlobal + Clock>(
+fn try_play<R: Files + Eprint + AllocGlobal + Clock + Clone + Drop>(
     rt: &R,
     seed: Seed,
     console: &mut Console,
     request: &PlayRequest<'_>,
-) -> Result<(), ExitStatus> {
+) -> Result<ExitStatus, ExitStatus> {
     let overrides = Overrides {
         output: output_of(rt, request)?,
         until: until_of(rt, request.until)?,
     };
-    let options = options_of(rt, seed, console, request)?;
-    accept_inputs(rt, &[request.story, request.config.unwrap_or("")])?;
-    play_with_options(rt, console, request, overrides, &options)
-}
-
-/// Simulates a story, and prints what is wanted of it. The error is the status.
-fn play_with_options<R: Files + Eprint + AllocGlobal + Clock>(
-    rt: &R,
-    console: &mut Console,
-    request: &PlayRequest<'_>,
-    overrides: Overrides,
-    options: &OutputOptions,
-) -> Result<(), ExitStatus> {
-    let Some(path) = request.config else {
-        return play_under(rt, console, request, None, overrides, options);
+    let paths = story_files(rt, console, request)?;
+    let run = Run {
+        request,
+        seed,
+        path: "",
+        is_alone: paths.len() == 1,
+        config: None,
+        overrides,
     };
-    let config = console.read(rt, path)?;
-    play_under(rt, console, request, Some(&config), overrides, options)
+    play_under(rt, console, run, paths.as_slice())
 }
 
-/// Simulates a story under the configuration that the command line names, if it names one. The error is the status.
+/// Simulates each of these stories under the configuration that the command line names, if it names one. The error is the status.
 fn play_under<R: Files + Eprint + AllocGlobal + Clock>(
     rt: &R,
     console: &mut Console,
-    request: &PlayRequest<'_>,
-    config: Option<&Document<'_>>,
-    overrides: Overrides,
-    options: &OutputOptions,
-) -> Result<(), ExitStatus> {
-    let changes = Changes {
-        config: config.map(|document| &document.value),
-        overrides,
+    run: Run<'_>,
+    paths: &[String],
+) -> Result<ExitStatus, ExitStatus> {
+    let Some(path) = run.request.config else {
+        return play_each(rt, console, run, paths);
     };
-    let mut report = Report::nothing(rt.alloc());
-    let ended = run(rt, console, request.story, changes, options, &mut report)?;
-    conclude(rt, console, request, config, overrides, report, ended)
+    let config = read_configuration(rt, console, path)?;
+    let run = Run {
+        config: Some(&config),
+        ..run
+    };
+    play_each(rt, console, run, paths)
 }
 
-/// Says what a run came to. The error is the status.
-fn conclude<R: Files + Eprint + AllocGlobal>(
+/// Simulates each of these stories, and writes the report on the expectations of all. The error is the status.
+fn play_each<R: Files + Eprint + AllocGlobal + Clock>(
     rt: &R,
     console: &mut Console,
-    request: &PlayRequest<'_>,
-    config: Option<&Document<'_>>,
-    overrides: Overrides,
-    report: Report,
-    ended: Result<(), RehearseFault>,
+    run: Run<'_>,
+    paths: &[String],
+) -> Result<ExitStatus, ExitStatus> {
+    let mut suites = Suites::new(rt.alloc());
+    let mut tally = Tally::none();
+    for path in paths {
+        let run = Run {
+            path: path.as_str(),
+            ..run
+        };
+        say_name(rt, console, run)?;
+        tally.add(play_one(rt, console, run, &mut suites)?);
+    }
+    if !run.is_alone {
+        tally.say(rt);
+    }
+    write_junit(rt, console, run.request.junit, &suites)?;
+    Ok(tally.status())
+}
+
+/// Prints the name of one of several stories above its output, unless that is lines of JSON. The error is the status.
+fn say_name<R: Files + Eprint + AllocGlobal>(
+    rt: &R,
+    console: &mut Console,
+    run: Run<'_>,
 ) -> Result<(), ExitStatus> {
-    say_ignored(rt, request.config.unwrap_or(request.story), report.ignored);
-    match ended {
-        Ok(()) => say_judgement(rt, request, &report.judgement),
-        Err(RehearseFault::Unmet) => Err(complain_of_unmet(rt, console, request, report)),
-        Err(fault) => Err(complain(rt, console, request, config, overrides, report.text, fault)),
+    if run.is_alone || run.request.output == Some("json") {
+        return Ok(());
+    }
+    let Ok(line) = format!(in rt.alloc(); "# {}\n", shown(run.path)) else {
+        return Err(console.complain_of_memory(rt));
+    };
+    match console.print(rt, line.as_str()) {
+        ExitStatus::Done => Ok(()),
+        status => Err(status),
     }
 }
 
-/// Says what was found, and writes the report on the expectations. The error is the status.
-fn say_judgement<R: Files + Eprint>(
+/// Simulates a story, prints what is wanted of it, and returns its status. The error is a status that ends all.
+fn play_one<R: Files + Eprint + AllocGlobal + Clock>(
     rt: &R,
-    request: &PlayRequest<'_>,
-    judgement: &Judgement,
+    console: &mut Console,
+    run: Run<'_>,
+    suites: &mut Suites,
+) -> Result<ExitStatus, ExitStatus> {
+    let heard = Overheard::new(rt);
+    match play_file(&heard, console, run, suites) {
+        ExitStatus::Rejected => {
+            add_error(rt, console, run.path, &heard, suites)?;
+            Ok(ExitStatus::Rejected)
+        }
+        ExitStatus::Unreadable => {
+            add_error(rt, console, run.path, &heard, suites)?;
+            Ok(ExitStatus::Unreadable)
+        }
+        ExitStatus::Done => Ok(ExitStatus::Done),
+        ExitStatus::Unmet => Ok(ExitStatus::Unmet),
+        status => Err(status),
+    }
+}
+
+/// Adds that a story didn't run, with what was said of it. The error is the status.
+fn add_error<R: Eprint + AllocGlobal>(
+    rt: &R,
+    console: &Console,
+    path: &str,
+    heard: &Overheard<'_, R>,
+    suites: &mut Suites,
 ) -> Result<(), ExitStatus> {
+    let added = match heard.lines() {
+        Ok(lines) => suites.add_error(path, lines.as_str()),
+        Err(refused) => Err(refused),
+    };
+    match added {
+        Ok(()) => Ok(()),
+        Err(_) => Err(console.complain_of_memory(rt)),
+    }
+}
+
+/// Simulates the story of a file, prints what is wanted of it, and returns its status.
+fn play_file<R: Files + Eprint + AllocGlobal + Clock>(
+    rt: &R,
+    console: &mut Console,
+    run: Run<'_>,
+    suites: &mut Suites,
+) -> ExitStatus {
+    let mut story = match console.read(rt, run.path) {
+        Ok(story) => story,
+        Err(status) => return status,
+    };
+    match read_reload_files(rt, console, &mut story, run.overrides) {
+        Ok(()) => play_story(rt, console, run, &mut story, suites),
+        Err(status) => status,
+    }
+}
+
+/// Simulates the story of a document, prints what is wanted of it, and returns its status.
+fn play_story<R: Files + Eprint + AllocGlobal + Clock>(
+    rt: &R,
+    console: &mut Console,
+    run: Run<'_>,
+    story: &mut Document<'_>,
+    suites: &mut Suites,
+) -> ExitStatus {
+    if let Err(status) = refuse_page(rt, console, run, story) {
+        return status;
+    }
+    let options = match options_of(rt, run.seed, console, run.request, run.path) {
+        Ok(options) => options,
+        Err(status) => return status,
+    };
+    let mut report = Report::nothing(rt.alloc());
+    let ended = play_document(rt, console, run, story, &options, &mut report);
+    say_ignored(rt, run.request.config.unwrap_or(run.path), report.ignored);
+    conclude(rt, console, run, story, &report.judgement, ended, suites)
+}
+
+/// Plays the value of a document, which it lets go before the play. Where that ends at a limit it is read again, for complaints.
+fn play_document<R: Files + Eprint + AllocGlobal + Clock>(
+    rt: &R,
+    console: &mut Console,
+    run: Run<'_>,
+    story: &mut Document<'_>,
+    options: &OutputOptions,
+    report: &mut Report,
+) -> Result<(), RehearseFault> {
+    let changes = Changes {
+        config: run.config.map(|document| &document.value),
+        overrides: run.overrides,
+    };
+    let mut files = SystemZones::new(rt);
+    let mut watch = Progress::begin(rt, console.is_terminal);
+    let ended = play_value(
+        rt.alloc(),
+        &mut story.value,
+        changes,
+        options,
+        &mut files,
+        &mut watch,
+        &mut console.output,
+        report,
+    );
+    if matches!(ended, Err(RehearseFault::Refused { .. })) && story.value.is_null() {
+        if let Ok(value) = read_document(rt.alloc(), story.text.as_slice()) {
+            story.value = value;
+        }
+    }
+    ended
+}
+
+/// Refuses a page as the own output of one of several stories. The error is the status.
+fn refuse_page<R: Eprint + AllocGlobal>(
+    rt: &R,
+    console: &Console,
+    run: Run<'_>,
+    story: &Document<'_>,
+) -> Result<(), ExitStatus> {
+    let output = story.value.get("output").and_then(Value::as_str);
+    if run.is_alone || run.overrides.output.is_some() || output != Some("html") {
+        return Ok(());
+    }
+    let words = "a page is for one story; play this one alone, or give --output";
+    Err(console.complain_in_words(rt, story, "/output", words))
+}
+
+/// Says what a run came to, adds its suite to the report, and returns its status.
+fn conclude<R: Files + Eprint + AllocGlobal>(
+    rt: &R,
+    console: &Console,
+    run: Run<'_>,
+    story: &Document<'_>,
+    judgement: &Judgement,
+    ended: Result<(), RehearseFault>,
+    suites: &mut Suites,
+) -> ExitStatus {
+    let status = match ended {
+        Ok(()) => ExitStatus::Done,
+        Err(RehearseFault::Unmet) => ExitStatus::Unmet,
+        Err(fault) => return complain_of_fault(rt, console, run, story, fault),
+    };
     say_found(rt, judgement);
-    write_junit(rt, request.junit, &judgement.junit)
+    if status == ExitStatus::Unmet {
+        point_at_unmet(rt, console, story, judgement.unmet.as_slice());
+    }
+    add_suite(rt, console, story, judgement, status, suites)
 }
 
 /// Says that the command line names what no flush is of, if it does.
@@ -130,342 +290,40 @@ fn say_found<R: Eprint>(rt: &R, judgement: &Judgement) {
     }
 }
 
-/// Writes the report on the expectations to the file that the command line names. The error is the status.
-fn write_junit<R: Files + Eprint>(
+/// Adds the suite of a story that ended with a status, if there is one. Returns the status.
+fn add_suite<R: Eprint + AllocGlobal>(
     rt: &R,
+    console: &Console,
+    story: &Document<'_>,
+    judgement: &Judgement,
+    status: ExitStatus,
+    suites: &mut Suites,
+) -> ExitStatus {
+    let Some(suite) = &judgement.junit else {
+        return status;
+    };
+    match suites.add(story.path, story.text.as_slice(), suite.as_str()) {
+        Ok(()) => status,
+        Err(_) => console.complain_of_memory(rt),
+    }
+}
+
+/// Writes the report on the expectations to the file that the command line names, if it names one. The error is the status.
+fn write_junit<R: Files + Eprint + AllocGlobal>(
+    rt: &R,
+    console: &Console,
     file: Option<&str>,
-    junit: &Option<String>,
+    suites: &Suites,
 ) -> Result<(), ExitStatus> {
-    let (Some(path), Some(text)) = (file, junit) else {
+    let Some(path) = file else {
         return Ok(());
+    };
+    let Ok(text) = suites.whole() else {
+        return Err(console.complain_of_memory(rt));
     };
     if fs::write(rt, path, text.as_str()).is_ok() {
         return Ok(());
     }
     let _ = eprintln!(rt; "am-rehearse: {path}: not writable");
     Err(ExitStatus::Unwritable)
-}
-
-/// Runs a story from its file. The error is the status, if the file isn't there.
-fn run<R: Files + Eprint + AllocGlobal + Clock>(
-    rt: &R,
-    console: &mut Console,
-    story: &str,
-    changes: Changes<'_>,
-    options: &OutputOptions,
-    report: &mut Report,
-) -> Result<Result<(), RehearseFault>, ExitStatus> {
-    let alloc = rt.alloc();
-    let mut files = SystemZones::new(rt);
-    let mut watch = Progress::begin(rt, console.is_terminal);
-    if story == STANDARD_INPUT {
-        let Console { input, output, .. } = console;
-        return Ok(run_rehearsal(
-            alloc, input, changes, options, &mut files, &mut watch, output, report,
-        ));
-    }
-    let mut file = match open(rt, story) {
-        Ok(file) => file,
-        Err(fault) => return Err(console.complain_of_file(rt, story, fault)),
-    };
-    let output = &mut console.output;
-    Ok(run_rehearsal(
-        alloc, &mut file, changes, options, &mut files, &mut watch, output, report,
-    ))
-}
-
-/// Returns the output that the command line asks for. It has checked the name. The error is the status.
-fn output_of<R: Eprint>(rt: &R, request: &PlayRequest<'_>) -> Result<Option<Output>, ExitStatus> {
-    if request.no_failures {
-        delivered_of(rt, request)
-    } else if request.all {
-        full_of(rt, request.output)
-    } else {
-        Ok(request.output.map(output_named))
-    }
-}
-
-/// Returns the output of delivered notices, unless another is asked for. The error is the status.
-fn delivered_of<R: Eprint>(
-    rt: &R,
-    request: &PlayRequest<'_>,
-) -> Result<Option<Output>, ExitStatus> {
-    if request.output.unwrap_or("notices") == "notices" && !request.all {
-        return Ok(Some(Output::Delivered));
-    }
-    let _ = eprintln!(rt; "am-rehearse: --no-failures is for the notices alone");
-    Err(ExitStatus::Rejected)
-}
-
-/// Returns the output of each line, unless another is asked for. The error is the status.
-fn full_of<R: Eprint>(rt: &R, output: Option<&str>) -> Result<Option<Output>, ExitStatus> {
-    if output.unwrap_or("timeline") == "timeline" {
-        return Ok(Some(Output::Full));
-    }
-    let _ = eprintln!(rt; "am-rehearse: --all is for the timeline alone");
-    Err(ExitStatus::Rejected)
-}
-
-/// Returns the output of a name.
-fn output_named(name: &str) -> Output {
-    match name {
-        "notices" => Output::Notices,
-        "json" => Output::Json,
-        "html" => Output::Html,
-        _ => Output::Timeline,
-    }
-}
-
-/// Returns what of a rehearsal the command line wants to see. The error is the status.
-fn options_of<R: Eprint + AllocGlobal>(
-    rt: &R,
-    seed: Seed,
-    console: &Console,
-    request: &PlayRequest<'_>,
-) -> Result<OutputOptions, ExitStatus> {
-    let options = OutputOptions {
-        filter: filter_of(rt, console, &request.selection)?,
-        changes: request.selection.changes,
-        junit: request.junit.is_some(),
-        seed,
-    };
-    if request.output == Some("html") && options.leaves_out() {
-        let _ = eprintln!(rt; "am-rehearse: {PAGE_HAS_NO_LINES}");
-        return Err(ExitStatus::Rejected);
-    }
-    Ok(options)
-}
-
-/// Returns the filter that the command line gives. The error is the status.
-fn filter_of<R: Eprint + AllocGlobal>(
-    rt: &R,
-    console: &Console,
-    selection: &Selection<'_>,
-) -> Result<Filter, ExitStatus> {
-    let receiver = text_of(rt, console, selection.receiver)?;
-    let route = text_of(rt, console, selection.group)?;
-    let matchers = matchers_of(rt, console, selection.alerts.as_slice())?;
-    Ok(Filter {
-        receiver,
-        route,
-        matchers: Sequence::from(matchers),
-    })
-}
-
-/// Returns a text of the command line, if there is one. The error is the status.
-fn text_of<R: Eprint + AllocGlobal>(
-    rt: &R,
-    console: &Console,
-    text: Option<&str>,
-) -> Result<Option<Text>, ExitStatus> {
-    match text {
-        None => Ok(None),
-        Some(text) => match Text::new(rt.alloc(), text) {
-            Ok(text) => Ok(Some(text)),
-            Err(_) => Err(console.complain_of_memory(rt)),
-        },
-    }
-}
-
-/// Returns the matchers of the command line. The error is the status.
-fn matchers_of<R: Eprint + AllocGlobal>(
-    rt: &R,
-    console: &Console,
-    texts: &[&str],
-) -> Result<Vec<Matcher>, ExitStatus> {
-    let mut matchers = Vec::new(rt.alloc());
-    for text in texts {
-        let matcher = alert_matcher(rt, console, text)?;
-        if matchers.push(matcher).is_err() {
-            return Err(console.complain_of_memory(rt));
-        }
-    }
-    Ok(matchers)
-}
-
-/// Returns the matcher that a text of the command line writes. The error is the status.
-fn alert_matcher<R: Eprint + AllocGlobal>(
-    rt: &R,
-    console: &Console,
-    text: &str,
-) -> Result<Matcher, ExitStatus> {
-    let fault = match matcher_of(rt.alloc(), text) {
-        Ok(matcher) => return Ok(matcher),
-        Err(fault) => fault,
-    };
-    match words_for(fault) {
-        None => Err(console.complain_of_memory(rt)),
-        Some(words) => {
-            let _ = eprintln!(rt; "am-rehearse: --alert: `{text}` {words}");
-            Err(ExitStatus::Rejected)
-        }
-    }
-}
-
-/// Returns the end that the command line gives.
-pub(crate) fn until_of<R: Eprint>(rt: &R, until: Option<&str>) -> Result<Option<u64>, ExitStatus> {
-    let Some(text) = until else {
-        return Ok(None);
-    };
-    match read_duration(text) {
-        Ok(until) if until <= MAX_UNTIL => Ok(Some(until)),
-        _ => {
-            let days = bounds().days;
-            let _ = eprintln!(rt;
-                "am-rehearse: --until: `{text}` is no duration up to {days}d; write 5h or 2h30m"
-            );
-            Err(ExitStatus::Rejected)
-        }
-    }
-}
-
-/// Complains of what ended a run whose input has this text, and returns the status.
-fn complain<R: Files + Eprint + AllocGlobal>(
-    rt: &R,
-    console: &mut Console,
-    request: &PlayRequest<'_>,
-    config: Option<&Document<'_>>,
-    overrides: Overrides,
-    text: Vec<u8>,
-    fault: RehearseFault,
-) -> ExitStatus {
-    let path = request.story;
-    let refusal = match fault {
-        RehearseFault::NotRead { fault } => return console.complain_of_text(rt, path, fault),
-        RehearseFault::Unreadable => {
-            return console.complain_of_file(rt, path, FileFault::Unreadable);
-        }
-        RehearseFault::Refused {
-            pointer,
-            fault_kind,
-        } => {
-            Refusal::One(InputFault::Refused {
-                pointer,
-                fault_kind,
-            })
-        }
-        RehearseFault::AllRefused { faults } => Refusal::All(faults),
-        fault => return print_fault(rt, &fault),
-    };
-    complain_of_refusal(rt, console, path, config, overrides, text, refusal)
-}
-
-/// Complains of what a story with this text was refused for, and returns the status.
-fn complain_of_refusal<R: Files + Eprint + AllocGlobal>(
-    rt: &R,
-    console: &mut Console,
-    path: &str,
-    config: Option<&Document<'_>>,
-    overrides: Overrides,
-    text: Vec<u8>,
-    refusal: Refusal,
-) -> ExitStatus {
-    let Ok(value) = read_document(rt.alloc(), text.as_slice()) else {
-        return console.complain_of_memory(rt);
-    };
-    let document = Document {
-        path,
-        text,
-        value,
-        shape: FileShape::Fields,
-    };
-    complain_of_story(rt, console, config, overrides, &document, refusal)
-}
-
-/// Prints a fault that has no pointer, and returns the status.
-fn print_fault<R: Eprint>(rt: &R, fault: &RehearseFault) -> ExitStatus {
-    let _ = eprintln!(rt; "{fault}");
-    fault.status()
-}
-
-/// Says of each expectation that isn't met where it is, and what else a run came to. Then it
-/// writes the report on the expectations. Returns the status.
-fn complain_of_unmet<R: Files + Eprint + AllocGlobal>(
-    rt: &R,
-    console: &Console,
-    request: &PlayRequest<'_>,
-    report: Report,
-) -> ExitStatus {
-    let Report {
-        text,
-        ignored: _,
-        judgement,
-    } = report;
-    say_found(rt, &judgement);
-    point_at_unmet(rt, console, request.story, text, judgement.unmet.as_slice());
-    let status = print_fault(rt, &RehearseFault::Unmet);
-    match write_junit(rt, request.junit, &judgement.junit) {
-        Ok(()) => status,
-        Err(unwritable) => unwritable,
-    }
-}
-
-/// Says of each expectation that isn't met where it is.
-fn point_at_unmet<R: Files + Eprint + AllocGlobal>(
-    rt: &R,
-    console: &Console,
-    path: &str,
-    text: Vec<u8>,
-    unmet: &[usize],
-) {
-    let Ok(value) = read_document(rt.alloc(), text.as_slice()) else {
-        return;
-    };
-    let document = Document {
-        path,
-        text,
-        value,
-        shape: FileShape::Fields,
-    };
-    for number in unmet {
-        if let Ok(pointer) = format!(in rt.alloc(); "/expect/{number}") {
-            let words = "this expectation isn't met";
-            let _ = console.complain_in_words(rt, &document, pointer.as_str(), words);
-        }
-    }
-}
-
-/// Complains of all faults of a story that was refused, and returns the status.
-fn complain_of_story<R: Files + Eprint + AllocGlobal>(
-    rt: &R,
-    console: &mut Console,
-    config: Option<&Document<'_>>,
-    overrides: Overrides,
-    document: &Document<'_>,
-    refusal: Refusal,
-) -> ExitStatus {
-    match faults_under(rt, console, config, overrides, document) {
-        Err(status) => status,
-        Ok(faults) => complain_of_all(rt, console, document, &faults, refusal),
-    }
-}
-
-/// Complains of a story's faults, or where none are found of what it was refused for, and returns the status.
-fn complain_of_all<R: Eprint + AllocGlobal>(
-    rt: &R,
-    console: &Console,
-    document: &Document<'_>,
-    faults: &Faults,
-    refusal: Refusal,
-) -> ExitStatus {
-    if faults.is_empty() {
-        return console.complain_of_refusal(rt, document, refusal);
-    }
-    console.complain_of_faults(rt, document, faults)
-}
-
-/// Returns the faults of a story under the configuration that the command line names. The error is the status.
-fn faults_under<R: Files + Eprint + AllocGlobal>(
-    rt: &R,
-    console: &mut Console,
-    config: Option<&Document<'_>>,
-    overrides: Overrides,
-    story: &Document<'_>,
-) -> Result<Faults, ExitStatus> {
-    let Some(config) = config else {
-        return faults_of(rt, console, story, ReceiversOf::Own, overrides);
-    };
-    let configured = given_to(rt, console, story, config, overrides)?;
-    let receivers = ReceiversOf::Given(Some(&configured));
-    faults_of(rt, console, story, receivers, overrides)
 }

@@ -1,4 +1,4 @@
-//! What is printed of a rehearsal that ran, one dispatcher after another. `run` calls it.
+//! What is printed of a rehearsal that ran, one dispatcher after another. `picture` calls it.
 ghost use Rattle.std.specs.Prelude.{◌≡◌, ◌&&◌, ◌++◌, IfErr, IfOk, OnOk, Some, None, false, not, if◌then◌else◌};
 ghost use Rattle.std.specs.Prelude.{drop, map, option_map, string_bytes};
 ghost use Rattle.std.specs.List.{AllByRecursion, list_all};
@@ -9,7 +9,7 @@ ghost use Rattle.am_model.specs.Replay.{IsLegal};
 ghost use Rattle.am_rehearse.specs.Head.{heads_of};
 ghost use Rattle.am_rehearse.specs.Printed.{IsOutputOf, IsPrinted, all_lines, end_text, expectations_section, has_summary, is_page};
 ghost use Rattle.am_rehearse.specs.Printed.{HasLegalHistory, has_lines, head_for, later_lines, log_of};
-ghost use Rattle.am_rehearse.specs.Printed.{part_text, playback_of, shown_text, summary};
+ghost use Rattle.am_rehearse.specs.Printed.{part_text, playback_of, shown_text};
 ghost use Rattle.am_timeline.specs.Changed.{changed};
 ghost use Rattle.am_timeline.specs.Filtered.{left_of, names_nothing};
 ghost use Rattle.am_timeline.specs.Runs.{short_timeline_text};
@@ -25,8 +25,6 @@ use am_input::input::Output;
 use am_judge::expectation::{is_met, unmet_expectations};
 use am_judge::expectation_report::expectations_text;
 use am_judge::junit::junit_text;
-use am_picture::page::page;
-use am_picture::scene::Scene;
 use am_rehearsal::play::Played;
 use am_rehearsal::playing::PlayedPart;
 use am_terms::clock::{Elapsed, TimeFormat};
@@ -119,7 +117,7 @@ fn render_by<C: TimeFormat>(
 }
 
 /// The parts of all dispatchers but the first.
-fn later(played: &[PlayedPart]) -> &[PlayedPart]
+pub(crate) fn later(played: &[PlayedPart]) -> &[PlayedPart]
     ensures { result.now ≡ drop 1 played.now }
 {
     match played.split_first() {
@@ -160,7 +158,7 @@ fn render_parts<C: TimeFormat>(
     })
 }
 
-/// The output that is asked for. Of a page nothing is said.
+/// The output that is asked for, if it isn't a page.
 fn printed<C: TimeFormat>(
     alloc: Global,
     heads: &[Head],
@@ -174,7 +172,10 @@ fn printed<C: TimeFormat>(
         expectations.now (string_bytes lines.text)) }
 {
     if is_page(output) {
-        return picture_of(alloc, playbacks, clock);
+        return Ok(Lines {
+            text: String::new(alloc),
+            found: true,
+        });
     }
     let mut lines = all_lines(alloc, heads, playbacks, clock, output, options)?;
     push_end(
@@ -323,7 +324,10 @@ fn text_of<C: TimeFormat>(
 }
 
 /// The logbooks of these dispatchers.
-fn logbooks_of(alloc: Global, played: &[PlayedPart]) -> Result<Vec<Logbook<'_>>, AllocError>
+pub(crate) fn logbooks_of(
+    alloc: Global,
+    played: &[PlayedPart],
+) -> Result<Vec<Logbook<'_>>, AllocError>
     ensures logbooks { IfOk result (λ logs. logs.items ≡ map log_of played.now) }
     ensures legal { OnOk result (AllByRecursion HasLegalHistory played.now) }
 {
@@ -351,7 +355,7 @@ fn add_logbooks<'s>(
 }
 
 /// The playbacks of these dispatchers, of which these are the logbooks.
-fn playbacks_of<'s>(
+pub(crate) fn playbacks_of<'s>(
     alloc: Global,
     logs: &'s [Logbook<'s>],
     played: &'s [PlayedPart],
@@ -461,33 +465,6 @@ fn junit_of<C: TimeFormat>(
     Ok(Some(junit_text(alloc, playbacks, clock, expectations)?))
 }
 
-/// The page of a rehearsal with one dispatcher.
-fn picture_of<C: TimeFormat>(
-    alloc: Global,
-    playbacks: &[Playback<'_>],
-    clock: &C,
-) -> Result<Lines, AllocError> {
-    let text = match playbacks.first() {
-        None => String::new(alloc),
-        Some(playback) => picture(alloc, playback, clock)?,
-    };
-    Ok(Lines { text, found: true })
-}
-
-/// A rehearsal that ran as a page.
-fn picture<C: TimeFormat>(
-    alloc: Global,
-    playback: &Playback<'_>,
-    clock: &C,
-) -> Result<String, AllocError> {
-    let scene = Scene {
-        log: playback.logbook(),
-        events: playback.events(),
-    };
-    let undelivered = undelivered_text(alloc, playback, clock)?;
-    page(alloc, &scene, clock, "Rehearsal", undelivered.as_str())
-}
-
 /// Whether every expectation is met.
 fn are_met(
     alloc: Global,
@@ -532,10 +509,10 @@ fn short_timeline<C: TimeFormat>(
     clock: &C,
 ) -> Result<String, AllocError>
     ensures { IfOk result (λ text. string_bytes text ≡ short_timeline_text shown.now (C.times clock.now)
-        ++ summary playback.now (C.times clock.now)) }
+        ++ table_text playback.now (C.times clock.now)) }
 {
     let mut text = short_timeline_text(alloc, shown, clock)?;
-    push_summary(alloc, playback, clock, &mut text)?;
+    push_table(alloc, playback, clock, &mut text)?;
     Ok(text)
 }
 
@@ -547,25 +524,11 @@ fn full_timeline<C: TimeFormat>(
     clock: &C,
 ) -> Result<String, AllocError>
     ensures { IfOk result (λ text. string_bytes text ≡ timeline_text shown.now (C.times clock.now)
-        ++ summary playback.now (C.times clock.now)) }
+        ++ table_text playback.now (C.times clock.now)) }
 {
     let mut text = timeline_text(alloc, shown, clock)?;
-    push_summary(alloc, playback, clock, &mut text)?;
+    push_table(alloc, playback, clock, &mut text)?;
     Ok(text)
-}
-
-/// Adds the table of the receivers, and the alerts that nobody was notified of.
-fn push_summary<C: TimeFormat>(
-    alloc: Global,
-    playback: &Playback<'_>,
-    clock: &C,
-    text: &mut String,
-) -> Result<(), AllocError>
-    ensures { OnOk result (string_bytes text.new
-        ≡ string_bytes text.old ++ summary playback.now (C.times clock.now)) }
-{
-    push_table(alloc, playback, clock, text)?;
-    push_undelivered(alloc, playback, clock, text)
 }
 
 fn push_table<C: TimeFormat>(
@@ -580,16 +543,17 @@ fn push_table<C: TimeFormat>(
     text.push_str(table.as_str())
 }
 
+/// Adds the spans of firing that an integration missed.
 fn push_undelivered<C: TimeFormat>(
     alloc: Global,
-    playback: &Playback<'_>,
+    playbacks: &[Playback<'_>],
     clock: &C,
     text: &mut String,
 ) -> Result<(), AllocError>
     ensures { OnOk result (string_bytes text.new
-        ≡ string_bytes text.old ++ undelivered_text playback.now (C.times clock.now)) }
+        ≡ string_bytes text.old ++ undelivered_text playbacks.now (C.times clock.now)) }
 {
-    let undelivered = undelivered_text(alloc, playback, clock)?;
+    let undelivered = undelivered_text(alloc, playbacks, clock)?;
     text.push_str(undelivered.as_str())
 }
 
@@ -603,7 +567,7 @@ fn has_summary(output: Output) -> bool
     }
 }
 
-/// Adds what became of the expectations to an output that says it.
+/// Adds the spans of firing that an integration missed, and what became of the expectations, to an output that says it.
 fn push_end<C: TimeFormat>(
     alloc: Global,
     playbacks: &[Playback<'_>],
@@ -618,6 +582,7 @@ fn push_end<C: TimeFormat>(
     if !has_summary(output) {
         return Ok(());
     }
+    push_undelivered(alloc, playbacks, clock, text)?;
     push_judged(alloc, playbacks, clock, expectations, text)
 }
 

@@ -1,21 +1,21 @@
-//! The run of a rehearsal: reads the whole input, runs it, writes the output. `main` calls it.
-ghost use Rattle.std.specs.Prelude.{◌≡◌, ◌≢◌, ◌≤◌, ◌<◌, ◌+◌, ◌++◌, ◌∷◌, ◌⊎◌, ◌↔◌, List, [], ℕ, false, true};
-ghost use Rattle.std.specs.Prelude.{IfErr, IfOk, IsTrue, OnOk, length, string_bytes};
+//! The run of a rehearsal: plays what the value of a story asks for, and writes the output. `play` calls it.
+ghost use Rattle.std.specs.Prelude.{◌≡◌, ◌≢◌, ◌<◌, ◌↔◌, false, true};
+ghost use Rattle.std.specs.Prelude.{IfErr, IfOk, IsTrue, OnOk, string_bytes};
+ghost use Rattle.serde_json.specs.View.{view};
 ghost use Rattle.am_cli.specs.Read.{IsRefusedBy};
-ghost use Rattle.am_cli.specs.declared.transfer.TheConstants.{MAX_INPUT};
 ghost use Rattle.am_input.specs.Request.{times_from};
-ghost use Rattle.am_rehearse.specs.Faults.{Refuses, RefusesPlay, is_limit, leaves_out, status_of};
-ghost use Rattle.am_rehearse.specs.Printed.{IsOutputFor, IsOutputOfRun, IsRequestBy, PlaysThrough, WritesOutput, is_page};
-ghost use Rattle.am_rehearse.specs.declared.output_options.OutputOptions.{OutputOptions};
+ghost use Rattle.am_rehearse.specs.Faults.{Refuses, RefusesPlay, is_limit, status_of};
+ghost use Rattle.am_rehearse.specs.Printed.{IsOutputFor, IsOutputOfRun, PlaysThrough, WritesOutput};
 
 use crate::fault::RehearseFault;
 use crate::head::changes_of;
 use crate::output_options::OutputOptions;
-use crate::render::{Rendered, is_page, render_from};
-use am_cli::device::{Sink, Source};
+use crate::picture::{Wanted, outages_for, render_all};
+use crate::render::Rendered;
+use am_cli::device::Sink;
 use am_cli::fault::{FaultKind, InputFault};
 use am_cli::pointer::JsonPointer;
-use am_cli::transfer::{MAX_INPUT, read_all, write_all};
+use am_cli::transfer::write_all;
 use am_config::dropped::IgnoredSettings;
 use am_input::input::{Changes, Input, read_input};
 use am_input::zone_files::ZoneFiles;
@@ -27,14 +27,12 @@ use am_seed::Seed;
 use am_terms::dispatcher_change::DispatcherChange;
 use am_terms::rehearsal::Rehearsal;
 use am_terms::watch::Watch;
-use am_yaml::document::read_document;
+use serde_json::Value;
 use std::alloc::Global;
 
 /// What a run reports besides its output.
 #[derive(Drop)]
 pub struct Report {
-    /// The input, once it was read whole.
-    pub text: Vec<u8>,
     /// What of Alertmanager's configuration is ignored.
     pub ignored: IgnoredSettings,
     /// What became of the expectations.
@@ -56,7 +54,6 @@ impl Report {
     /// Returns the report before a run.
     pub fn nothing(alloc: Global) -> Report {
         Report {
-            text: Vec::new(alloc),
             ignored: IgnoredSettings::nothing(),
             judgement: Judgement::none(alloc),
         }
@@ -74,25 +71,23 @@ impl Judgement {
     }
 }
 
-/// Reads a rehearsal from the source, in JSON or YAML, plays it and writes its output to the sink: on `Ok` and on
-/// `Unmet`, once and whole, the output that is asked for, of what a rehearsal plays to (`PlaysThrough`), one dispatcher
-/// after another. It is `Ok` where every expectation of it is met, and `Unmet` where one isn't. Configuration, reloads,
-/// restarts, alerts, silences, outages, output, start, end, maintenance and expectations are those of the value that
-/// the input is read as, which is that of a JSON text where it is one, or those of `changes`. Of a configuration of
-/// Alertmanager no clause says that it is the one of its file.
+/// Plays the rehearsal that a story's value asks for, and writes its output to the sink: on `Ok` and on `Unmet`, once and whole, the
+/// output that is asked for, of what the rehearsal plays to (`PlaysThrough`), one dispatcher after another. It is `Ok` where every
+/// expectation of it is met, and `Unmet` where one isn't. Configuration, reloads, restarts, alerts, silences, outages, output, start,
+/// end, maintenance and expectations are those of the value, or those of `changes`. Of a configuration of Alertmanager no clause says
+/// that it is the one of its file.
 ///
-/// An input is refused as `NotRead` only where it is no JSON text. It is refused at a pointer, or as `AllRefused`, only
-/// where it asks, as a JSON text, for nothing that can be played, or as `Full` (`Refuses`). It is `Full` only where it
-/// asks for more than a limit lets be played, or where a log row that a new dispatcher takes over doesn't fit. Nothing is
-/// said of YAML, of a given file, of a configuration of Alertmanager, and of patterns that need a regex. The input was read whole before.
+/// A value is refused at a pointer, or as `AllRefused`, only where it asks for nothing that can be played, or as `Full` (`Refuses`). It
+/// is `Full` only where it asks for more than a limit lets be played, or where a log row that a new dispatcher takes over doesn't fit.
+/// Nothing is said of a given file, of a configuration of Alertmanager, and of patterns that need a regex.
 ///
-/// `report` has what was read, once all of it was, what of Alertmanager's configuration is ignored, and, once a rehearsal
-/// ran, which expectations aren't met, and the report on them that `options` asks for.
-/// The output is made whole before its first byte is written: on every fault but `Unwritable` and `Unmet` the
-/// sink wasn't asked.
-pub fn run_rehearsal<S: Source, Z: ZoneFiles, K: Sink, W: Watch>(
+/// `report` has what of Alertmanager's configuration is ignored, and, once a rehearsal ran, which expectations aren't met, and the
+/// report on them that `options` asks for. The output is made whole before its first byte is written: on every fault but `Unwritable`
+/// and `Unmet` the sink wasn't asked. A value that is refused before the play stays as it was. For the play it is let go, and `null`
+/// is left.
+pub fn play_value<Z: ZoneFiles, K: Sink, W: Watch>(
     alloc: Global,
-    source: &mut S,
+    story: &mut Value,
     changes: Changes<'_>,
     options: &OutputOptions,
     files: &mut Z,
@@ -100,37 +95,18 @@ pub fn run_rehearsal<S: Source, Z: ZoneFiles, K: Sink, W: Watch>(
     sink: &mut K,
     report: &mut Report,
 ) -> Result<(), RehearseFault>
-    ensures reads { S.reads source.new ≤ S.reads source.old + (MAX_INPUT + 1) }
-    ensures unreadable { (result ≡ Err RehearseFault.Unreadable)
-        ↔ ((S.failed source.old < S.failed source.new)
-        ⊎ (length (S.given source.old) + MAX_INPUT < length (S.given source.new))) }
     ensures unwritable { (result ≡ Err RehearseFault.Unwritable)
         ↔ (K.failed sink.old < K.failed sink.new) }
     ensures unwritten { IfErr result (λ fault.
         fault ≢ RehearseFault.Unwritable → fault ≢ RehearseFault.Unmet → sink.new ≡ sink.old) }
-    ensures ended { OnOk result (S.ended source.new ≡ S.ended source.old + 1) }
-    ensures ended_unmet { IfErr result (λ fault.
-        fault ≡ RehearseFault.Unmet → S.ended source.new ≡ S.ended source.old + 1) }
     ensures met { OnOk result
-        (WritesOutput changes.entry options.now true (S.given source.old) (S.given source.new) (K.taken sink.old) (K.taken sink.new)) }
+        (WritesOutput changes.entry options.now true (view story.old) (K.taken sink.old) (K.taken sink.new)) }
     ensures unmet { IfErr result (λ fault. fault ≡ RehearseFault.Unmet →
-        WritesOutput changes.entry options.now false (S.given source.old) (S.given source.new) (K.taken sink.old) (K.taken sink.new)) }
-    ensures refused { IfErr result (λ fault. status_of fault ≡ 2 → (input : List ℕ) × Refuses changes.entry options.now input fault
-        × (S.given source.new ≡ S.given source.old ++ input)
-        × (S.ended source.new ≡ S.ended source.old + 1)) }
+        WritesOutput changes.entry options.now false (view story.old) (K.taken sink.old) (K.taken sink.new)) }
+    ensures refused { IfErr result (λ fault. status_of fault ≡ 2 → Refuses changes.entry (view story.old) fault) }
 {
-    let input = read_all(alloc, source)?;
     let ignored = &mut report.ignored;
-    let rendered = render(
-        alloc,
-        input.as_slice(),
-        changes,
-        options,
-        files,
-        watch,
-        ignored,
-    );
-    report.text = input;
+    let rendered = render(alloc, story, changes, options, files, watch, ignored);
     let Rendered {
         text,
         is_met,
@@ -167,10 +143,10 @@ fn origin_of(part: usize, index: usize, origins: &[Origin]) -> Option<&Origin> {
     if part == 0 { origins.get(index) } else { None }
 }
 
-/// What is printed of the rehearsal that these bytes are.
+/// What is printed of the rehearsal that a value asks for. The value is let go before the play.
 fn render<Z: ZoneFiles, W: Watch>(
     alloc: Global,
-    input: &[u8],
+    story: &mut Value,
     changes: Changes<'_>,
     options: &OutputOptions,
     files: &mut Z,
@@ -178,28 +154,13 @@ fn render<Z: ZoneFiles, W: Watch>(
     ignored: &mut IgnoredSettings,
 ) -> Result<Rendered, RehearseFault>
     ensures printed { IfOk result (λ rendered.
-        IsOutputFor changes.entry options.now input.now rendered.is_met (string_bytes rendered.text)) }
-    ensures refused { IfErr result (Refuses changes.entry options.now input.now) }
+        IsOutputFor changes.entry options.now (view story.old) rendered.is_met (string_bytes rendered.text)) }
+    ensures refused { IfErr result (Refuses changes.entry (view story.old)) }
 {
-    let story = read_story(alloc, input, changes, files)?;
-    *ignored = story.dropped;
-    check_page(alloc, &story, options)?;
-    Ok(play_and_render(alloc, story, options, watch)?)
-}
-
-/// Reads the rehearsal that this text asks for. The value that the text is read as is let go.
-fn read_story<Z: ZoneFiles>(
-    alloc: Global,
-    text: &[u8],
-    changes: Changes<'_>,
-    files: &mut Z,
-) -> Result<Input, RehearseFault>
-    ensures decoded { IfOk result (λ story. IsRequestBy changes.entry text.now story.output story.start story.expectations.items
-        story.dispatcher_changes.items story.rehearsal) }
-    ensures refused { IfErr result (λ fault. (options : OutputOptions) → Refuses changes.entry options text.now fault) }
-{
-    let value = read_document(alloc, text)?;
-    Ok(read_input(alloc, &value, changes, files)?)
+    let input = read_input(alloc, story, changes, files)?;
+    drop(story.take());
+    *ignored = input.dropped;
+    Ok(play_and_render(alloc, input, options, watch)?)
 }
 
 /// Plays a rehearsal, and says what is asked for.
@@ -223,6 +184,7 @@ fn play_and_render<W: Watch>(
         dropped: _,
     } = input;
     let changes = changes_of(alloc, dispatcher_changes.as_slice())?;
+    let outages = outages_for(alloc, output, rehearsal.outages.as_slice())?;
     let played = play_or_refuse(
         alloc,
         options.seed,
@@ -234,60 +196,15 @@ fn play_and_render<W: Watch>(
     let changes = changes.as_slice();
     let played = played.as_slice();
     let expectations = expectations.as_slice();
-    render_from(
-        alloc,
-        changes,
-        played,
-        &start,
-        expectations,
-        output,
+    let wanted = Wanted {
         options,
-    )
-}
-
-/// Refuses a page of which lines are to be left out, or which is of several dispatchers.
-fn check_page(alloc: Global, story: &Input, options: &OutputOptions) -> Result<(), InputFault>
-    ensures { IfErr result (λ _. (is_page story.now.output ≡ true)
-        × ((leaves_out options.now ≡ true) ⊎ (story.now.dispatcher_changes.items ≢ []))) }
-{
-    if !is_page(story.output) {
-        return Ok(());
-    }
-    if options.leaves_out() {
-        return Err(refused_output(alloc));
-    }
-    if story.dispatcher_changes.is_empty() {
-        return Ok(());
-    }
-    Err(refused_output(alloc))
-}
-
-fn refused_output(alloc: Global) -> InputFault {
-    let top = JsonPointer::Root;
-    top.member("output").refuse(alloc, FaultKind::BadValue)
-}
-
-/// Plays a rehearsal of one dispatcher, whose planned actions are at these pointers of the input.
-pub(crate) fn play_alone<W: Watch>(
-    alloc: Global,
-    seed: Seed,
-    rehearsal: Rehearsal,
-    origins: &[Origin],
-    watch: &mut W,
-) -> Result<PlayedPart, InputFault>
-    ensures plays { IfOk result (λ part. PlaysThrough rehearsal [] (part ∷ [])) }
-    ensures refused { IfErr result (RefusesPlay rehearsal []) }
-{
-    let dispatcher_changes = Vec::new(alloc);
-    let mut played = play_or_refuse(alloc, seed, rehearsal, dispatcher_changes, origins, watch)?;
-    match played.pop() {
-        Some(part) => Ok(part),
-        None => unreachable!(),
-    }
+        outages: outages.as_slice(),
+    };
+    render_all(alloc, changes, played, &start, expectations, output, wanted)
 }
 
 /// Plays a rehearsal with these changes of the dispatcher, whose planned actions are at these pointers of the input.
-fn play_or_refuse<W: Watch>(
+pub(crate) fn play_or_refuse<W: Watch>(
     alloc: Global,
     seed: Seed,
     rehearsal: Rehearsal,
@@ -301,12 +218,12 @@ fn play_or_refuse<W: Watch>(
     let Rehearsal {
         config,
         until,
-        maintain,
+        upkeep,
         plans,
         outages,
     } = rehearsal;
     let parts = parts_of(alloc, seed, config, until, plans, dispatcher_changes)?;
-    let ended = play_parts(alloc, seed, parts, maintain, outages.as_slice(), watch);
+    let ended = play_parts(alloc, seed, parts, upkeep, outages.as_slice(), watch);
     watch.end();
     match ended {
         Ok(played) => Ok(played),

@@ -43,6 +43,14 @@ pub struct SeenSilence {
 }
 
 impl Incident {
+    /// Adds a label to each alert that has none of its name.
+    pub fn add_label(&mut self, alloc: Global, name: &str, value: &str) -> Result<(), AllocError> {
+        for alert in self.alerts.iter_mut() {
+            add_label(alloc, &mut alert.labels, name, value)?;
+        }
+        Ok(())
+    }
+
     /// Returns when the first alert fired; where there is none, the end.
     fn start(&self) -> u64 {
         let mut start = self.end;
@@ -95,14 +103,43 @@ impl Incident {
     }
 }
 
+/// Adds a label to these, which are in the order of their names, unless there is one of its name.
+fn add_label(
+    alloc: Global,
+    labels: &mut Vec<(String, String)>,
+    name: &str,
+    value: &str,
+) -> Result<(), AllocError> {
+    let behind = labels.iter().position(|label| label.0.as_str() >= name);
+    if let Some(index) = behind {
+        if labels
+            .get(index)
+            .is_some_and(|label| label.0.as_str() == name)
+        {
+            return Ok(());
+        }
+    }
+    let label = (
+        String::from_str(alloc, name)?,
+        String::from_str(alloc, value)?,
+    );
+    let end = labels.len();
+    labels.insert(behind.unwrap_or(end).min(end), label)?;
+    Ok(())
+}
+
+/// Adds an alert: a line with its labels, and one with all spans in which it fired.
 fn push_alert(alert: &SeenAlert, start: u64, out: &mut String) -> Result<(), AllocError> {
     out.push_str("- labels: {")?;
     push_labels(alert.labels.as_slice(), out)?;
-    out.push_str("}\n  spans:\n")?;
+    out.push_str("}\n  spans: [")?;
+    let mut separator = "";
     for span in &alert.spans {
+        out.push_str(separator)?;
         push_span(*span, start, out)?;
+        separator = ", ";
     }
-    Ok(())
+    out.push_str("]\n")
 }
 
 fn push_labels(labels: &[(String, String)], out: &mut String) -> Result<(), AllocError> {
@@ -118,13 +155,13 @@ fn push_labels(labels: &[(String, String)], out: &mut String) -> Result<(), Allo
 }
 
 fn push_span(span: SeenSpan, start: u64, out: &mut String) -> Result<(), AllocError> {
-    out.push_str("  - {from: ")?;
+    out.push_str("{from: ")?;
     push_duration(span.from.saturating_sub(start), out)?;
     if let Some(to) = span.to {
         out.push_str(", to: ")?;
         push_duration(to.saturating_sub(start), out)?;
     }
-    out.push_str("}\n")
+    out.push('}')
 }
 
 /// Adds the silences that last beyond the start, if there are any. Each ends at the last time at the latest.

@@ -21,14 +21,23 @@ pub struct Rehearsal {
     /// The last time at which something happens, except the ends of notices in flight; at most
     /// `MAX_UNTIL`.
     pub until: u64,
-    /// The time between two maintenances, in milliseconds; not zero.
-    pub maintain: u64,
+    pub upkeep: Upkeep,
     /// The planned actions, in the order of their times.
     pub plans: Vec<TimedAction>,
     /// The outages. If two cover an attempt, the first one answers.
     pub outages: Vec<Outage>,
     ghost ends: { until ≤ MAX_UNTIL },
+}
+
+/// How often a dispatcher tidies up, in milliseconds; not zero.
+#[derive(Clone, Copy)]
+pub struct Upkeep {
+    /// The time between two maintenances.
+    pub maintain: u64,
+    /// The time between two ticks, at which empty groups are removed.
+    pub remove_empty_groups: u64,
     ghost continues: { 1 ≤ maintain },
+    ghost ticks: { 1 ≤ remove_empty_groups },
 }
 
 /// An action and its time.

@@ -14,6 +14,8 @@ pub mod Appended
 pub mod Rows
 -- the first elements of a list, the last of them first
 pub mod Reversed
+-- begins at which the entry of an integration is exactly as old as `repeat_interval`
+pub mod Edges
 -- previews of two flushes that are alike have the same lines
 pub mod Likeness
 -- runs of like flushes, by a table of the last flush of each group
@@ -30,5 +32,7 @@ pub mod Logged
 pub mod LastEntries
 -- a table of expired entries, with those of one more integration and of one more record
 pub mod ExpiredTable
+-- what a receiver got by some events, and by one more
+pub mod Tallies
 -- the outcomes after a record, by the place of the first finish
 pub mod Finished

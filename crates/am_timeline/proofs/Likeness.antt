@@ -13,43 +13,61 @@ use Rattle.am_model.specs.look_back.Reasons.{notifies}
 use Rattle.am_model.specs.Notice.{NoticeData}
 use Rattle.am_terms.specs.declared.event.PreviewedBegin.{PreviewedBegin}
 use Rattle.am_terms.specs.TimeFormatData.{TimeFormatData}
-use Rattle.am_timeline.specs.Alike.{AreAlike, is_unasked}
+use Rattle.am_timeline.specs.Alike.{AreAlike, has_no_edge, is_unasked}
 use Rattle.am_timeline.specs.Playback.{PlaybackData, notices_at}
 use Rattle.am_timeline.specs.Runs.{lines_by, sends_nothing, start_frame}
-use Rattle.am_timeline.specs.Timeline.{FrameData, begun_lines, notified_lines, is_sent_nothing, muted_line, no_integrations_line, not_sent_line, nothing_left, nothing_left_line, quiet_line, quiet_lines, reason_text}
+use Rattle.am_timeline.specs.Timeline.{FrameData, begun_lines, notified_lines, is_sent_nothing, muted_line, no_integrations_line, not_sent_line, nothing_left, nothing_left_line, quiet_line, quiet_lines}
+use Rattle.am_timeline.specs.Timeline.{edge_text, is_on_edge, next_flush, quiet_reason_text, reason_text}
 
 -- a preview
 abbrev preview_of : ℕ → GroupName → List MutedAlert → List Reason → Preview
 preview_of time group muted reasons = record { time = time; group = group; muted = muted; reasons = reasons }
 
--- a line on an integration that isn't asked is the same at another time, with other notices
+-- where a begin isn't on the edge, its reason is shown
+no-edge : (config : Config) (times : TimeFormatData) (o : Preview) (r : Reason) → not (is_on_edge o.time r) ≡ true
+    → quiet_reason_text config times o r ≡ reason_text times r
+no-edge config times o r h = by (is_on_edge o.time r) h
+  where
+    by : (b : Bool) → not b ≡ true → (if b then edge_text times o.time (next_flush config o) else reason_text times r) ≡ reason_text times r
+    by true h = cc
+    by false h = refl
+
+-- a line on an integration that isn't asked is the same at another time, with other notices, where neither time is on the edge
 quiet_line-timeless : (config : Config) (times : TimeFormatData) (frame : FrameData) (t u : ℕ) (g : GroupName) (m : List MutedAlert) (rs : List Reason)
-    (some others : List NoticeData) (position : ℕ) (r : Reason) → is_unasked r ≡ true
+    (some others : List NoticeData) (position : ℕ) (r : Reason) → is_unasked r ≡ true → not (is_on_edge t r) ≡ true → not (is_on_edge u r) ≡ true
     → quiet_line config times frame (preview_of t g m rs) some position r ≡ quiet_line config times frame (preview_of u g m rs) others position r
-quiet_line-timeless config times frame t u g m rs some others position r h = by (notifies r) h
+quiet_line-timeless config times frame t u g m rs some others position r h before after = by (notifies r) h
   where
     sent_line : List ℕ
     sent_line = not_sent_line config times frame (preview_of t g m rs) position (codes "all resolved, which it isn't sent")
 
-    quiet : List ℕ
-    quiet = not_sent_line config times frame (preview_of t g m rs) position (reason_text times r)
+    quiet : ℕ → List ℕ
+    quiet at = not_sent_line config times frame (preview_of at g m rs) position (quiet_reason_text config times (preview_of at g m rs) r)
+
+    same : quiet t ≡ quiet u
+    same =
+        ap (not_sent_line config times frame (preview_of t g m rs) position)
+        (no-edge config times (preview_of t g m rs) r before ∙ sym (no-edge config times (preview_of u g m rs) r after))
 
     by : (b : Bool) → not b ≡ true
-        → (if b then (if is_sent_nothing some position then sent_line else []) else quiet)
-        ≡ (if b then (if is_sent_nothing others position then sent_line else []) else quiet)
+        → (if b then (if is_sent_nothing some position then sent_line else []) else quiet t)
+        ≡ (if b then (if is_sent_nothing others position then sent_line else []) else quiet u)
     by true h = cc
-    by false h = refl
+    by false h = same
 
 -- the same of the lines on integrations of which none is asked
 quiet_lines-timeless : (config : Config) (times : TimeFormatData) (frame : FrameData) (t u : ℕ) (g : GroupName) (m : List MutedAlert) (rs : List Reason)
     (some others : List NoticeData) (position : ℕ) (reasons : List Reason) → list_all is_unasked reasons ≡ true
+    → list_all (λ r. not (is_on_edge t r)) reasons ≡ true → list_all (λ r. not (is_on_edge u r)) reasons ≡ true
     → quiet_lines config times frame (preview_of t g m rs) some position reasons
     ≡ quiet_lines config times frame (preview_of u g m rs) others position reasons
-quiet_lines-timeless config times frame t u g m rs some others position [] h = refl
-quiet_lines-timeless config times frame t u g m rs some others position (r ∷ reasons) h =
+quiet_lines-timeless config times frame t u g m rs some others position [] h before after = refl
+quiet_lines-timeless config times frame t u g m rs some others position (r ∷ reasons) h before after =
     let parts = and_parts _ _ h in
-    let first = quiet_line-timeless config times frame t u g m rs some others position r parts.0 in
-    let rest = quiet_lines-timeless config times frame t u g m rs some others (position + 1) reasons parts.1 in
+    let old = and_parts _ _ before in
+    let new = and_parts _ _ after in
+    let first = quiet_line-timeless config times frame t u g m rs some others position r parts.0 old.0 new.0 in
+    let rest = quiet_lines-timeless config times frame t u g m rs some others (position + 1) reasons parts.1 old.1 new.1 in
     λ i. first i ++ rest i
 
 -- the lines on a flush with this preview and these notices
@@ -60,19 +78,21 @@ shown config times frame o notices =
 
 -- they are the same at another time, with other notices, where no integration is asked
 shown-timeless : (config : Config) (times : TimeFormatData) (frame : FrameData) (t u : ℕ) (g : GroupName) (m : List MutedAlert) (rs : List Reason)
-    (some others : List NoticeData) → list_all is_unasked rs ≡ true
+    (some others : List NoticeData) → list_all is_unasked rs ≡ true → has_no_edge (preview_of t g m rs) ≡ true → has_no_edge (preview_of u g m rs) ≡ true
     → shown config times frame (preview_of t g m rs) some ≡ shown config times frame (preview_of u g m rs) others
-shown-timeless config times frame t u g m rs some others h =
+shown-timeless config times frame t u g m rs some others h before after =
     let o = preview_of t g m rs in
     ap (λ (lines : List ℕ). if nothing_left rs then nothing_left_line config times frame o
     else muted_line config times frame o ++ (if length rs == 0 then no_integrations_line config times frame o (codes "no integrations") else lines))
-    (quiet_lines-timeless config times frame t u g m rs some others 0 rs h)
+    (quiet_lines-timeless config times frame t u g m rs some others 0 rs h before after)
 
 -- they are the same where the previews are alike
 shown-alike : (config : Config) (times : TimeFormatData) (frame : FrameData) (o p : Preview) (some others : List NoticeData) → AreAlike o p
     → shown config times frame o some ≡ shown config times frame p others
 shown-alike config times frame o p some others alike =
-    shown-timeless config times frame o.time p.time o.group o.muted o.reasons some others alike.1
+    let likewise : has_no_edge (preview_of p.time o.group o.muted o.reasons) ≡ true =
+    ap (λ (rs : List Reason). has_no_edge (preview_of p.time o.group o.muted rs)) alike.0.2 ∙ alike.3 in
+    shown-timeless config times frame o.time p.time o.group o.muted o.reasons some others alike.1 alike.2 likewise
     ∙ (λ i. shown config times frame (preview_of p.time (alike.0.0 i) (alike.0.1 i) (alike.0.2 i)) others)
 
 -- begins with previews that are alike are compared by the same lines, where neither sends anything or all have lines

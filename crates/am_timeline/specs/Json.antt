@@ -30,7 +30,8 @@ use Rattle.am_terms.specs.declared.event.PreviewedBegin.{PreviewedBegin}
 use Rattle.am_terms.specs.TimeFormatData.{TimeFormatData}
 use Rattle.am_timeline.specs.Shown.{hex_text}
 use Rattle.am_timeline.specs.Playback.{PlaybackData, SentData, is_delivered, notices_at, sent_of}
-use Rattle.am_timeline.specs.Timeline.{expiry_before, expiry_if_first, is_late, is_sent_nothing, labels_of, nothing_left, reason_words}
+use Rattle.am_timeline.specs.Timeline.{expiry_before, expiry_if_first, is_late, is_on_edge, is_sent_nothing, labels_of, next_flush}
+use Rattle.am_timeline.specs.Timeline.{nothing_left, reason_words}
 
 -- a member of an object: its name and its value
 abbrev pub Member : Type 0
@@ -184,15 +185,20 @@ unfoldable pub unasked_members : Config → TimeFormatData → Preview → List 
 unasked_members config times o =
     begun_members config times (codes "quiet") o ++ receiver_member config o.group ∷ text_at (codes "reason") (codes "no integrations") ∷ []
 
--- why an integration is sent nothing
-abbrev pub quiet_reason_members : Reason → List Member
-quiet_reason_members reason =
-    if notifies reason then text_at (codes "reason") (codes "all resolved, which it isn't sent") ∷ [] else reason_members reason
+-- when the next flush begins, if a begin is on the edge for an integration: the notice is repeated at one of the two
+abbrev pub edge_members : Config → Preview → Reason → List Member
+edge_members config o reason = if is_on_edge o.time reason then number_at (codes "edge") (next_flush config o) ∷ [] else []
+
+-- why an integration is sent nothing at a begin
+abbrev pub quiet_reason_members : Config → Preview → Reason → List Member
+quiet_reason_members config o reason =
+    if notifies reason then text_at (codes "reason") (codes "all resolved, which it isn't sent") ∷ []
+    else reason_members reason ++ edge_members config o reason
 
 -- an integration that is sent nothing, and why
 unfoldable pub quiet_members : Config → TimeFormatData → Preview → ℕ → Reason → List Member
 quiet_members config times o position reason =
-    begun_members config times (codes "quiet") o ++ integration_members config o.group position ++ quiet_reason_members reason
+    begun_members config times (codes "quiet") o ++ integration_members config o.group position ++ quiet_reason_members config o reason
 
 -- a character of a line: a control character that JSON allows, from U+007F to U+009F, by its number, as `\u0085`
 abbrev pub char_uncontrolled : ℕ → List ℕ

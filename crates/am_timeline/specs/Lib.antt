@@ -14,6 +14,8 @@ pub mod Finishes
 pub mod Playback
 -- what happened in a rehearsal, a line for each event
 pub mod Timeline
+-- begins at which the entry of an integration is exactly as old as `repeat_interval`
+pub mod Edges
 -- the timeline as JSON, an object on each line
 pub mod Json
 -- previews of two flushes of which the timeline has the same lines, save for their times
@@ -24,6 +26,8 @@ pub mod Runs
 pub mod Notices
 -- what each receiver got, a line for each
 pub mod Table
+-- what a receiver got by some events
+pub mod Tally
 -- the events of a rehearsal that concern a receiver, a route or some alerts
 pub mod Filtered
 -- the events of a rehearsal, without the flushes that say the same as the flush before of their group

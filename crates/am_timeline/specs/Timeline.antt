@@ -1,10 +1,11 @@
 -- Timeline: what happened in a rehearsal, a line for each event.
 use Rattle.std.specs.Prelude.{ℕ, ◌+◌, Bool, true, false, not, ◌&&◌, ◌==◌, List, [], ◌∷◌, ◌++◌, length, codes, decimal}
-use Rattle.std.specs.Prelude.{nat_lt, Option, None, slice_get, if◌then◌else◌}
+use Rattle.std.specs.Prelude.{min, nat_lt, Option, None, slice_get, if◌then◌else◌}
 use Rattle.std.specs.List.{flat_map, join_by, list_all}
 use Rattle.std.specs.Option.{option_map_or}
 use Rattle.am_alerts.specs.AlertData.{AlertData}
 use Rattle.am_alerts.specs.declared.labels.Label.{Label}
+use Rattle.am_alerts.specs.declared.limits.TheConstants.{MAX_TIME}
 use Rattle.am_mute.specs.declared.mute.MuteCause.{MuteCause}
 use Rattle.am_mute.specs.declared.mute.MuteCause.TheVariants.{Silenced, Inhibited}
 use Rattle.am_retry.specs.declared.outcome.Outcome.{Outcome}
@@ -74,6 +75,36 @@ repeat_text times (RouteMuted until) = times.text until
 -- a reason
 abbrev pub reason_text : TimeFormatData → Reason → List ℕ
 reason_text times reason = reason_words reason ++ repeat_text times reason
+
+-- whether a begin at t is on the edge for an integration: its entry is exactly as old as `repeat_interval`, so the first time from which
+-- it is repeated is 1 ms later. Alertmanager's times have parts of a millisecond: it repeats at this flush or at the next one
+abbrev pub is_on_edge : ℕ → Reason → Bool
+is_on_edge t FirstNotice = false
+is_on_edge t NewAlert = false
+is_on_edge t AllResolved = false
+is_on_edge t NewlyResolved = false
+is_on_edge t Repeat = false
+is_on_edge t NothingLeft = false
+is_on_edge t NothingFiring = false
+is_on_edge t (NotYet from) = from == t + 1
+is_on_edge t (RouteMuted until) = false
+
+-- when the group of a begin is flushed next: `group_interval` later
+abbrev pub next_flush : Config → Preview → ℕ
+next_flush config o = min (o.time + (route_of config o.group).group_interval) MAX_TIME
+
+-- a time behind a word
+unfoldable pub time_behind : TimeFormatData → List ℕ → ℕ → List ℕ
+time_behind times word t = word ++ times.text t
+
+-- that a notice is repeated at one of two flushes
+unfoldable pub edge_text : TimeFormatData → ℕ → ℕ → List ℕ
+edge_text times t next = time_behind times (codes "repeat at ") t ++ time_behind times (codes " or ") next ++ codes ": on the edge"
+
+-- why an integration is sent nothing at a begin
+abbrev pub quiet_reason_text : Config → TimeFormatData → Preview → Reason → List ℕ
+quiet_reason_text config times o reason =
+    if is_on_edge o.time reason then edge_text times o.time (next_flush config o) else reason_text times reason
 
 -- when the entry expired whose lack makes a notice a first one, if it had
 abbrev pub expiry_if_first : Option ℕ → Reason → Option ℕ
@@ -237,7 +268,7 @@ quiet_line config times frame o notices position reason =
     if notifies reason
     then (if is_sent_nothing notices position
     then not_sent_line config times frame o position (codes "all resolved, which it isn't sent") else [])
-    else not_sent_line config times frame o position (reason_text times reason)
+    else not_sent_line config times frame o position (quiet_reason_text config times o reason)
 
 -- the integrations from a position on, at a begin
 abbrev pub quiet_lines : Config → TimeFormatData → FrameData → Preview → List NoticeData → ℕ → List Reason → List ℕ

@@ -4,14 +4,15 @@ ghost use Rattle.std.specs.Prelude.{◌≡◌, ◌++◌, OnOk, string_bytes};
 ghost use Rattle.std.specs.List.{list_all};
 ghost use Rattle.am_timeline.specs.Timeline.{notified_lines, begun_lines, is_left};
 ghost use Rattle.am_timeline.specs.Timeline.{is_sent_nothing, nothing_left_line, nothing_left_text, muted_line};
-ghost use Rattle.am_timeline.specs.Timeline.{nothing_left, quiet_line, quiet_lines};
-ghost use Rattle.am_timeline.specs.Timeline.{reason_text, no_integrations_line, not_sent_line, not_sent_text};
+ghost use Rattle.am_timeline.specs.Timeline.{edge_text, next_flush, nothing_left, quiet_line, quiet_lines, quiet_reason_text, time_behind};
+ghost use Rattle.am_timeline.specs.Timeline.{no_integrations_line, not_sent_line, not_sent_text};
 
 use crate::frame::Frame;
 use crate::groups::{push_group, push_group_receiver, push_target};
-use crate::line::{push_reason, push_time};
+use crate::line::{is_on_edge, push_reason, push_time};
 use crate::muted::push_muted;
 use crate::playback::{Playback, notice_for, notices_at};
+use am_alerts::limits::MAX_TIME;
 use am_model::config::Config;
 use am_model::notice::Notice;
 use am_model::preview::MutedAlert;
@@ -187,11 +188,66 @@ fn push_not_notified<C: TimeFormat>(
     out: &mut String,
 ) -> Result<(), AllocError>
     ensures { OnOk result (string_bytes out.new ≡ string_bytes out.old
-        ++ not_sent_line config.now (C.times clock.now) frame.now preview.now position (reason_text (C.times clock.now) reason.now)) }
+        ++ not_sent_line config.now (C.times clock.now) frame.now preview.now position
+        (quiet_reason_text config.now (C.times clock.now) preview.now reason.now)) }
 {
     push_untold_front(config, clock, frame, preview, position, out)?;
-    push_reason(clock, reason, out)?;
+    push_quiet_reason(config, clock, preview, reason, out)?;
     out.push_str(frame.ending)
+}
+
+/// Adds why an integration is sent nothing at a begin.
+fn push_quiet_reason<C: TimeFormat>(
+    config: &Config,
+    clock: &C,
+    preview: &SharedPreview,
+    reason: &Reason,
+    out: &mut String,
+) -> Result<(), AllocError>
+    ensures { OnOk result (string_bytes out.new ≡ string_bytes out.old
+        ++ quiet_reason_text config.now (C.times clock.now) preview.now reason.now) }
+{
+    if is_on_edge(preview.time(), reason) {
+        return push_edge(clock, preview.time(), next_flush(config, preview), out);
+    }
+    push_reason(clock, reason, out)
+}
+
+/// Adds that a notice is repeated at one of two flushes.
+#[tactic(auto, unfolding(crate::specs::Timeline::edge_text))]
+fn push_edge<C: TimeFormat>(
+    clock: &C,
+    at: u64,
+    next: u64,
+    out: &mut String,
+) -> Result<(), AllocError>
+    ensures { OnOk result (string_bytes out.new ≡ string_bytes out.old ++ edge_text (C.times clock.now) at next) }
+{
+    push_behind(clock, "repeat at ", at, out)?;
+    push_behind(clock, " or ", next, out)?;
+    out.push_str(": on the edge")
+}
+
+/// Adds a time behind a word.
+#[tactic(auto, unfolding(crate::specs::Timeline::time_behind))]
+fn push_behind<C: TimeFormat>(
+    clock: &C,
+    word: &str,
+    at: u64,
+    out: &mut String,
+) -> Result<(), AllocError>
+    ensures { OnOk result (string_bytes out.new ≡ string_bytes out.old ++ time_behind (C.times clock.now) word.now at) }
+{
+    out.push_str(word)?;
+    clock.push_time(at, out)
+}
+
+/// Returns when the group of a begin is flushed next, in milliseconds.
+pub(crate) fn next_flush(config: &Config, preview: &SharedPreview) -> u64
+    ensures { result ≡ next_flush config.now preview.now }
+{
+    let interval = config.route_of(preview.group()).group_interval;
+    preview.time().saturating_add(interval).min(MAX_TIME)
 }
 
 fn push_untold<C: TimeFormat>(

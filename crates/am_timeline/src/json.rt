@@ -3,7 +3,7 @@ ghost use Rattle.std.specs.Prelude.{◌≡◌, ◌++◌, ◌∷◌, [], IfOk, On
 ghost use Rattle.std.specs.Option.{option_map_or};
 ghost use Rattle.serde_json.specs.Data.{no_members};
 ghost use Rattle.serde_json.specs.View.{members_view};
-ghost use Rattle.am_timeline.specs.Json.{begun_members, content_members, json_of_notified, json_of_begun, json_of_event};
+ghost use Rattle.am_timeline.specs.Json.{begun_members, content_members, edge_members, json_of_notified, json_of_begun, json_of_event};
 ghost use Rattle.am_timeline.specs.Json.{json_of_muted, json_of_quiet, json_of_reasons, json_of_sent, json_text, late_members};
 ghost use Rattle.am_timeline.specs.Json.{left_members, muted_member, muted_members, object_line, outcome_members, outcome_word};
 ghost use Rattle.am_timeline.specs.Json.{number_at, put_all, quiet_members, quiet_reason_members, reason_members, sending_members};
@@ -12,8 +12,8 @@ ghost use Rattle.am_timeline.specs.Playback.{sent_of};
 
 mod object;
 
-use crate::begun::{is_sent_nothing, nothing_left};
-use crate::line::{expiry_if_first, reason_words};
+use crate::begun::{is_sent_nothing, next_flush, nothing_left};
+use crate::line::{expiry_if_first, is_on_edge, reason_words};
 use crate::playback::{Playback, notices_at};
 use crate::sent::{Sent, expiry_before, sent_of};
 use am_model::config::Config;
@@ -32,7 +32,8 @@ use std::alloc::{AllocError, Global};
 /// start), `time` (as the format shows it), `route` and `group` (the group labels). Where they
 /// apply it has:
 /// - `receiver`, `integration` (as `hook/0`), `outcome`, `attempts`, `reason`;
-/// - `since`, `from`, `until`, `expired`, and the `deadline` that a sending missed (milliseconds);
+/// - `since`, `from`, `until`, `expired`, the `deadline` that a sending missed, and `edge`, the next flush, where a notice is
+///   repeated at this one or there (milliseconds);
 /// - `firing` and `resolved` (lists of label sets);
 /// - `muted` (a list of objects with `labels`, `cause`, and `until` or `by` and `rule`).
 pub fn json_text<C: TimeFormat>(
@@ -493,19 +494,44 @@ fn quiet_object<C: TimeFormat>(
 {
     let mut object = begun_object(alloc, config, clock, "quiet", preview)?;
     object.put_integration(config, preview.group(), position)?;
-    put_quiet_reason(reason, &mut object)?;
+    put_quiet_reason(config, preview, reason, &mut object)?;
     Ok(object)
 }
 
-/// Puts why an integration isn't notified.
-fn put_quiet_reason(reason: &Reason, object: &mut Object) -> Result<(), AllocError>
+/// Puts why an integration isn't notified at a begin.
+#[tactic(auto, using(crate::proofs::Members::put_more))]
+fn put_quiet_reason(
+    config: &Config,
+    preview: &SharedPreview,
+    reason: &Reason,
+    object: &mut Object,
+) -> Result<(), AllocError>
     ensures { OnOk result (members_view object.new.members.entries
-        ≡ put_all (members_view object.old.members.entries) (quiet_reason_members reason.now)) }
+        ≡ put_all (members_view object.old.members.entries) (quiet_reason_members config.now preview.now reason.now)) }
 {
     if reason.notifies() {
         return object.put_text("reason", "all resolved, which it isn't sent");
     }
-    put_reason(reason, object)
+    put_reason(reason, object)?;
+    put_edge(config, preview, reason, object)?;
+    Ok(())
+}
+
+/// Puts when the next flush begins, if a begin is on the edge for an integration.
+#[tactic(auto, unfolding(crate::specs::Json::put_all))]
+fn put_edge(
+    config: &Config,
+    preview: &SharedPreview,
+    reason: &Reason,
+    object: &mut Object,
+) -> Result<(), AllocError>
+    ensures { OnOk result (members_view object.new.members.entries
+        ≡ put_all (members_view object.old.members.entries) (edge_members config.now preview.now reason.now)) }
+{
+    if is_on_edge(preview.time(), reason) {
+        return object.put_number("edge", next_flush(config, preview));
+    }
+    Ok(())
 }
 
 fn begun_object<C: TimeFormat>(

@@ -1,4 +1,5 @@
-//! Worked rows, and the laws of escaped texts and of last entries. Verifiers read them.
+//! Worked rows, and the laws of edges, of escaped texts and of last entries. Verifiers read them.
+ghost use Rattle.am_timeline.specs.Edges.{EdgesAreOfAge};
 ghost use Rattle.am_timeline.specs.Escaped.{CutIsContent, EscapedIsContent};
 ghost use Rattle.am_timeline.specs.LastEntry.{LastEntriesAreRows};
 ghost use Rattle.am_timeline.specs.Rows.{TextsAreShown};
@@ -17,4 +18,9 @@ pub fn escaped_text_is_content()
 /// States that the last entry of a group and an integration expires when their row of the log does, while there is one. Does nothing.
 pub fn last_entries_are_rows()
     ensures { LastEntriesAreRows }
+{}
+
+/// States that a flush is on the edge for an integration exactly if its entry is as old as `repeat_interval`. Does nothing.
+pub fn edges_are_of_age()
+    ensures { EdgesAreOfAge }
 {}

@@ -32,4 +32,5 @@ pub mod sent;
 pub mod short_timeline;
 pub mod shown;
 pub mod table;
+mod tally;
 pub mod timeline;

@@ -1,7 +1,7 @@
 //! The parts of lines. The modules of lines call it.
 ghost use Rattle.std.specs.Prelude.{◌≡◌, ◌++◌, OnOk, string_bytes};
 ghost use Rattle.am_timeline.specs.Timeline.{attempts_text, expired_text, expiry_if_first, time_text, reason_text, reason_words};
-ghost use Rattle.am_timeline.specs.Timeline.{repeat_text, retries_text, sent_reason_text, sent_words};
+ghost use Rattle.am_timeline.specs.Timeline.{is_on_edge, repeat_text, retries_text, sent_reason_text, sent_words};
 
 use am_model::reason::Reason;
 use am_terms::clock::{TimeFormat, push_column, push_number};
@@ -66,6 +66,16 @@ pub(crate) fn push_reason<C: TimeFormat>(
 {
     out.push_str(reason_words(reason))?;
     push_repeat(clock, reason, out)
+}
+
+/// Returns whether a begin at this time, in milliseconds, is on the edge for an integration: 1 ms later it would be repeated.
+pub(crate) fn is_on_edge(at: u64, reason: &Reason) -> bool
+    ensures { result ≡ is_on_edge at reason.now }
+{
+    match reason {
+        Reason::NotYet { from } => at < *from && *from - at == 1,
+        _ => false,
+    }
 }
 
 /// Adds why a notice was sent, where the log entry had expired at this time, if it had.

@@ -1,13 +1,14 @@
 //! `LabelSets`: the label sets that were added. Contracts see it as the list of them.
 //!
 //! Invariant: the set has exactly the label sets that were added.
-ghost use Rattle.std.specs.Prelude.{◌≡◌, ◌++◌, ◌∷◌, [], OnOk, map};
+ghost use Rattle.std.specs.Prelude.{◌≡◌, ◌++◌, ◌∷◌, [], OnErr, OnOk, map};
 ghost use Rattle.am_timeline.specs.Timeline.{labels_of};
-ghost use Rattle.am_undelivered.specs.Undelivered.{is_among};
+ghost use Rattle.am_undelivered.specs.Sets.{is_among};
 
 use am_alerts::alert::Alert;
 use am_alerts::labels::Labels;
 use am_ghost::GhostList;
+use am_model::preview::MutedAlert;
 use am_seed::Seed;
 use std::alloc::{AllocError, Global};
 use std::collections::HashSet;
@@ -15,7 +16,7 @@ use std::marker::Model;
 
 /// The label sets that were added.
 #[derive(Drop)]
-pub(crate) struct LabelSets {
+pub struct LabelSets {
     alloc: Global,
     sets: HashSet<Labels, Seed>,
     added: GhostList<Labels>,
@@ -26,7 +27,7 @@ impl Model for LabelSets {
     ghost use Rattle.std.specs.HashSet.{contains};
     ghost use Rattle.am_alerts.specs.Labels.{same_label_set};
     ghost use Rattle.am_alerts.specs.declared.labels.Label.{Label};
-    ghost use Rattle.am_undelivered.specs.Undelivered.{is_among};
+    ghost use Rattle.am_undelivered.specs.Sets.{is_among};
 
     ghost Value = { List (List Label) };
 
@@ -54,21 +55,22 @@ impl LabelSets {
         self.sets.contains(labels)
     }
 
-    /// Adds a label set.
+    /// Adds a label set. On a failure it is as before.
     pub(crate) fn add(&mut self, labels: &Labels) -> Result<(), AllocError>
-        ensures { OnOk result (self.new ≡ self.old ++ labels.now ∷ []) }
+        ensures added { OnOk result (self.new ≡ self.old ++ labels.now ∷ []) }
+        ensures unchanged { OnErr result (self.new ≡ self.old) }
     {
         self.sets.insert(labels.copy(self.alloc)?)?;
         self.added.add(labels);
         Ok(())
     }
 
-    /// Adds these label sets.
-    pub(crate) fn add_all(&mut self, sets: &[Labels]) -> Result<(), AllocError>
-        ensures { OnOk result (self.new ≡ self.old ++ sets.now) }
+    /// Adds the label sets of these muted alerts.
+    pub(crate) fn add_muted(&mut self, muted: &[MutedAlert]) -> Result<(), AllocError>
+        ensures { OnOk result (self.new ≡ self.old ++ map (λ m. m.labels) muted.now) }
     {
-        for labels in sets {
-            self.add(labels)?;
+        for alert in muted {
+            self.add(&alert.labels)?;
         }
         Ok(())
     }

@@ -1,11 +1,14 @@
-//! The alerts of a rehearsal that nobody was notified of: for how long they fired, and why. `am_rehearse` prints them.
+//! The spans of firing of a rehearsal that an integration wasn't notified of, or of whose end, and why. `am_rehearse` prints them.
 #![tactic(auto)]
 
-mod durations;
-mod findings;
-mod known;
+mod fate;
+mod flush;
+mod known_sets;
 mod label_sets;
-mod muted_alerts;
-mod notified_labels;
+mod members;
+mod missed;
+mod notified;
+mod recipient;
 pub mod report;
-mod route_mutes;
+mod span;
+mod watches;

@@ -1,99 +1,57 @@
-//! The alerts that nobody was notified of. `am_rehearse` prints them below the table.
+//! The spans of firing of which an integration that should have been notified wasn't, or not of the end. `am_rehearse` prints them
+//! below the table.
 //!
-//! Each has for how long it fired, and why nobody was notified. All follows from the history and
-//! from what the begins were to do. Cost: the history and the previews; then for each alert that is
-//! listed, its routes.
-ghost use Rattle.std.specs.Prelude.{◌≡◌, ◌++◌, IfOk, None, OnOk, Some, option_copied, string_bytes};
+//! All follows from the histories of a rehearsal and from what its begins were to do. Cost: the histories; each flush costs the alerts
+//! of its group.
+ghost use Rattle.std.specs.Prelude.{◌≡◌, ◌++◌, false, IfOk, None, OnOk, Some, codes, find, is_some, option_copied, string_bytes};
+ghost use Rattle.am_alerts.specs.Labels.{same_label_set};
 ghost use Rattle.std.specs.List.{flat_map, list_all};
-ghost use Rattle.am_model.specs.Lists.{without};
-ghost use Rattle.am_undelivered.specs.Undelivered.{alert_fired_text, before_text, behind_empty_line, failed_each_text, fired_text};
-ghost use Rattle.am_undelivered.specs.Undelivered.{has_no_integrations, has_none_at, is_among, muted_each_text, undelivered_cause};
-ghost use Rattle.am_undelivered.specs.Undelivered.{undelivered_front, undelivered_in, undelivered_line, undelivered_text};
-ghost use Rattle.am_undelivered.specs.Undelivered.{muted_before_text, muted_besides_text, route_muted_text, unseen_text};
-ghost use Rattle.am_undelivered.specs.Undelivered.{unsent_by_route_text, unsent_text};
+ghost use Rattle.std.specs.Option.{option_map_or};
+ghost use Rattle.am_undelivered.specs.Spans.{sets_in, spans_in};
+ghost use Rattle.am_undelivered.specs.Undelivered.{behind_empty_line, cause_at, fate_text, fired_text, left_out_front};
+ghost use Rattle.am_undelivered.specs.Undelivered.{left_out_text, lines_by};
+ghost use Rattle.am_undelivered.specs.Undelivered.{missed_line, missed_of, missed_text, muted_text, no_integrations_line, preview_at};
+ghost use Rattle.am_undelivered.specs.Undelivered.{recipient_line, recipient_text, same_missed, set_lines, span_front, span_lines};
+ghost use Rattle.am_undelivered.specs.Undelivered.{subject_text, when_text};
+ghost use Rattle.am_undelivered.specs.Undelivered.{spans_lines, undelivered_text, unflushed_text, whom_text};
 
-use crate::findings::Findings;
-use crate::known::known_alerts;
-use crate::label_sets::LabelSets;
-use crate::muted_alerts::Mute;
-use crate::notified_labels::notified_sets;
-use am_alerts::alert::Alert;
+use crate::fate::Fate;
+use crate::flush::route_muted_until;
+use crate::missed::{Missed, missed_of, same_missed};
+use crate::recipient::Recipient;
+use crate::span::{Span, Spans};
+use crate::watches::Watches;
 use am_alerts::labels::Labels;
-use am_model::config::Config;
-use am_model::group::GroupName;
-use am_model::record::Record;
-use am_mute::mute::MuteCause;
-use am_seed::Seed;
-use am_terms::clock::{TimeFormat, push_counted};
+use am_model::preview::MutedAlert;
+use am_terms::clock::{TimeFormat, push_number};
+use am_terms::shared_preview::SharedPreview;
 use am_timeline::muted::push_cause;
 use am_timeline::playback::Playback;
-use am_timeline::shown::push_set;
+use am_timeline::shown::{push_set, push_text};
 use std::alloc::{AllocError, Global};
 
-/// Returns the alerts that nobody was notified of, forgotten ones too, as they were inserted last, the latest at the end.
+/// Returns an empty line and a line for each span of firing of which an integration that should have been notified wasn't, or not of
+/// the end; nothing where there is none. The playbacks are those of a rehearsal's dispatchers, one after another.
 ///
-/// A notice counts if the finish of its flush says that it was delivered. It has the alerts that it
-/// lists as firing and those that it lists as resolved. So does a row that was loaded and put into
-/// the log: the dispatcher before notified of its alerts. Hashes start from the seed.
-pub fn undelivered_alerts(
-    alloc: Global,
-    seed: Seed,
-    history: &[Record],
-) -> Result<Vec<Alert>, AllocError>
-    ensures { IfOk result (λ alerts. alerts.items ≡ undelivered_in history.now) }
-{
-    let notified = notified_sets(alloc, seed, history)?;
-    let known = known_alerts(alloc, seed, history)?;
-    without_notified(alloc, &notified, known.as_slice())
-}
-
-/// The alerts whose label sets aren't among these.
-fn without_notified(
-    alloc: Global,
-    notified: &LabelSets,
-    known: &[Alert],
-) -> Result<Vec<Alert>, AllocError>
-    ensures { IfOk result (λ alerts. alerts.items ≡ without (λ a. is_among a.labels notified.now) known.now) }
-{
-    let mut alerts = Vec::new(alloc);
-    for alert in known {
-        if !notified.has(alert.labels()) {
-            alerts.push(alert.copy(alloc)?)?;
-        }
-    }
-    Ok(alerts)
-}
-
-/// Returns an empty line and a line for each alert that nobody was notified of; nothing where there
-/// is none.
+/// The spans are in the order of the first inserts of their label sets.
 pub fn undelivered_text<C: TimeFormat>(
     alloc: Global,
-    playback: &Playback,
+    playbacks: &[Playback<'_>],
     clock: &C,
 ) -> Result<String, AllocError>
-    ensures { IfOk result (λ text. string_bytes text ≡ undelivered_text playback.now (C.times clock.now)) }
+    ensures { IfOk result (λ text. string_bytes text ≡ undelivered_text playbacks.now (C.times clock.now)) }
 {
-    let found = Findings::of(alloc, playback)?;
-    let alerts = undelivered_alerts(alloc, playback.logbook().seed(), playback.history())?;
-    let lines = lines_of(alloc, playback.config(), clock, &found, alerts.as_slice())?;
-    behind_empty_line(alloc, lines)
-}
-
-fn lines_of<C: TimeFormat>(
-    alloc: Global,
-    config: &Config,
-    clock: &C,
-    found: &Findings,
-    alerts: &[Alert],
-) -> Result<String, AllocError>
-    ensures { IfOk result (λ text. string_bytes text
-        ≡ flat_map (undelivered_line config.now (C.times clock.now) found.now) alerts.now) }
-{
+    let Some(first) = playbacks.first() else {
+        return Ok(String::new(alloc));
+    };
+    let watches = Watches::of(alloc, first.logbook().seed(), playbacks)?;
     let mut lines = String::new(alloc);
-    for alert in alerts {
-        push_line(alloc, config, clock, found, alert, &mut lines)?;
+    for labels in watches.sets() {
+        if let Some(spans) = watches.spans(labels) {
+            push_spans(playbacks, clock, labels, spans, &mut lines)?;
+        }
     }
-    Ok(lines)
+    behind_empty_line(alloc, lines)
 }
 
 fn behind_empty_line(alloc: Global, lines: String) -> Result<String, AllocError>
@@ -108,301 +66,434 @@ fn behind_empty_line(alloc: Global, lines: String) -> Result<String, AllocError>
     Ok(text)
 }
 
-/// Adds the line on an alert that nobody was notified of.
-#[tactic(auto, unfolding(crate::specs::Undelivered::undelivered_line))]
-fn push_line<C: TimeFormat>(
-    alloc: Global,
-    config: &Config,
-    clock: &C,
-    found: &Findings,
-    alert: &Alert,
-    out: &mut String,
-) -> Result<(), AllocError>
-    ensures { OnOk result (string_bytes out.new
-        ≡ string_bytes out.old ++ undelivered_line config.now (C.times clock.now) found.now alert.now) }
-{
-    push_front(clock, found, alert, out)?;
-    out.push_str("; ")?;
-    push_cause_of(alloc, config, clock, found, alert, out)?;
-    out.push_str("\n")
+/// A span of a label set, and whether it is the last one.
+#[derive(Clone, Copy)]
+struct SpanOf<'s> {
+    labels: &'s Labels,
+    is_last: bool,
+    span: &'s Span,
 }
 
-/// Adds that nobody was notified of an alert, and for how long it fired.
-#[tactic(auto, unfolding(crate::specs::Undelivered::undelivered_front))]
-fn push_front<C: TimeFormat>(
+/// Adds the lines on the spans of a label set.
+fn push_spans<C: TimeFormat>(
+    playbacks: &[Playback<'_>],
     clock: &C,
-    found: &Findings,
-    alert: &Alert,
+    labels: &Labels,
+    spans: &Spans,
     out: &mut String,
 ) -> Result<(), AllocError>
     ensures { OnOk result (string_bytes out.new
-        ≡ string_bytes out.old ++ undelivered_front (C.times clock.now) found.now alert.now) }
+        ≡ string_bytes out.old ++ spans_lines playbacks.now (C.times clock.now) labels.now spans.now) }
 {
-    out.push_str("undelivered ")?;
-    push_set(alert.labels(), out)?;
-    out.push_str(": ")?;
-    push_fired_of(clock, found, alert, out)
+    push_earlier(playbacks, clock, labels, spans.before(), out)?;
+    let of = SpanOf {
+        labels,
+        is_last: true,
+        span: spans.last(),
+    };
+    push_span(playbacks, clock, of, out)
 }
 
-/// Adds for how long an alert fired, or since when it fires.
-fn push_fired_of<C: TimeFormat>(
+/// Adds the lines on spans of a label set, which aren't the last one.
+fn push_earlier<C: TimeFormat>(
+    playbacks: &[Playback<'_>],
     clock: &C,
-    found: &Findings,
-    alert: &Alert,
+    labels: &Labels,
+    spans: &[Span],
     out: &mut String,
 ) -> Result<(), AllocError>
     ensures { OnOk result (string_bytes out.new
-        ≡ string_bytes out.old ++ alert_fired_text (C.times clock.now) found.now alert.now) }
+        ≡ string_bytes out.old ++ flat_map (span_lines playbacks.now (C.times clock.now) labels.now false) spans.now) }
 {
-    let total = found.fired_for(alert.labels());
-    push_fired(clock, total, alert.starts(), alert.ends(), out)
+    for span in spans {
+        let of = SpanOf {
+            labels,
+            is_last: false,
+            span,
+        };
+        push_span(playbacks, clock, of, out)?;
+    }
+    Ok(())
 }
 
-/// Adds for how long an alert fired that has this end, or since when it fires.
-fn push_fired<C: TimeFormat>(
+/// Adds the lines on a span.
+fn push_span<C: TimeFormat>(
+    playbacks: &[Playback<'_>],
     clock: &C,
-    total: u64,
-    starts: u64,
-    ends: Option<u64>,
+    of: SpanOf<'_>,
     out: &mut String,
 ) -> Result<(), AllocError>
     ensures { OnOk result (string_bytes out.new
-        ≡ string_bytes out.old ++ fired_text (C.times clock.now) total starts ends) }
+        ≡ string_bytes out.old ++ span_lines playbacks.now (C.times clock.now) of.entry.labels.now of.entry.is_last of.entry.span.now) }
 {
-    match ends {
-        Some(end) => push_fired_until(clock, total, end, out),
-        None => push_fires_since(clock, total, starts, out),
+    match of.span.recipients().first() {
+        None => push_no_integrations(clock, of, out),
+        Some(first) => {
+            let missed = missed_of(of.is_last, of.span, first);
+            push_lines(playbacks, clock, of, missed, out)
+        }
     }
 }
 
-fn push_fired_until<C: TimeFormat>(
+/// Adds that no receiver of a label set has integrations.
+#[tactic(auto, unfolding(crate::specs::Undelivered::no_integrations_line))]
+fn push_no_integrations<C: TimeFormat>(
     clock: &C,
-    total: u64,
-    end: u64,
+    of: SpanOf<'_>,
     out: &mut String,
 ) -> Result<(), AllocError>
     ensures { OnOk result (string_bytes out.new
-        ≡ string_bytes out.old ++ fired_text (C.times clock.now) total 0 (Some end)) }
+        ≡ string_bytes out.old ++ no_integrations_line (C.times clock.now) of.entry.labels.now of.entry.span.now) }
 {
-    out.push_str("fired for ")?;
-    push_counted(total, out)?;
-    out.push_str(" until ")?;
-    clock.push_time(end, out)
+    push_front(clock, of, None, out)?;
+    out.push_str("no integrations\n")
+}
+
+/// Adds one line for all integrations, which missed the same, or else one for each that missed something.
+fn push_lines<C: TimeFormat>(
+    playbacks: &[Playback<'_>],
+    clock: &C,
+    of: SpanOf<'_>,
+    first: Option<Missed>,
+    out: &mut String,
+) -> Result<(), AllocError>
+    ensures { OnOk result (string_bytes out.new
+        ≡ string_bytes out.old ++ lines_by playbacks.now (C.times clock.now) of.entry.labels.now of.entry.is_last of.entry.span.now first) }
+{
+    match first {
+        None => push_each(playbacks, clock, of, out),
+        Some(missed) => {
+            if have_all_missed(of, missed) {
+                push_line(playbacks, clock, of, None, missed, out)
+            } else {
+                push_each(playbacks, clock, of, out)
+            }
+        }
+    }
+}
+
+/// Whether all integrations missed this of a span.
+fn have_all_missed(of: SpanOf<'_>, missed: Missed) -> bool
+    ensures { result ≡ list_all (λ r. same_missed missed (missed_of of.entry.is_last of.entry.span.now r)) of.entry.span.now.recipients }
+{
+    for recipient in of.span.recipients() {
+        if !same_missed(missed, missed_of(of.is_last, of.span, recipient)) {
+            return false;
+        }
+    }
+    true
+}
+
+/// Adds a line for each integration that missed something of a span.
+fn push_each<C: TimeFormat>(
+    playbacks: &[Playback<'_>],
+    clock: &C,
+    of: SpanOf<'_>,
+    out: &mut String,
+) -> Result<(), AllocError>
+    ensures { OnOk result (string_bytes out.new ≡ string_bytes out.old
+        ++ flat_map (recipient_line playbacks.now (C.times clock.now) of.entry.labels.now of.entry.is_last of.entry.span.now)
+        of.entry.span.now.recipients) }
+{
+    for recipient in of.span.recipients() {
+        push_recipient(playbacks, clock, of, recipient, out)?;
+    }
+    Ok(())
+}
+
+/// Adds the line on an integration, if it missed something of a span.
+fn push_recipient<C: TimeFormat>(
+    playbacks: &[Playback<'_>],
+    clock: &C,
+    of: SpanOf<'_>,
+    recipient: &Recipient,
+    out: &mut String,
+) -> Result<(), AllocError>
+    ensures { OnOk result (string_bytes out.new ≡ string_bytes out.old
+        ++ recipient_line playbacks.now (C.times clock.now) of.entry.labels.now of.entry.is_last of.entry.span.now recipient.now) }
+{
+    match missed_of(of.is_last, of.span, recipient) {
+        None => Ok(()),
+        Some(missed) => push_line(playbacks, clock, of, Some(recipient), missed, out),
+    }
+}
+
+/// Adds a line on a span: for an integration or for all, and what was missed.
+#[tactic(auto, unfolding(crate::specs::Undelivered::missed_line))]
+fn push_line<C: TimeFormat>(
+    playbacks: &[Playback<'_>],
+    clock: &C,
+    of: SpanOf<'_>,
+    whom: Option<&Recipient>,
+    missed: Missed,
+    out: &mut String,
+) -> Result<(), AllocError>
+    ensures { OnOk result (string_bytes out.new ≡ string_bytes out.old
+        ++ missed_line playbacks.now (C.times clock.now) of.entry.labels.now of.entry.span.now (whom_text (option_copied whom.entry)) missed) }
+{
+    push_front(clock, of, whom, out)?;
+    push_missed(playbacks, clock, of, missed, out)?;
+    out.push_str("\n")
+}
+
+/// Adds the front of a line: the label set, for whom, and when it fired.
+fn push_front<C: TimeFormat>(
+    clock: &C,
+    of: SpanOf<'_>,
+    whom: Option<&Recipient>,
+    out: &mut String,
+) -> Result<(), AllocError>
+    ensures { OnOk result (string_bytes out.new ≡ string_bytes out.old
+        ++ span_front (C.times clock.now) of.entry.labels.now of.entry.span.now (whom_text (option_copied whom.entry))) }
+{
+    push_subject(of.labels, whom, out)?;
+    push_when(clock, of.span, out)
+}
+
+/// Adds the label set, and for whom.
+fn push_subject(
+    labels: &Labels,
+    whom: Option<&Recipient>,
+    out: &mut String,
+) -> Result<(), AllocError>
+    ensures { OnOk result (string_bytes out.new
+        ≡ string_bytes out.old ++ subject_text labels.now (whom_text (option_copied whom.entry))) }
+{
+    out.push_str("undelivered ")?;
+    push_set(labels, out)?;
+    push_whom(whom, out)
+}
+
+/// Adds when a span fired.
+fn push_when<C: TimeFormat>(clock: &C, span: &Span, out: &mut String) -> Result<(), AllocError>
+    ensures { OnOk result (string_bytes out.new ≡ string_bytes out.old ++ when_text (C.times clock.now) span.now) }
+{
+    out.push_str(": ")?;
+    push_fired(clock, span.since(), span.ends(), out)?;
+    out.push_str("; ")
+}
+
+/// Adds an integration, if one is named.
+fn push_whom(whom: Option<&Recipient>, out: &mut String) -> Result<(), AllocError>
+    ensures { OnOk result (string_bytes out.new ≡ string_bytes out.old ++ whom_text (option_copied whom.entry)) }
+{
+    match whom {
+        None => Ok(()),
+        Some(recipient) => push_integration(recipient, out),
+    }
+}
+
+/// Adds an integration: its receiver, its kind and its position.
+fn push_integration(recipient: &Recipient, out: &mut String) -> Result<(), AllocError>
+    ensures { OnOk result (string_bytes out.new ≡ string_bytes out.old ++ recipient_text recipient.now) }
+{
+    out.push_str(" -> ")?;
+    push_text(recipient.receiver.as_str(), out)?;
+    out.push_str(" ")?;
+    out.push_str(recipient.kind.as_str())?;
+    out.push_str("/")?;
+    push_number(recipient.position as u64, out)
+}
+
+/// Adds since when an alert fires, or from when to when it fired.
+fn push_fired<C: TimeFormat>(
+    clock: &C,
+    since: u64,
+    ends: Option<u64>,
+    out: &mut String,
+) -> Result<(), AllocError>
+    ensures { OnOk result (string_bytes out.new ≡ string_bytes out.old ++ fired_text (C.times clock.now) since ends) }
+{
+    match ends {
+        None => push_fires_since(clock, since, out),
+        Some(end) => push_fired_to(clock, since, end, out),
+    }
 }
 
 fn push_fires_since<C: TimeFormat>(
     clock: &C,
-    total: u64,
-    starts: u64,
+    since: u64,
     out: &mut String,
 ) -> Result<(), AllocError>
-    ensures { OnOk result (string_bytes out.new
-        ≡ string_bytes out.old ++ fired_text (C.times clock.now) total starts None) }
+    ensures { OnOk result (string_bytes out.new ≡ string_bytes out.old ++ fired_text (C.times clock.now) since None) }
 {
     out.push_str("fires since ")?;
-    clock.push_time(starts, out)?;
-    push_before(total, out)
+    clock.push_time(since, out)
 }
 
-/// Adds for how long an alert fired before it fires again; nothing where it didn't.
-fn push_before(total: u64, out: &mut String) -> Result<(), AllocError>
-    ensures { OnOk result (string_bytes out.new ≡ string_bytes out.old ++ before_text total) }
-{
-    if total == 0 {
-        return Ok(());
-    }
-    out.push_str(", fired for ")?;
-    push_counted(total, out)?;
-    out.push_str(" before")
-}
-
-/// Adds why nobody was notified of an alert.
-fn push_cause_of<C: TimeFormat>(
-    alloc: Global,
-    config: &Config,
+fn push_fired_to<C: TimeFormat>(
     clock: &C,
-    found: &Findings,
-    alert: &Alert,
+    since: u64,
+    end: u64,
     out: &mut String,
 ) -> Result<(), AllocError>
-    ensures { OnOk result (string_bytes out.new
-        ≡ string_bytes out.old ++ undelivered_cause config.now (C.times clock.now) found.now alert.now) }
+    ensures { OnOk result (string_bytes out.new ≡ string_bytes out.old ++ fired_text (C.times clock.now) since (Some end)) }
 {
-    let labels = alert.labels();
-    if has_no_integrations(alloc, config, labels)? {
-        return out.push_str("no integrations");
-    }
-    if found.was_sent(labels) {
-        return out.push_str(failed_each_text(alert.ends()));
-    }
-    let until = found.route_mute(config, alert)?;
-    push_unsent_by_route(clock, until, found.last_mute(labels), alert, out)
+    out.push_str("fired ")?;
+    clock.push_time(since, out)?;
+    out.push_str(" to ")?;
+    clock.push_time(end, out)
 }
 
-/// Adds why no begin sent an alert whose route was muted until this time, if it was.
-fn push_unsent_by_route<C: TimeFormat>(
+/// Adds what was missed of a span, and why.
+fn push_missed<C: TimeFormat>(
+    playbacks: &[Playback<'_>],
     clock: &C,
-    until: Option<u64>,
-    mute: Option<&Mute>,
-    alert: &Alert,
+    of: SpanOf<'_>,
+    missed: Missed,
     out: &mut String,
 ) -> Result<(), AllocError>
     ensures { OnOk result (string_bytes out.new ≡ string_bytes out.old
-        ++ unsent_by_route_text (C.times clock.now) until (option_copied mute.entry) alert.now) }
+        ++ missed_text playbacks.now (C.times clock.now) of.entry.labels.now (is_some of.entry.span.now.ends) missed) }
 {
-    match until {
-        None => push_unsent(clock, mute, alert.starts(), alert.ends(), out),
-        Some(until) => push_route_muted(clock, until, mute, out),
+    let is_over = of.span.ends().is_some();
+    match missed {
+        Missed::Page(fate) => push_fate(playbacks, clock, of.labels, true, is_over, fate, out),
+        Missed::Clear(fate) => push_clear(playbacks, clock, of.labels, is_over, fate, out),
     }
 }
 
-/// Adds that the route of an alert was muted until a time, and why the alert was muted besides.
+/// Adds that the end of an alert was missed, and why.
+fn push_clear<C: TimeFormat>(
+    playbacks: &[Playback<'_>],
+    clock: &C,
+    labels: &Labels,
+    is_over: bool,
+    fate: Fate,
+    out: &mut String,
+) -> Result<(), AllocError>
+    ensures { OnOk result (string_bytes out.new ≡ string_bytes out.old
+        ++ (codes "resolved unseen: " ++ fate_text playbacks.now (C.times clock.now) labels.now false is_over fate)) }
+{
+    out.push_str("resolved unseen: ")?;
+    push_fate(playbacks, clock, labels, false, is_over, fate, out)
+}
+
+/// Adds why an integration wasn't notified that an alert fires, or of its end, where the alert is over or not.
+fn push_fate<C: TimeFormat>(
+    playbacks: &[Playback<'_>],
+    clock: &C,
+    labels: &Labels,
+    fires: bool,
+    is_over: bool,
+    fate: Fate,
+    out: &mut String,
+) -> Result<(), AllocError>
+    ensures { OnOk result (string_bytes out.new
+        ≡ string_bytes out.old ++ fate_text playbacks.now (C.times clock.now) labels.now fires is_over fate) }
+{
+    match fate {
+        Fate::Unflushed => out.push_str(unflushed_text(fires, is_over)),
+        Fate::Unlisted => out.push_str("a flush sent nothing of it"),
+        Fate::Muted { part, begin } => {
+            out.push_str(left_out_front(fires))?;
+            push_cause_at(clock, labels, preview_at(playbacks, part, begin), out)
+        }
+        Fate::Failed => out.push_str("every notice failed"),
+        Fate::Seen => Ok(()),
+    }
+}
+
+fn left_out_front(fires: bool) -> &'static str
+    ensures { result.now ≡ left_out_front fires }
+{
+    if fires {
+        "muted at each flush:"
+    } else {
+        "muted at a flush:"
+    }
+}
+
+fn unflushed_text(fires: bool, is_over: bool) -> &'static str
+    ensures { result.now ≡ unflushed_text fires is_over }
+{
+    if !fires {
+        "no flush had it since"
+    } else if is_over {
+        "resolved before a flush of its group"
+    } else {
+        "no flush of its group since"
+    }
+}
+
+/// The begin at a position of the dispatcher at a position.
+fn preview_at<'s>(
+    playbacks: &[Playback<'s>],
+    part: usize,
+    begin: usize,
+) -> Option<&'s SharedPreview>
+    ensures { option_copied result ≡ preview_at playbacks.now part begin }
+{
+    let playback = playbacks.get(part)?;
+    let previewed = playback.begins().get(begin)?;
+    Some(&previewed.preview)
+}
+
+/// Adds why a begin left a label set out, if it is there.
+fn push_cause_at<C: TimeFormat>(
+    clock: &C,
+    labels: &Labels,
+    preview: Option<&SharedPreview>,
+    out: &mut String,
+) -> Result<(), AllocError>
+    ensures { OnOk result (string_bytes out.new
+        ≡ string_bytes out.old ++ cause_at (C.times clock.now) labels.now (option_copied preview.entry)) }
+{
+    let Some(preview) = preview else {
+        return Ok(());
+    };
+    let until = route_muted_until(preview);
+    push_left_out(clock, labels, preview.muted(), until, out)
+}
+
+/// Adds why a begin left a label set out, which is one of these muted alerts, or whose route is muted until a time.
+fn push_left_out<C: TimeFormat>(
+    clock: &C,
+    labels: &Labels,
+    muted: &[MutedAlert],
+    until: Option<u64>,
+    out: &mut String,
+) -> Result<(), AllocError>
+    ensures { OnOk result (string_bytes out.new
+        ≡ string_bytes out.old ++ left_out_text (C.times clock.now) labels.now muted.now until) }
+{
+    match until {
+        None => push_muted(clock, labels, muted, out),
+        Some(until) => push_route_muted(clock, until, out),
+    }
+}
+
 fn push_route_muted<C: TimeFormat>(
     clock: &C,
     until: u64,
-    mute: Option<&Mute>,
-    out: &mut String,
-) -> Result<(), AllocError>
-    ensures { OnOk result (string_bytes out.new ≡ string_bytes out.old
-        ++ route_muted_text (C.times clock.now) until (option_copied mute.entry)) }
-{
-    out.push_str("muted at each flush: route muted until ")?;
-    clock.push_time(until, out)?;
-    push_muted_besides(clock, mute, out)
-}
-
-/// Adds why an alert was muted besides, if it was.
-fn push_muted_besides<C: TimeFormat>(
-    clock: &C,
-    mute: Option<&Mute>,
-    out: &mut String,
-) -> Result<(), AllocError>
-    ensures { OnOk result (string_bytes out.new ≡ string_bytes out.old
-        ++ muted_besides_text (C.times clock.now) (option_copied mute.entry)) }
-{
-    let Some(mute) = mute else {
-        return Ok(());
-    };
-    out.push_str(";")?;
-    push_cause(clock, &mute.cause, out)
-}
-
-/// Adds why no begin sent an alert that fired last from a time on and has this end.
-fn push_unsent<C: TimeFormat>(
-    clock: &C,
-    mute: Option<&Mute>,
-    starts: u64,
-    ends: Option<u64>,
     out: &mut String,
 ) -> Result<(), AllocError>
     ensures { OnOk result (string_bytes out.new
-        ≡ string_bytes out.old ++ unsent_text (C.times clock.now) (option_copied mute.entry) starts ends) }
+        ≡ string_bytes out.old ++ (codes " route muted until " ++ (C.times clock.now).text until)) }
 {
-    match mute {
-        None => out.push_str(unseen_text(ends)),
-        Some(mute) => push_muted(clock, mute, starts, ends, out),
-    }
+    out.push_str(" route muted until ")?;
+    clock.push_time(until, out)
 }
 
-/// Adds how an alert was muted: at each flush since it fired last, or before, and no flush came since.
+/// Adds why a label set is one of these muted alerts.
 fn push_muted<C: TimeFormat>(
     clock: &C,
-    mute: &Mute,
-    starts: u64,
-    ends: Option<u64>,
-    out: &mut String,
-) -> Result<(), AllocError>
-    ensures { OnOk result (string_bytes out.new
-        ≡ string_bytes out.old ++ unsent_text (C.times clock.now) (Some mute.now) starts ends) }
-{
-    if starts <= mute.begun {
-        return push_muted_each(clock, &mute.cause, out);
-    }
-    out.push_str(unseen_text(ends))?;
-    push_muted_before(clock, &mute.cause, out)
-}
-
-/// Adds that an alert was muted at each flush, and why.
-fn push_muted_each<C: TimeFormat>(
-    clock: &C,
-    cause: &MuteCause,
-    out: &mut String,
-) -> Result<(), AllocError>
-    ensures { OnOk result (string_bytes out.new
-        ≡ string_bytes out.old ++ muted_each_text (C.times clock.now) cause.now) }
-{
-    out.push_str("muted at each flush:")?;
-    push_cause(clock, cause, out)
-}
-
-/// Adds why an alert was muted before it fired last.
-fn push_muted_before<C: TimeFormat>(
-    clock: &C,
-    cause: &MuteCause,
-    out: &mut String,
-) -> Result<(), AllocError>
-    ensures { OnOk result (string_bytes out.new
-        ≡ string_bytes out.old ++ muted_before_text (C.times clock.now) cause.now) }
-{
-    out.push_str("; before that")?;
-    push_cause(clock, cause, out)
-}
-
-fn failed_each_text(ends: Option<u64>) -> &'static str
-    ensures { result.now ≡ failed_each_text ends }
-{
-    match ends {
-        None => "every notice failed",
-        Some(_) => "every notice failed; resolved unseen",
-    }
-}
-
-fn unseen_text(ends: Option<u64>) -> &'static str
-    ensures { result.now ≡ unseen_text ends }
-{
-    match ends {
-        None => "no flush of its group since",
-        Some(_) => "resolved before a flush of its group",
-    }
-}
-
-/// Whether the receivers of all routes of a label set have no integrations.
-fn has_no_integrations(alloc: Global, config: &Config, labels: &Labels) -> Result<bool, AllocError>
-    ensures { IfOk result (λ none. none ≡ has_no_integrations config.now labels.now) }
-{
-    let positions = config.routes.of(alloc, labels)?;
-    have_none(alloc, config, labels, positions.as_slice())
-}
-
-/// Whether the receivers of the routes at these positions have no integrations.
-fn have_none(
-    alloc: Global,
-    config: &Config,
     labels: &Labels,
-    positions: &[u32],
-) -> Result<bool, AllocError>
-    ensures { IfOk result (λ none. none ≡ list_all (has_none_at config.now) positions.now) }
+    muted: &[MutedAlert],
+    out: &mut String,
+) -> Result<(), AllocError>
+    ensures { OnOk result (string_bytes out.new
+        ≡ string_bytes out.old ++ muted_text (C.times clock.now) labels.now muted.now) }
 {
-    for position in positions {
-        if !has_none_at(alloc, config, labels, *position)? {
-            return Ok(false);
-        }
+    match muted_in(labels, muted) {
+        None => Ok(()),
+        Some(alert) => push_cause(clock, &alert.cause, out),
     }
-    Ok(true)
 }
 
-/// Whether the receiver of the route at a position has no integrations. The group that is made for it is one of the route.
-fn has_none_at(
-    alloc: Global,
-    config: &Config,
-    labels: &Labels,
-    position: u32,
-) -> Result<bool, AllocError>
-    ensures { IfOk result (λ none. none ≡ has_none_at config.now position) }
+/// The first of these muted alerts that has a label set.
+fn muted_in<'s>(labels: &Labels, muted: &'s [MutedAlert]) -> Option<&'s MutedAlert>
+    ensures { option_copied result ≡ find (λ m. same_label_set m.labels labels.now) muted.now }
 {
-    let group = GroupName {
-        route: position,
-        labels: labels.copy(alloc)?,
-    };
-    Ok(config.integrations_of(&group).is_empty())
+    muted.iter().find(|alert| alert.labels == *labels)
 }

@@ -11,6 +11,7 @@ pub mod Keyed
 pub mod Learnt
 pub mod Limits
 pub mod LogRows
+pub mod Logged
 pub mod Marks
 pub mod Members
 pub mod OpenFlushes

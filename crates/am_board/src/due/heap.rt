@@ -1,5 +1,5 @@
 //! Keys of due times, of which only the one that is due first is found. `due` keeps a place here for
-//! the key of each group with an open flush, so that a finish puts it back without memory.
+//! the key of each group with an open flush: a finish puts it back without memory.
 ghost use Rattle.std.specs.Prelude.{◌≡◌, [], IfSome, OnOk, Some, false, slice_get, true};
 ghost use Rattle.std.specs.Ordering.{is_eq};
 ghost use Rattle.am_board.specs.DueOrder.{has_key, key_at, key_cmp, IsFront};
@@ -11,7 +11,7 @@ use std::alloc::{AllocError, AllocFailed, Global};
 use std::collections::BinaryHeap;
 use std::marker::Model;
 
-/// Keys in no particular order but for the first one. Contracts see their list.
+/// Keys, the one that is due first at the front, the others in no order. Contracts see their list.
 ///
 /// `DueKey` is ordered in reverse, so the greatest key is due first.
 #[derive(Drop)]

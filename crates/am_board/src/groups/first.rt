@@ -43,7 +43,8 @@ impl Groups {
     }
 }
 
-/// Returns the index of the group to take at `t` by the set of keys, if the set tells it.
+/// Returns the index of the group to take at `t` by the set of keys. None where the set is incomplete
+/// or a key in front is stale.
 fn first_by_keys(
     groups: &IndexMap<GroupName, Group, Seed>,
     due: &DueSet,
@@ -68,7 +69,7 @@ fn first_by_keys(
 }
 
 /// The index of the group to take at `t` of those that have their keys in a list with this key in
-/// front. None where that key is stale, so that the list doesn't tell it.
+/// front. None where that key is stale: then it isn't known.
 fn first_in(
     groups: &IndexMap<GroupName, Group, Seed>,
     front: Option<&DueKey>,
@@ -92,7 +93,7 @@ fn first_in(
     }
 }
 
-/// The group that is taken first of those that two lists of keys tell.
+/// The group that is taken first of those that were found by two lists of keys.
 fn first_of_two(groups: &[Group], one: Option<usize>, other: Option<usize>) -> Option<usize>
     requires here { IfSome one (λ i. i < length groups.now) }
     requires there { IfSome other (λ i. i < length groups.now) }

@@ -1,5 +1,5 @@
 //! What a session does with what a line asks: the calls of its board, and the answers. `serve` calls `open`, `answer` and `close`.
-ghost use Rattle.std.specs.Prelude.{◌≡◌, ◌≢◌, ◌<◌, ◌++◌, [], ◌∷◌, codes, IfErr, IfOk, IsOk, OnOk, vec_capacity, vec_len};
+ghost use Rattle.std.specs.Prelude.{◌≡◌, ◌≢◌, ◌<◌, ◌++◌, [], ◌∷◌, codes, IfErr, IfOk, IsOk, IsSome, Ok, OnOk, Some, vec_capacity, vec_len};
 ghost use Rattle.json.specs.Print.{print};
 ghost use Rattle.am_model.specs.Begin.{next_due};
 ghost use Rattle.am_model.specs.Records.{call_of_silence};
@@ -7,6 +7,8 @@ ghost use Rattle.am_model.specs.Replay.{IsLegal};
 ghost use Rattle.am_model.specs.Views.{group_views, row_views};
 ghost use Rattle.am_model.specs.look_back.Preview.{preview};
 ghost use Rattle.am_board.specs.History.{IsFresh, kept_of, opening, reply_of, state_at};
+ghost use Rattle.am_lines.specs.Lines.{IsOneLine};
+ghost use Rattle.am_lines.specs.Logged.{finished_tokens, noted_tokens};
 ghost use Rattle.am_lines.specs.Reply.{flush_tokens, reply_tokens};
 ghost use Rattle.am_lines.specs.View.{due_tokens, group_view_tokens, listed, outlook_tokens, row_tokens};
 ghost use Rattle.am_dispatch.specs.Refusal.{IsCauseOfUnopened};
@@ -24,16 +26,18 @@ use am_board::board::Board;
 use am_board::config::Config;
 use am_board::fault::{BoardFault, LoadFault, NoteFault, TakeFault};
 use am_board::own_ticket::OwnTicket;
-use am_board::record::{Call, Record, Reply};
+use am_board::record::{Call, Finished, Record, Reply};
 use am_board::ticket::Ticket;
 use am_lines::answer::Answer;
 use am_lines::fault::LineFault;
 use am_lines::inserts::InsertEnd;
+use am_lines::logged::{write_finished, write_noted};
 use am_lines::reply::{write_flush, write_named, write_opened, write_reply};
 use am_lines::request::{
     Finishing, Insertion, ListedInsert, Loading, Noting, Opening, Reporting, Request, Silencing,
 };
 use am_lines::view::{write_due, write_list, write_outlook, write_summary};
+use am_model::views::RowView;
 use am_seed::Seed;
 use std::alloc::{AllocError, Global};
 use std::mem::replace;
@@ -75,7 +79,7 @@ impl Session {
             Request::Begin(timed) => self.begin(alloc, timed.now, answer),
             Request::Report(reporting) => self.report(reporting, answer),
             Request::Note(noting) => self.note(alloc, noting, answer),
-            Request::Finish(finishing) => self.finish(finishing, answer),
+            Request::Finish(finishing) => self.finish(alloc, finishing, answer),
             Request::Maintain(timed) => self.maintain(alloc, timed.now, answer),
             Request::RemoveEmptyGroups(timed) => self.remove_empty_groups(alloc, timed.now, answer),
             Request::Forget(timed) => self.forget(alloc, timed.now, answer),
@@ -254,16 +258,22 @@ impl Session {
         let Some(notice) = find_notice(own, noting.integration) else {
             return Err(LineFault::of_note(NoteFault::NotReady));
         };
-        match self
+        let ticket = own.ticket();
+        let row = self
             .board
-            .note(alloc, PASS, own.ticket(), notice, noting.now)
-        {
-            Ok(_) => self.answer_with(&Reply::Noted, answer),
+            .noted_row(alloc, ticket, noting.integration, noting.now);
+        match self.board.note(alloc, PASS, ticket, notice, noting.now) {
+            Ok(_) => self.answer_noted(row, answer),
             Err(fault) => Err(LineFault::of_note(fault)),
         }
     }
 
-    fn finish(&mut self, finishing: Finishing, answer: &mut Answer) -> Result<(), LineFault>
+    fn finish(
+        &mut self,
+        alloc: Global,
+        finishing: Finishing,
+        answer: &mut Answer,
+    ) -> Result<(), LineFault>
         ensures answered { OnOk result (Finishes self.old self.new finishing answer.old answer.new) }
         ensures refused { IfErr result (Leaves self.old (Request.Finish finishing) self.new) }
     {
@@ -271,8 +281,9 @@ impl Session {
             return Err(LineFault::not_open("/finish/ticket"));
         };
         let own = self.tickets.remove(index);
+        let rows = self.board.finished_rows(alloc, own.ticket(), finishing.now);
         match self.board.finish_own(PASS, own, finishing.now) {
-            Ok(finished) => self.answer_with(&Reply::Finished(finished), answer),
+            Ok(finished) => self.answer_finished(finished, rows, answer),
             Err(_not_open) => Err(LineFault::Spent),
         }
     }
@@ -358,6 +369,7 @@ impl Session {
     /// The line that has the records that the board keeps. They follow those that were handed out before.
     fn history_line(&self, alloc: Global) -> Result<Vec<u8>, AllocError>
         ensures line { IfOk result (λ text. text.items ≡ print (taken_tokens self.now.board) ++ 10 ∷ []) }
+        ensures one { IfOk result (λ text. IsOneLine text.items) }
         ensures follow { self.now.board.history ≡ self.now.board.handed ++ kept_of self.now.board }
         ensures legal { IsLegal self.now.board.config self.now.board.id self.now.board.history }
     {
@@ -430,6 +442,49 @@ impl Session {
         ensures untold { IfErr result (λ fault. fault ≡ LineFault.Untold) }
     {
         answered(write_reply(self.board.config(), reply, answer))
+    }
+
+    /// Writes that a success was noted, with the row that the note logged. Where there was no memory for the row, that is said in
+    /// the answer's place: the note was made.
+    fn answer_noted(
+        &self,
+        row: Result<Option<RowView>, AllocError>,
+        answer: &mut Answer,
+    ) -> Result<(), LineFault>
+        requires { IfOk row (λ row. IsSome row) }
+        ensures answered { OnOk result ((logged : RowView) × (row ≡ Ok (Some logged))
+            × (answer.new ≡ answer.old ++ noted_tokens self.now.board.config logged)) }
+        ensures untold { IfErr result (λ fault. fault ≡ LineFault.Untold) }
+    {
+        match row {
+            Ok(Some(row)) => answered(write_noted(self.board.config(), &row, answer)),
+            Ok(None) => unreachable!(),
+            Err(_) => Err(LineFault::Untold),
+        }
+    }
+
+    /// Writes what a finish did, with the rows that it logged. Where there was no memory for them, that is said in the answer's
+    /// place: the finish was made.
+    fn answer_finished(
+        &self,
+        finished: Finished,
+        rows: Result<Vec<RowView>, AllocError>,
+        answer: &mut Answer,
+    ) -> Result<(), LineFault>
+        ensures answered { OnOk result (IfOk rows (λ rows.
+            answer.new ≡ answer.old ++ finished_tokens self.now.board.config finished rows.items)) }
+        ensures listed { OnOk result (IsOk rows) }
+        ensures untold { IfErr result (λ fault. fault ≡ LineFault.Untold) }
+    {
+        match rows {
+            Ok(rows) => answered(write_finished(
+                self.board.config(),
+                finished,
+                rows.as_slice(),
+                answer,
+            )),
+            Err(_) => Err(LineFault::Untold),
+        }
     }
 
     /// Ends the session: the flushes that are open are finished with what was reported.

@@ -1,5 +1,6 @@
 use Rattle.std.proofs.Common.{Option, Ok, subst, vec_len, vec_capacity, ◌≡◌, ◌≤◌}
 use Rattle.std.specs.Prelude.{IfSome}
+use Rattle.std.specs.VecDeque.{deque_len}
 use Rattle.am_board.specs.Beginning.{IsPlan}
 use Rattle.am_board.specs.Refinement.{state_of, group_state}
 use Rattle.am_board.specs.declared.plan.PlannedFlush.{PlannedFlush}
@@ -19,10 +20,10 @@ pub returns-in-None : goal.returns-in-None
 returns-in-None c config g good takes plan =
     let s = c.args.state.now in
     c.begin_quiet.ensures config c.args.id g good takes
-    (subst (λ (o : Option PlannedFlush). IsPlan config c.args.id (vec_len s.flushes) (state_of s) c.args.chosen.t (group_state g) (Ok o)) c.in-None.is plan)
+    (subst (λ (o : Option PlannedFlush). IsPlan config c.args.id (deque_len s.flushes) (state_of s) c.args.chosen.t (group_state g) (Ok o)) c.in-None.is plan)
 
 pub returns-in-Some : goal.returns-in-Some
 returns-in-Some c config g good takes plan =
     let s = c.args.state.now in
-    let opens = subst (λ (o : Option PlannedFlush). IsPlan config c.args.id (vec_len s.flushes) (state_of s) c.args.chosen.t (group_state g) (Ok o)) c.in-Some.is plan in
+    let opens = subst (λ (o : Option PlannedFlush). IsPlan config c.args.id (deque_len s.flushes) (state_of s) c.args.chosen.t (group_state g) (Ok o)) c.in-Some.is plan in
     c.begin_flush.ensures config g good takes opens.0 opens.2

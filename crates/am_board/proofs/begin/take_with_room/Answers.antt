@@ -1,6 +1,7 @@
 use Rattle.std.proofs.Common.{◌≡◌, ℕ, ◌<◌, ◌≤◌, length, Result, Ok, Err, Option, None, vec_len, slice_index_or, sym, ap, subst, arith}
 use Rattle.std.specs.Prelude.{All}
 use Rattle.std.proofs.lemmas.Result.{err_from_is_err_and}
+use Rattle.std.specs.VecDeque.{deque_len}
 use Rattle.am_alerts.specs.declared.limits.TheConstants.{MAX_TIME}
 use Rattle.am_mute.specs.Sources.{AreLearnt}
 use Rattle.am_model.specs.Begin.{taken}
@@ -56,7 +57,7 @@ plan-requires-clause-time c = omega (arith, c.requires.good.consistent.clock, c.
 -- what the begin works out, of the state before it was put in order
 abbrev Plans : Config → ℕ → ChosenGroup → Result (Option PlannedFlush) Fault → State → Type 0
 Plans config id chosen result s =
-    (d : Group) → IsPlan config id (vec_len s.flushes) (state_of s) chosen.t (group_state (slice_index_or s.groups.items chosen.index d)) result
+    (d : Group) → IsPlan config id (deque_len s.flushes) (state_of s) chosen.t (group_state (slice_index_or s.groups.items chosen.index d)) result
 
 pub returns-in_err-planned : goal.returns-in_err-planned
 returns-in_err-planned c =
@@ -101,7 +102,7 @@ returns c =
     let g = takes.group in
     let planned = c.in_ok-planned.planned in
     let ends = subst (λ (x : State). StateInvariant config x → IsChosen config x chosen g
-    → IsPlan config id (vec_len x.flushes) (state_of x) chosen.t (group_state g) (Ok planned)
+    → IsPlan config id (deque_len x.flushes) (state_of x) chosen.t (group_state g) (Ok planned)
     → IsEnd config id chosen.pass chosen.now x c.begin_planned.new.state c.begin_planned.result)
     c.prepare.ensures (c.begin_planned.ensures config g) in
     let all = ended config id s chosen g takes.chosen c.requires.room planned (plans (goal.at.returns c).In_ok-planned) c.begin_planned.new.state c.begin_planned.result

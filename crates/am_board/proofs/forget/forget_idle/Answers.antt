@@ -1,6 +1,7 @@
-use Rattle.std.proofs.Common.{◌≡◌, ℕ, List, ◌++◌, ◌∷◌, [], length, map, not, ◌&&◌, arith, Some, None, sym, ap, ◌∙◌, subst, vec_len, count_by, if◌then◌else◌}
+use Rattle.std.proofs.Common.{◌≡◌, ℕ, List, ◌++◌, ◌∷◌, [], length, map, not, ◌&&◌, arith, Some, None, sym, ap, ◌∙◌, subst, count_by, if◌then◌else◌}
 use Rattle.std.specs.Prelude.{IsPermutation, All}
 use Rattle.std.proofs.lemmas.List.Sorted.{IsPermutation-refl}
+use Rattle.std.specs.VecDeque.{deque_len}
 use Rattle.am_alerts.specs.AlertData.{AlertData, is_resolved}
 use Rattle.am_mute.specs.Silence.{SilenceData, is_over}
 use Rattle.am_nflog.specs.Log.{without_unused}
@@ -32,13 +33,13 @@ with_fewer s rows t u ks ls xs ys e f g = λ i. record s { clock = e i; known = 
 -- the log is left as it is said
 left : (c : After-forget) → c.forget.new.self ≡ without_unused same_name (map (λ (f : OpenFlush). f.group) c.args.state.now.flushes.items) c.args.state.now.log
 left c =
-    let names = c.in_ok-flushing.ensures ∙ ap (map (λ (f : OpenFlush). f.group)) c.as_slice-2.ensures.value in
-    c.forget.ensures.forgotten ∙ ap (λ (ns : List GroupName). without_unused same_name ns c.args.state.now.log) (c.as_slice-4.ensures.value ∙ names)
+    let names = c.in_ok-flushing.ensures in
+    c.forget.ensures.forgotten ∙ ap (λ (ns : List GroupName). without_unused same_name ns c.args.state.now.log) (c.as_slice-3.ensures.value ∙ names)
 
 pub returns-clause-forgot : goal.returns-clause-forgot
 returns-clause-forgot c =
     let old = c.args.state.now in
-    let counted : vec_len old.flushes ≡ length old.flushes.items = omega arith in
+    let counted : deque_len old.flushes ≡ length old.flushes.items = omega arith in
     let full = not_full c.args.config.now old 1 counted (omega arith) in
     let t = c.time-t.result in
     let u = time (state_of old) c.args.now in
@@ -77,7 +78,7 @@ returns-clause-kept c =
     let config : Config = c.args.config.now in
     let sets = c.in_ok-grouped.grouped.keys in
     let new = c.drop_idle.new.self in
-    let known = c.as_slice-3.ensures.value in
+    let known = c.as_slice-2.ensures.value in
     let moved = c.drop_idle.ensures config (subst (λ (ks : List AlertData). AreKept config ks c.args.destinations.now) (sym known) c.requires.kept) in
     subst (λ (ks : List AlertData). AreKept config ks new) (sym c.drop_idle-2.ensures.items)
     (subst (λ (ks : List AlertData). AreKept config (without (is_idle_but_for sets c.time-t.result) ks) new) known moved)

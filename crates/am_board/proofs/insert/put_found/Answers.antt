@@ -1,5 +1,6 @@
-use Rattle.std.proofs.Common.{◌≡◌, ◌∙◌, ℕ, ◌+◌, ◌≤◌, ◌++◌, ◌∷◌, [], List, Some, map, length, sym, ap, subst, arith, Vec, Global, vec_len, vec_capacity}
+use Rattle.std.proofs.Common.{◌≡◌, ◌∙◌, ℕ, ◌+◌, ◌≤◌, ◌++◌, ◌∷◌, [], Vec, Global, List, Some, map, length, sym, ap, subst, arith, vec_len, vec_capacity}
 use Rattle.std.specs.Prelude.{All, count_by, is_none}
+use Rattle.std.specs.VecDeque.{deque_items, deque_len}
 use Rattle.am_alerts.specs.AlertData.{AlertData}
 use Rattle.am_board.specs.declared.insert.Placement.{Placement}
 use Rattle.am_board.specs.declared.insert.Found.{Found}
@@ -87,7 +88,7 @@ returns c =
     let groups : c.len-2.result ≡ length (names_for config alert.labels) = omega (arith, c.len-2.ensures, c.args.found.placements.ok.0, count_is config alert.labels placements names) in
     let still = stays_reserved config s reserved c.requires.good kept in
     let logged : All (IsPrepared config new.log) reserved.flushes.items = subst (λ log. All (IsPrepared config log) reserved.flushes.items) (sym c.put_prepared.ensures.log) still.prepared in
-    let flushes : vec_len new.flushes ≡ vec_len reserved.flushes = ap (λ (fs : Vec OpenFlush Global). vec_len fs) c.put_prepared.ensures.flushes in
+    let flushes : deque_len new.flushes ≡ deque_len reserved.flushes = ap deque_len c.put_prepared.ensures.flushes in
     let records : vec_len new.history ≡ vec_len reserved.history = ap (λ (rs : Vec Record Global). vec_len rs) c.put_prepared.ensures.history in
     let room : vec_capacity new.history ≡ vec_capacity reserved.history = ap (λ (rs : Vec Record Global). vec_capacity rs) c.put_prepared.ensures.history in
     let added : Record = entry c.args.pass (call.Insert c.args.now alert) (reply.Inserted (record { stamp = s.inserts + 1; groups = c.len-2.result; made = c.count_missing-made.result })) in (
@@ -96,8 +97,8 @@ returns c =
         returned = ap (λ (returned : Inserted). Some (reply.Inserted returned)) (inserted_is config (state_of s) alert c.len-2.result c.count_missing-made.result groups made);
         state = agrees_same _ _ (insert_leaves config s reserved new c.time-t.result c.args.now alert c.in_ok-copy.copy placements (c.put_prepared.ensures.state config) kept c.in_ok-copy.ensures c.time-t.ensures c.requires.good.consistent.clock placed names);
         routed = c.put_prepared.ensures.routed config.routes still.routed routes;
-        prepared = subst (λ (fs : Vec OpenFlush Global). All (IsPrepared config new.log) fs.items) (sym c.put_prepared.ensures.flushes) logged;
-        marked = subst (λ (fs : Vec OpenFlush Global). AreMarked (map flush_state fs.items) new.groups.items) (sym c.put_prepared.ensures.flushes) (λ name. c.put_prepared.ensures.marks name ∙ still.marked name);
+        prepared = subst (All (IsPrepared config new.log)) (ap deque_items (sym c.put_prepared.ensures.flushes)) logged;
+        marked = subst (λ (os : List OpenFlush). AreMarked (map flush_state os) new.groups.items) (ap deque_items (sym c.put_prepared.ensures.flushes)) (λ name. c.put_prepared.ensures.marks name ∙ still.marked name);
         history = c.push_reserved.ensures.items ∙ ap (λ (rs : List Record). rs ++ added ∷ []) (ap (λ (rs : Vec Record Global). rs.items) c.put_prepared.ensures.history ∙ kept.history);
         records = omega (arith, c.push_reserved.ensures.len, records, kept.records);
         room = omega (arith, c.push_reserved.ensures.len, c.push_reserved.ensures.capacity, records, room, flushes, ready.records);

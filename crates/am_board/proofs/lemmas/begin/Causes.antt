@@ -4,6 +4,7 @@ use Rattle.std.specs.Prelude.{IfSome}
 use Rattle.std.proofs.Math.Bool.{and-false}
 use Rattle.std.proofs.lemmas.Bool.Decides.{nat_tests}
 use Rattle.std.proofs.lemmas.List.{get_or_default, length-map}
+use Rattle.std.specs.VecDeque.{deque_len}
 use Rattle.am_alerts.specs.RoutingTree.{route_at}
 use Rattle.am_board.specs.declared.begin.Begun.{Begun}
 use Rattle.am_board.specs.declared.begin.ChosenGroup.{ChosenGroup}
@@ -44,8 +45,8 @@ returned config id pass now old new cause (Err fault) none end = (subst (λ o. I
 
 -- ---- the causes, where the history has capacity
 
-module _ (config : Config) (s : kept.State) (now : ℕ) (t : ℕ) (at : t ≡ time (state_of s) now) (room : vec_len s.history + vec_len s.flushes + 2 ≤ config.limits.history) where
-  opened : length (map flush_state s.flushes.items) ≡ vec_len s.flushes
+module _ (config : Config) (s : kept.State) (now : ℕ) (t : ℕ) (at : t ≡ time (state_of s) now) (room : vec_len s.history + deque_len s.flushes + 2 ≤ config.limits.history) where
+  opened : length (map flush_state s.flushes.items) ≡ deque_len s.flushes
   opened = length-map s.flushes.items flush_state ∙ sym s.flushes.ok.0
 
   not_full : is_full config (vec_len s.history) (state_of s) 2 ≡ false
@@ -67,14 +68,14 @@ module _ (config : Config) (s : kept.State) (now : ℕ) (t : ℕ) (at : t ≡ ti
       ∙ ap (λ b. cond b (Some TooManyOpen) None) (and-false (nat_le config.limits.flushes (length (map flush_state s.flushes.items))))
 
   -- one more can be open
-  cause-few : vec_len s.flushes < config.limits.flushes → begin_cause config (vec_len s.history) (state_of s) (time (state_of s) now) ≡ None
+  cause-few : deque_len s.flushes < config.limits.flushes → begin_cause config (vec_len s.history) (state_of s) (time (state_of s) now) ≡ None
   cause-few few =
       let length_is = opened in
       let below : nat_le config.limits.flushes (length (map flush_state s.flushes.items)) ≡ false = grind (arith, nat_tests, length_is) in
       by_open ∙ ap (λ b. cond (b && opens_by config (state_of s) t (taken (state_of s) t)) (Some TooManyOpen) None) below
 
   -- the limit of open flushes is reached, and one more is to be opened
-  pub cause-many : config.limits.flushes ≤ vec_len s.flushes → opens_by config (state_of s) t (taken (state_of s) t) ≡ true → begin_cause config (vec_len s.history) (state_of s) (time (state_of s) now) ≡ Some TooManyOpen
+  pub cause-many : config.limits.flushes ≤ deque_len s.flushes → opens_by config (state_of s) t (taken (state_of s) t) ≡ true → begin_cause config (vec_len s.history) (state_of s) (time (state_of s) now) ≡ Some TooManyOpen
   cause-many many opens =
       let length_is = opened in
       let reached : nat_le config.limits.flushes (length (map flush_state s.flushes.items)) ≡ true = grind (arith, nat_tests, length_is) in
@@ -131,14 +132,14 @@ one_of (x ∷ xs) i within = x
 -- ---- what a plan has, if a flush is planned
 
 module _ (config : Config) (id : ℕ) (s : kept.State) (chosen : ChosenGroup) (within : chosen.index < length s.groups.items) (o : Option PlannedFlush)
-    (plan : (d : Group) → IsPlan config id (vec_len s.flushes) (state_of s) chosen.t (group_state (slice_index_or s.groups.items chosen.index d)) (Ok o)) where
+    (plan : (d : Group) → IsPlan config id (deque_len s.flushes) (state_of s) chosen.t (group_state (slice_index_or s.groups.items chosen.index d)) (Ok o)) where
   abbrev at_index : GroupState
   at_index = group_state (slice_index_or s.groups.items chosen.index (one_of s.groups.items chosen.index within))
 
   has : (P : PlannedFlush → Type 0) → ((p : PlannedFlush) → IsPlannedFlush config id (state_of s) chosen.t at_index p → P p) → IfSome o P
   has P from = by o (plan (one_of s.groups.items chosen.index within))
     where
-      by : (p : Option PlannedFlush) → IsPlan config id (vec_len s.flushes) (state_of s) chosen.t at_index (Ok p) → IfSome p P
+      by : (p : Option PlannedFlush) → IsPlan config id (deque_len s.flushes) (state_of s) chosen.t at_index (Ok p) → IfSome p P
       by None is = tt
       by (Some flush) is = from flush is.2
 
@@ -162,22 +163,22 @@ module _ (config : Config) (id : ℕ) (s : kept.State) (chosen : ChosenGroup) (w
 module _ (config : Config) (id : ℕ) (s : kept.State) (chosen : ChosenGroup) (g : Group) (takes : IsChosen config s chosen g) where
   -- the plan is for this group
   planned : (r : Result (Option PlannedFlush) Fault)
-      → ((d : Group) → IsPlan config id (vec_len s.flushes) (state_of s) chosen.t (group_state (slice_index_or s.groups.items chosen.index d)) r)
-      → IsPlan config id (vec_len s.flushes) (state_of s) chosen.t (group_state g) r
-  planned r plan = subst (λ (x : Group). IsPlan config id (vec_len s.flushes) (state_of s) chosen.t (group_state x) r) (takes.group g) (plan g)
+      → ((d : Group) → IsPlan config id (deque_len s.flushes) (state_of s) chosen.t (group_state (slice_index_or s.groups.items chosen.index d)) r)
+      → IsPlan config id (deque_len s.flushes) (state_of s) chosen.t (group_state g) r
+  planned r plan = subst (λ (x : Group). IsPlan config id (deque_len s.flushes) (state_of s) chosen.t (group_state x) r) (takes.group g) (plan g)
 
   -- whether a flush is to be opened, by what is notified
   opens_taken : opens_by config (state_of s) chosen.t (taken (state_of s) chosen.t) ≡ notifies_some (notified_of config (state_of s) chosen.t (group_state g))
   opens_taken = ap (λ o. opens_by config (state_of s) chosen.t o) takes.first
 
-  module _ (room : vec_len s.history + vec_len s.flushes + 2 ≤ config.limits.history) where
+  module _ (room : vec_len s.history + deque_len s.flushes + 2 ≤ config.limits.history) where
     -- nobody is notified: only memory can be wanting
     cause-quiet : notified_of config (state_of s) chosen.t (group_state g) ≡ [] → begin_cause config (vec_len s.history) (state_of s) (time (state_of s) chosen.now) ≡ None
     cause-quiet none = cause-closed config s chosen.now chosen.t takes.time room (opens_taken ∙ ap notifies_some none)
 
     -- why it is refused before anything is put
     pub planned_err : (fault : Fault)
-        → ((d : Group) → IsPlan config id (vec_len s.flushes) (state_of s) chosen.t (group_state (slice_index_or s.groups.items chosen.index d)) (Err fault))
+        → ((d : Group) → IsPlan config id (deque_len s.flushes) (state_of s) chosen.t (group_state (slice_index_or s.groups.items chosen.index d)) (Err fault))
         → IsAnswer (begin_cause config (vec_len s.history) (state_of s) (time (state_of s) chosen.now)) fault
     planned_err fault plan =
         elim (planned (Err fault) plan) [
@@ -189,16 +190,16 @@ module _ (config : Config) (id : ℕ) (s : kept.State) (chosen : ChosenGroup) (g
 
     -- a flush is opened or nobody is notified: only memory can be wanting
     cause_planned : (o : Option PlannedFlush)
-        → ((d : Group) → IsPlan config id (vec_len s.flushes) (state_of s) chosen.t (group_state (slice_index_or s.groups.items chosen.index d)) (Ok o))
+        → ((d : Group) → IsPlan config id (deque_len s.flushes) (state_of s) chosen.t (group_state (slice_index_or s.groups.items chosen.index d)) (Ok o))
         → begin_cause config (vec_len s.history) (state_of s) (time (state_of s) chosen.now) ≡ None
     cause_planned None plan = cause-quiet (planned (Ok None) plan)
     cause_planned (Some flush) plan = cause-few config s chosen.now chosen.t takes.time room (planned (Ok (Some flush)) plan).1
 
     -- the begin ends as its plan says
     pub ended : (o : Option PlannedFlush)
-        → ((d : Group) → IsPlan config id (vec_len s.flushes) (state_of s) chosen.t (group_state (slice_index_or s.groups.items chosen.index d)) (Ok o))
+        → ((d : Group) → IsPlan config id (deque_len s.flushes) (state_of s) chosen.t (group_state (slice_index_or s.groups.items chosen.index d)) (Ok o))
         → (new : kept.State) (result : Result Begun Fault)
-        → (IsPlan config id (vec_len s.flushes) (state_of s) chosen.t (group_state g) (Ok o) → IsEnd config id chosen.pass chosen.now s new result)
+        → (IsPlan config id (deque_len s.flushes) (state_of s) chosen.t (group_state g) (Ok o) → IsEnd config id chosen.pass chosen.now s new result)
         → IsReturned config id chosen.pass chosen.now s new (begin_cause config (vec_len s.history) (state_of s) (time (state_of s) chosen.now)) result
     ended o plan new result end =
         returned config id chosen.pass chosen.now s new (begin_cause config (vec_len s.history) (state_of s) (time (state_of s) chosen.now)) result (cause_planned o plan) (end (planned (Ok o) plan))

@@ -4,6 +4,7 @@ use Rattle.std.specs.Cmp.{on_equiv}
 use Rattle.std.proofs.Math.ListN.{set}
 use Rattle.std.proofs.lemmas.List.{get_or-map, length-map, map-set, map-append}
 use Rattle.std.proofs.lemmas.List.Elements.{All-append, All-cons, All-nil}
+use Rattle.std.specs.VecDeque.{deque_len}
 use Rattle.am_alerts.specs.declared.labels.Label.{Label}
 use Rattle.am_nflog.specs.Log.{Slots, is_known}
 use Rattle.am_nflog.specs.declared.key.LogKey.{LogKey}
@@ -116,7 +117,7 @@ module _ (config : Config) (id : ℕ) (old : kept.State) (chosen : ChosenGroup) 
       → new ≡ record old { clock = chosen.t; groups = new.groups; history = new.history }
       → new.history.items ≡ old.history.items ++ entry chosen.pass (Begin chosen.now) (Quiet recorded removed) ∷ []
       → vec_len new.history ≡ vec_len old.history + 1
-      → vec_len new.history + vec_len old.flushes ≤ vec_capacity new.history
+      → vec_len new.history + deque_len old.flushes ≤ vec_capacity new.history
       → AppliesCall config id (entry chosen.pass (Begin chosen.now) (Quiet name removed)) old new
   accepts_quiet h name recorded removed new none left named recorded_named gone put marks is history records room =
       let named_as_before : h.name ≡ g.name = ap (λ (x : GroupState). x.name) left in
@@ -138,7 +139,7 @@ module _ (config : Config) (id : ℕ) (old : kept.State) (chosen : ChosenGroup) 
         marked = λ n. ap (λ ms. is_marked ms n) marks ∙ (good.marked n ∙ sym (ap (λ (s : kept.State). is_flushing (map flush_state s.flushes.items) n) is));
         history = history ∙ (λ i. old.history.items ++ entry chosen.pass (Begin chosen.now) (Quiet ((recorded_named ∙ sym named) i) removed) ∷ []);
         records = records;
-        room = subst (λ n. vec_len new.history + n ≤ vec_capacity new.history) (sym (ap (λ (s : kept.State). vec_len s.flushes) is)) room;
+        room = subst (λ n. vec_len new.history + n ≤ vec_capacity new.history) (sym (ap (λ (s : kept.State). deque_len s.flushes) is)) room;
       }
 
   -- a flush is opened: the keys of those that it notifies are known
@@ -155,7 +156,7 @@ module _ (config : Config) (id : ℕ) (old : kept.State) (chosen : ChosenGroup) 
       → new.flushes.items ≡ old.flushes.items ++ o.flush ∷ []
       → new.history.items ≡ old.history.items ++ entry chosen.pass (Begin chosen.now) (Flush o.recorded_group o.recorded) ∷ []
       → vec_len new.history ≡ vec_len old.history + 1
-      → vec_len new.history + vec_len new.flushes ≤ vec_capacity new.history
+      → vec_len new.history + deque_len new.flushes ≤ vec_capacity new.history
       → AppliesCall config id (entry chosen.pass (Begin chosen.now) (flush_reply o.number o.group o.deadline o.notices.items)) old new
   accepts_flush h o new some planned marked open_now put is rows keeps notified flushes history records room =
       let all_notified = notified_of config (state_of old) chosen.t (group_state g) in

@@ -3,6 +3,7 @@ use Rattle.std.proofs.Common.{◌≡◌, ℕ, ◌+◌, ◌<◌, ◌≤◌, ◌==
 use Rattle.std.specs.Prelude.{All, IsPermutation}
 use Rattle.std.specs.List.{remove}
 use Rattle.std.specs.Option.{option_map}
+use Rattle.std.specs.VecDeque.{deque_len}
 use Rattle.am_alerts.specs.RoutingTree.{last_of}
 use Rattle.am_alerts.specs.declared.limits.TheConstants.{MAX_TIME}
 use Rattle.am_retry.specs.declared.outcome.Outcome.{Outcome}
@@ -42,7 +43,7 @@ pub record IsFinished (config : Config) (old new : kept.State) (o : OpenFlush) (
   pub logged : result.logged ≡ length (logged_of outcomes o.notified.items)
   pub rows : IsPermutation (log_rows new.log) (rows_with o new.clock outcomes o.notified.items (log_rows old.log))
   pub flushes : new.flushes.items ≡ remove old.flushes.items f
-  pub less : vec_len new.flushes + 1 ≡ vec_len old.flushes
+  pub less : deque_len new.flushes + 1 ≡ deque_len old.flushes
   pub next_number : new.next_number ≡ old.next_number
   pub history : new.history.items ≡ old.history.items ++ r ∷ []
   pub records : vec_len new.history ≡ vec_len old.history + 1

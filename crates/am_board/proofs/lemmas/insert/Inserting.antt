@@ -1,5 +1,5 @@
 -- Why an insert is refused, what it returns, and the state that it leaves.
-use Rattle.std.proofs.Common.{◌≡◌, ℕ, ◌+◌, ◌<◌, ◌≤◌, inl, inr, Bool, true, false, not, ◌&&◌, nat_le, nat_lt, Option, Some, None, List, map, length, refl, sym, ap, ◌∙◌, subst, arith, Vec, Global, vec_len}
+use Rattle.std.proofs.Common.{◌≡◌, ℕ, ◌+◌, ◌<◌, ◌≤◌, inl, inr, Bool, true, false, not, ◌&&◌, nat_le, nat_lt, Option, Some, None, List, map, length, refl, sym, ap, ◌∙◌, subst, arith}
 use Rattle.std.specs.Prelude.{All, is_none, is_some, if◌then◌else◌}
 use Rattle.std.specs.List.{count_by, list_any, position}
 use Rattle.std.proofs.lemmas.Bool.Decides.{nat_tests}
@@ -27,6 +27,7 @@ use Rattle.am_board.specs.Step.{StateInvariant, LeavesUnchanged, IsAnswer}
 use Rattle.am_model.proofs.lists.Distinct.{all_to, all-weaker}
 use Rattle.am_model.proofs.lists.Indexes.{none_any, position-map, count_mapped, count_alike}
 use Rattle.std.proofs.lemmas.Bool.{and_right}
+use Rattle.std.specs.VecDeque.{deque_items, deque_len}
 
 more_is : (a b : ℕ) → a < b → nat_lt a b ≡ true
 more_is a b h = grind (arith, nat_tests)
@@ -119,11 +120,11 @@ stays_reserved config old new good kept =
     record {
       state = kept.state;
       routed = subst (AreRouted config.routes) (sym kept.names) good.routed;
-      prepared = subst (λ (fs : Vec OpenFlush Global). All (IsPrepared config new.log) fs.items) (sym kept.flushes) logged;
-      marked = λ name. ap (λ ms. is_marked ms name) kept.marks ∙ (good.marked name ∙ ap (λ (fs : Vec OpenFlush Global). is_flushing (map flush_state fs.items) name) (sym kept.flushes));
+      prepared = subst (All (IsPrepared config new.log)) (ap deque_items (sym kept.flushes)) logged;
+      marked = λ name. ap (λ ms. is_marked ms name) kept.marks ∙ (good.marked name ∙ ap (λ (os : List OpenFlush). is_flushing (map flush_state os) name) (ap deque_items (sym kept.flushes)));
       history = kept.history;
       records = kept.records;
-      room = omega (arith, good.room, kept.records, kept.capacity, ap (λ (fs : Vec OpenFlush Global). vec_len fs) kept.flushes);
+      room = omega (arith, good.room, kept.records, kept.capacity, ap deque_len kept.flushes);
     }
 
 -- the same, as the code counts in what it lent

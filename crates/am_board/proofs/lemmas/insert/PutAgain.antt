@@ -1,5 +1,6 @@
 -- The state that an insert leaves that puts an alert in place of the known one and of the one in each of its groups.
-use Rattle.std.proofs.Common.{◌≡◌, ℕ, ◌+◌, ◌≤◌, ◌++◌, ◌∷◌, [], List, Some, None, Result, Ok, Err, map, sym, ap, ◌∙◌, subst, arith, Vec, Global, vec_len, vec_capacity}
+use Rattle.std.proofs.Common.{◌≡◌, ℕ, ◌+◌, ◌≤◌, ◌++◌, ◌∷◌, [], Vec, Global, List, Some, None, Result, Ok, Err, map, sym, ap, ◌∙◌, subst, arith, vec_len, vec_capacity}
+use Rattle.std.specs.VecDeque.{deque_items}
 use Rattle.std.specs.Prelude.{All, MatchResult}
 use Rattle.am_alerts.specs.AlertData.{AlertData}
 use Rattle.am_model.specs.Causes.{insert_cause}
@@ -54,8 +55,8 @@ applies_again config old mid pass now alert returned pushed good put items count
       returned = ap (λ (t : Inserted). Some (replies.Inserted t)) put.returned;
       state = agrees_same _ _ put.state;
       routed = subst (AreRouted config.routes) (sym put.names) good.routed;
-      prepared = subst (λ (fs : Vec OpenFlush Global). All (IsPrepared config mid.log) fs.items) (sym put.flushes) logged;
-      marked = λ name. ap (λ ms. is_marked ms name) put.marks ∙ (good.marked name ∙ ap (λ (fs : Vec OpenFlush Global). is_flushing (map flush_state fs.items) name) (sym put.flushes));
+      prepared = subst (All (IsPrepared config mid.log)) (ap deque_items (sym put.flushes)) logged;
+      marked = λ name. ap (λ ms. is_marked ms name) put.marks ∙ (good.marked name ∙ ap (λ (os : List OpenFlush). is_flushing (map flush_state os) name) (ap deque_items (sym put.flushes)));
       history = items ∙ ap (λ (rs : List Record). rs ++ r ∷ []) put.history;
       records = omega (arith, counted, put.records);
       room = omega (arith, counted, room, put.room);

@@ -36,6 +36,7 @@ use Rattle.am_model.specs.declared.views.GroupView.{GroupView}
 use Rattle.am_model.proofs.lists.Words.{in_order-moves}
 use Rattle.std.proofs.lemmas.List.Sorted.{length_permutation}
 use Rattle.std.proofs.lemmas.List.Sorted.{All-permutation, IsPermutation-sym}
+use Rattle.std.specs.VecDeque.{deque_len}
 use Rattle.am_alerts.specs.declared.limits.TheConstants.{MAX_TIME}
 use Rattle.am_model.specs.declared.views.RowView.{RowView}
 use Rattle.am_model.specs.look_back.Preview.{preview_at, preview}
@@ -55,7 +56,7 @@ seen b s = seen_with b (whole_with b s)
 
 -- the limits, as a board's invariant has them
 abbrev pub IsWithin : Config → State → kept.State → Type 0
-IsWithin config after s = IsFew config after × (vec_len s.flushes ≤ config.limits.flushes) × (vec_len s.history + vec_len s.flushes ≤ config.limits.history)
+IsWithin config after s = IsFew config after × (deque_len s.flushes ≤ config.limits.flushes) × (vec_len s.history + deque_len s.flushes ≤ config.limits.history)
 
 -- a history that isn't full has capacity for so many records
 pub room_of : (config : Config) (records : ℕ) (s : State) (more : ℕ) {X : Type 0} (full other : Option X) → (if is_full config records s more then full else other) ≡ None → (full ≡ None → ⊥)
@@ -67,7 +68,7 @@ room_of config records s more full other none apart =
     ] refl none
 
 -- how many flushes are open after an accepted call
-pub opened_then : (config : Config) (id : ℕ) (r : Record) (old new : kept.State) → AppliesCall config id r old new → vec_len new.flushes ≡ length (after config (state_of old) r).flushes
+pub opened_then : (config : Config) (id : ℕ) (r : Record) (old new : kept.State) → AppliesCall config id r old new → deque_len new.flushes ≡ length (after config (state_of old) r).flushes
 opened_then config id r old new accepts = opened_now new ∙ ap (λ (s : State). length s.flushes) accepts.state.rest
 
 module _ (b : Inside) (sound : IsSound b) (now : BoardData) (view_is : seen b b.state ≡ now) (new : kept.State) {T E : Type 0} (pass : ℕ) (call : Call) (returned : T → Reply) (P : T → Type 0) (accepts : (x : T) → P x → AppliesCall b.config b.id (entry pass call (returned x)) b.state new) (Q : E → Type 0) where
@@ -177,7 +178,7 @@ module _ (b : Inside) (sound : IsSound b) (now : BoardData) (view_is : seen b b.
       let s : State = state_of b.state in
       let noting : Call = Note at ticket.number is.0.integration (outcome_of ticket.outcomes is.0.integration) in
       let same : length (after_call b.config s noting).flushes ≡ length s.flushes = length-noted b.config s (time s at) is.0.integration (outcome_of ticket.outcomes is.0.integration) (flush_numbered s.flushes ticket.number) in
-      let opened : vec_len new.flushes ≡ length (after_call b.config s r.call).flushes = opened_then b.config b.id r b.state new accepts in
+      let opened : deque_len new.flushes ≡ length (after_call b.config s r.call).flushes = opened_then b.config b.id r b.state new accepts in
       let called : length (after_call b.config s r.call).flushes ≡ length (after_call b.config s noting).flushes = ap (λ (x : Record). length (after_call b.config s x.call).flushes) is.2 in
       let before = opened_now b.state in
       let few : IsFew b.config (after_call b.config s r.call) = few_after b sound r.call (ap (λ (x : Record). IsInsert x.call) is.2) (ap (λ (x : Record). IsSilence x.call) is.2) in

@@ -1,8 +1,9 @@
 -- What a board says of a finish.
-use Rattle.std.proofs.Common.{◌≡◌, ℕ, ◌+◌, Bool, eqb-true, Option, Some, None, List, [], ◌∷◌, get_or, vec_len, refl, sym, ap, ◌∙◌, subst, arith}
+use Rattle.std.proofs.Common.{◌≡◌, ℕ, ◌+◌, Bool, eqb-true, Option, Some, None, List, [], ◌∷◌, get_or, refl, sym, ap, ◌∙◌, subst, arith}
 use Rattle.std.specs.Prelude.{◌==◌, Ok, position}
 use Rattle.std.specs.Option.{option_map}
 use Rattle.std.proofs.lemmas.List.Quantifiers.{position-Some}
+use Rattle.std.specs.VecDeque.{deque_len}
 use Rattle.am_retry.specs.declared.outcome.Outcome.{Outcome}
 use Rattle.am_board.specs.declared.board.Board.TheInside.{Inside}
 use Rattle.am_model.specs.declared.config.Config.{Config}
@@ -65,7 +66,7 @@ module _ (b : Inside) (sound : IsSound b) (now : BoardData) (view_is : seen b b.
     finish_returned =
         returned_now b sound now view_is new pass call replies.Finished (λ y. AppliesCall b.config b.id (entry pass call (replies.Finished y)) b.state new) (λ y h. h) (λ (e : ℕ). Unit {0}) (Ok x) accepted
 
-    pub finish_sound : vec_len new.flushes + 1 ≡ vec_len b.state.flushes → IsSound (record b { state = new })
+    pub finish_sound : deque_len new.flushes + 1 ≡ deque_len b.state.flushes → IsSound (record b { state = new })
     finish_sound closed =
         sound_then b sound (entry pass call (replies.Finished x)) new accepted refl
         (few_after b sound call refl refl) (omega (arith, closed, sound.opened)) (omega (arith, closed, accepted.records, sound.kept))

@@ -13,6 +13,7 @@ use Rattle.am_model.specs.Config.{AreAllowed, config_fault}
 use Rattle.am_board.specs.GroupNameCache.{AreKept}
 use Rattle.am_board.specs.Group.{names_of, AreRouted}
 use Rattle.std.proofs.lemmas.List.{drop_at, length-map}
+use Rattle.std.specs.VecDeque.{deque_len}
 use Rattle.am_board.specs.declared.board.Board.TheInside.{Inside}
 use Rattle.am_model.specs.declared.record.Call.{Call}
 use Rattle.am_model.specs.declared.record.Record.{Record}
@@ -36,7 +37,7 @@ use Rattle.am_model.proofs.legal.Histories.{replay_appends, legal_appends}
 use Rattle.am_board.specs.Marks.{is_marked, marks_of}
 
 -- how many flushes are open, as the state says it
-pub opened_now : (s : kept.State) → vec_len s.flushes ≡ length (state_of s).flushes
+pub opened_now : (s : kept.State) → deque_len s.flushes ≡ length (state_of s).flushes
 opened_now s = s.flushes.ok.0 ∙ sym (length-map s.flushes.items flush_state)
 
 -- no more is known, and there are no more groups and silences, than the limits
@@ -140,7 +141,7 @@ module _ (b : Inside) (sound : IsSound b) where
 
     -- the board is sound again, where no limit is passed, and what it learnt and keeps is of the alerts that are known then
     pub sound_with : (sources : SourceIndex) (destinations : List (Option (List GroupName))) → AreLearnt b.config.rules new.known.items sources → AreKept b.config new.known.items destinations
-        → IsFew b.config (after b.config (state_of b.state) r) → vec_len new.flushes ≤ b.config.limits.flushes → vec_len new.history + vec_len new.flushes ≤ b.config.limits.history
+        → IsFew b.config (after b.config (state_of b.state) r) → deque_len new.flushes ≤ b.config.limits.flushes → vec_len new.history + deque_len new.flushes ≤ b.config.limits.history
         → IsSound (record b { state = new; sources = sources; destinations = destinations })
     sound_with sources destinations learnt named few opened kept =
         record {
@@ -165,7 +166,7 @@ module _ (b : Inside) (sound : IsSound b) where
         }
 
     -- so it is with what it learnt and keeps, unless it forgot alerts
-    pub sound_then : IsForget r.call ≡ false → IsFew b.config (after b.config (state_of b.state) r) → vec_len new.flushes ≤ b.config.limits.flushes → vec_len new.history + vec_len new.flushes ≤ b.config.limits.history
+    pub sound_then : IsForget r.call ≡ false → IsFew b.config (after b.config (state_of b.state) r) → deque_len new.flushes ≤ b.config.limits.flushes → vec_len new.history + deque_len new.flushes ≤ b.config.limits.history
         → IsSound (record b { state = new })
     sound_then keeps few opened kept =
         sound_with b.sources b.destinations
@@ -177,7 +178,7 @@ module _ (b : Inside) (sound : IsSound b) where
     same_whole : whole b ≡ whole_with b new
     same_whole = ap (λ (rs : List Record). b.past.items ++ rs) (sym stays.history)
 
-    same_opened : vec_len new.flushes ≡ vec_len b.state.flushes
+    same_opened : deque_len new.flushes ≡ deque_len b.state.flushes
     same_opened = opened_now new ∙ (ap (λ (s : State). length s.flushes) stays.state ∙ sym (opened_now b.state))
 
     -- a refused call leaves the board sound

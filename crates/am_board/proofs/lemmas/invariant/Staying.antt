@@ -11,6 +11,7 @@ use Rattle.am_model.specs.Causes.{is_full}
 use Rattle.am_board.specs.Refinement.{state_of, flush_state, EqualUpToRowOrder}
 use Rattle.am_board.specs.Step.{IsAnswer, StateInvariant, LeavesUnchanged}
 use Rattle.std.proofs.lemmas.List.Sorted.{IsPermutation-refl}
+use Rattle.std.specs.VecDeque.{deque_len}
 use Rattle.am_model.specs.State.{State}
 
 -- the first cause can be answered
@@ -22,17 +23,17 @@ cause_answered TooManySilences = refl
 cause_answered TooManyOpen = inl refl
 cause_answered HistoryFull = refl
 
-module _ (config : Config) (s : kept.State) (more : ℕ) (counted : vec_len s.flushes ≡ length s.flushes.items) where
+module _ (config : Config) (s : kept.State) (more : ℕ) (counted : deque_len s.flushes ≡ length s.flushes.items) where
   -- there is capacity
-  pub not_full : vec_len s.history + vec_len s.flushes + more ≤ config.limits.history → is_full config (vec_len s.history) (state_of s) more ≡ false
+  pub not_full : vec_len s.history + deque_len s.flushes + more ≤ config.limits.history → is_full config (vec_len s.history) (state_of s) more ≡ false
   not_full h =
       let m : length (map flush_state s.flushes.items) ≡ length s.flushes.items = length-map s.flushes.items flush_state in
       grind (arith, nat_tests)
 
 -- a history has capacity
-pub has_room : (config : Config) (s : kept.State) → vec_len s.history + vec_len s.flushes + 1 ≤ config.limits.history → is_full config (vec_len s.history) (state_of s) 1 ≡ false
+pub has_room : (config : Config) (s : kept.State) → vec_len s.history + deque_len s.flushes + 1 ≤ config.limits.history → is_full config (vec_len s.history) (state_of s) 1 ≡ false
 has_room config s room =
-    let count : length (map flush_state s.flushes.items) ≡ vec_len s.flushes = length-map s.flushes.items flush_state ∙ sym s.flushes.ok.0 in
+    let count : length (map flush_state s.flushes.items) ≡ deque_len s.flushes = length-map s.flushes.items flush_state ∙ sym s.flushes.ok.0 in
     ap (λ n. nat_lt config.limits.history (vec_len s.history + n + 1)) count ∙ grind (arith, nat_tests)
 
 -- nothing changed

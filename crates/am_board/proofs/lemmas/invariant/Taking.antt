@@ -1,6 +1,7 @@
 -- A board hands out the records that it keeps.
 use Rattle.std.proofs.Common.{◌≡◌, ℕ, ◌+◌, ◌<◌, ◌≤◌, true, false, List, [], ◌++◌, Some, None, length, vec_len, vec_capacity, sym, ap, ◌∙◌, subst, arith, append-nil, Vec, Global, nat_lt, if◌then◌else◌}
 use Rattle.std.proofs.lemmas.Bool.Decides.{nat_tests}
+use Rattle.std.specs.VecDeque.{deque_len}
 use Rattle.am_ghost.specs.declared.ghost_list.GhostList.{GhostList}
 use Rattle.am_model.specs.declared.config.TheConstants.{MAX_HANDED}
 use Rattle.am_model.specs.declared.fault.TakeFault.TheVariants.{TooManyCalls}
@@ -32,7 +33,7 @@ module _ (b : Inside) (sound : IsSound b) (now : BoardData) (view_is : seen b b.
       ap (λ t. if t then Some TooManyCalls else None) is
 
   -- no flush is open
-  pub none_open : (state_at now).flushes ≡ [] → vec_len b.state.flushes ≡ 0
+  pub none_open : (state_at now).flushes ≡ [] → deque_len b.state.flushes ≡ 0
   none_open none =
       let before : (replay b.config (whole b)).flushes ≡ [] = subst (λ (d : BoardData). (state_at d).flushes ≡ []) (sym view_is) none in
       let same : (state_of b.state).flushes ≡ (replay b.config (whole b)).flushes = ap (λ (s : State). s.flushes) sound.agrees.rest in
@@ -47,7 +48,7 @@ module _ (b : Inside) (sound : IsSound b) (now : BoardData) (view_is : seen b b.
     pub seen_taken : record { config = b.config; id = b.id; handed = past.items; history = past.items ++ kept.items } ≡ handed_out now
     seen_taken = (λ i. record { config = b.config; id = b.id; handed = past_is i; history = same_whole i }) ∙ ap handed_out view_is
 
-    pub sound_taken : (handed : ℕ) → handed ≡ b.handed + vec_len b.state.history → handed ≤ MAX_HANDED → vec_len kept ≡ 0 → vec_len b.state.flushes ≤ vec_capacity kept
+    pub sound_taken : (handed : ℕ) → handed ≡ b.handed + vec_len b.state.history → handed ≤ MAX_HANDED → vec_len kept ≡ 0 → deque_len b.state.flushes ≤ vec_capacity kept
         → IsSound (record b { state = record b.state { history = kept }; handed = handed; past = past })
     sound_taken handed counted few empty room =
         record {

@@ -8,6 +8,7 @@ use Rattle.std.proofs.lemmas.List.{length-map, get_or-map, map-set, get_or_defau
 use Rattle.std.proofs.lemmas.List.Elements.{All-set, All-weaker}
 use Rattle.std.proofs.lemmas.List.Quantifiers.{position-Some}
 use Rattle.std.proofs.lemmas.List.Sorted.{IsPermutation-refl}
+use Rattle.std.specs.VecDeque.{deque_len}
 use Rattle.am_alerts.specs.declared.limits.TheConstants.{MAX_TIME}
 use Rattle.am_alerts.specs.declared.labels.Label.{Label}
 use Rattle.am_nflog.specs.Log.{Slots}
@@ -61,7 +62,7 @@ some-there o h = ap not h
 -- ---- a refusal
 
 -- whether the history is full, as it is counted
-pub full-of : (config : Config) (s : kept.State) → (vec_len s.history + vec_len s.flushes + 1 ≤ config.limits.history → ⊥) → is_full config (vec_len s.history) (state_of s) 1 ≡ true
+pub full-of : (config : Config) (s : kept.State) → (vec_len s.history + deque_len s.flushes + 1 ≤ config.limits.history → ⊥) → is_full config (vec_len s.history) (state_of s) 1 ≡ true
 full-of config s none =
     let counted = length-map s.flushes.items flush_state in
     let len = s.flushes.ok.0 in
@@ -112,11 +113,11 @@ pub record IsNoted (old new : kept.State) (o onew : OpenFlush) (f a now : ℕ) (
   pub rows : (d : Notified) → IsSome (get_or o.notified.items a d).sets → (rows : List RowView) → IsPermutation (log_rows old.log) rows
       → IsPermutation (log_rows new.log) (log_with (row_for o new.clock (get_or o.notified.items a d).key.integration) rows)
   pub flushes : new.flushes.items ≡ set old.flushes.items f onew
-  pub opened : vec_len new.flushes ≡ vec_len old.flushes
+  pub opened : deque_len new.flushes ≡ deque_len old.flushes
   pub next_number : new.next_number ≡ old.next_number
   pub history : new.history.items ≡ old.history.items ++ r ∷ []
   pub records : vec_len new.history ≡ vec_len old.history + 1
-  pub room : vec_len new.history + vec_len new.flushes ≤ vec_capacity new.history
+  pub room : vec_len new.history + deque_len new.flushes ≤ vec_capacity new.history
 
 -- the integration at an index of a flush, where no two are one
 module _ (o : OpenFlush) (integration a : ℕ) (d : Notified) (at : position (λ x. x.key.integration == integration) o.notified.items ≡ Some a) (once : IsDistinct same_notified (map notified_state_of o.notified.items)) where

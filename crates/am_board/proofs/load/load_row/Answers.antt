@@ -1,6 +1,7 @@
-use Rattle.std.proofs.Common.{◌≡◌, ◌∙◌, ◌&&◌, ◌++◌, ◌∷◌, [], true, length, List, None, Some, sym, ap, subst, arith, vec_len, if◌then◌else◌}
+use Rattle.std.proofs.Common.{◌≡◌, ◌∙◌, ◌&&◌, ◌++◌, ◌∷◌, [], true, length, List, None, Some, sym, ap, subst, arith, if◌then◌else◌}
 use Rattle.std.specs.Prelude.{IsPermutation}
 use Rattle.std.specs.Option.{option_or}
+use Rattle.std.specs.VecDeque.{deque_len}
 use Rattle.am_model.specs.Causes.{row_cause}
 use Rattle.am_model.specs.Finish.{log_with}
 use Rattle.am_model.specs.Load.{is_put, loaded, may_load, rows_loading}
@@ -25,7 +26,7 @@ returns c =
     let rows : List RowView = log_rows old.log in
     let u = time (state_of old) c.args.now in
     let e : c.time-t.result ≡ u = c.time-t.ensures in
-    let counted : vec_len old.flushes ≡ length old.flushes.items = omega arith in
+    let counted : deque_len old.flushes ≡ length old.flushes.items = omega arith in
     let full = not_full config old 1 counted (omega arith) in
     let none : row_cause config u row ≡ None = ap (λ t. row_cause config t row) (sym e) ∙ no_fault (row_cause config c.time-t.result row) tt _ c.in_ok-check_row.ensures.cause in
     let may : may_load config u row ≡ true = load-allowed config u row none in

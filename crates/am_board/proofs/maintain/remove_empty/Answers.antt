@@ -1,4 +1,5 @@
-use Rattle.std.proofs.Common.{◌≡◌, ℕ, List, ◌++◌, ◌∷◌, [], length, arith, Some, None, sym, ap, ◌∙◌, vec_len, if◌then◌else◌}
+use Rattle.std.proofs.Common.{◌≡◌, ℕ, List, ◌++◌, ◌∷◌, [], length, arith, Some, None, sym, ap, ◌∙◌, if◌then◌else◌}
+use Rattle.std.specs.VecDeque.{deque_len}
 use Rattle.std.proofs.lemmas.List.Sorted.{IsPermutation-refl}
 use Rattle.am_model.specs.declared.fault.Fault.TheVariants.{HistoryFull}
 use Rattle.am_model.specs.declared.record.Call.TheVariants.{RemoveEmptyGroups}
@@ -19,7 +20,7 @@ with_groups s t u gs hs e f = λ i. record s { clock = e i; groups = f i }
 pub returns : goal.returns
 returns c =
     let old = c.args.state.now in
-    let counted : vec_len old.flushes ≡ length old.flushes.items = omega arith in
+    let counted : deque_len old.flushes ≡ length old.flushes.items = omega arith in
     let full = not_full c.args.config.now old 1 counted (omega arith) in (
       ap (λ b. if b then Some HistoryFull else None) full,
       λ id. record {

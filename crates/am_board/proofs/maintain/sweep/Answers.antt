@@ -1,6 +1,7 @@
-use Rattle.std.proofs.Common.{◌≡◌, ℕ, List, ◌++◌, ◌∷◌, [], length, arith, Some, None, sym, ap, ◌∙◌, subst, vec_len, count_by, if◌then◌else◌}
+use Rattle.std.proofs.Common.{◌≡◌, ℕ, List, ◌++◌, ◌∷◌, [], length, arith, Some, None, sym, ap, ◌∙◌, subst, count_by, if◌then◌else◌}
 use Rattle.std.specs.Prelude.{IsPermutation, All}
 use Rattle.std.proofs.lemmas.List.Sorted.{IsPermutation-refl}
+use Rattle.std.specs.VecDeque.{deque_len}
 use Rattle.am_model.specs.declared.fault.Fault.TheVariants.{HistoryFull}
 use Rattle.am_model.specs.declared.record.Call.TheVariants.{Maintain}
 use Rattle.am_model.specs.declared.record.Reply.TheVariants.{Maintained}
@@ -25,7 +26,7 @@ with_groups s rows t u gs hs e f = λ i. record s { clock = e i; groups = f i; r
 pub returns : goal.returns
 returns c =
     let old = c.args.state.now in
-    let counted : vec_len old.flushes ≡ length old.flushes.items = omega arith in
+    let counted : deque_len old.flushes ≡ length old.flushes.items = omega arith in
     let full = not_full c.args.config.now old 1 counted (omega arith) in
     let t = c.time-t.result in
     let u = time (state_of old) c.args.now in

@@ -1,7 +1,7 @@
 use Rattle.std.proofs.Common.{◌≡◌, ◌∙◌, ◌+◌, ◌≤◌, ◌++◌, ◌∷◌, [], List, Some, None, map, vec_len, vec_capacity, nat_eq, refl, sym, ap, subst, arith, rules, if◌then◌else◌}
 use Rattle.std.specs.Prelude.{IfErr, slice_get}
-use Rattle.std.specs.Vec.{with_item}
 use Rattle.std.specs.List.{IsDistinct}
+use Rattle.std.specs.VecDeque.{deque_len, deque_with_item}
 use Rattle.am_model.specs.Laws.{same_number}
 use Rattle.am_model.specs.Causes.{is_full, flush_cause}
 use Rattle.am_model.specs.Records.{entry}
@@ -22,7 +22,7 @@ use Rattle.am_board.proofs.lemmas.invariant.Staying.{stays_itself, has_room}
 
 -- what was found is among the flushes of the state
 found-in : (c : In_ok-found) → IsNoteTarget c.args.state.now.flushes.items c.args.ticket.now c.args.index c.in_ok-found.found
-found-in c = subst (λ fs. IsNoteTarget fs c.args.ticket.now c.args.index c.in_ok-found.found) c.as_slice.ensures.value c.in_ok-found.ensures.found
+found-in c = c.in_ok-found.ensures.found
 
 -- the cause that is left
 left : (c : In_ok-found) → flush_cause c.args.config.now (vec_len c.args.state.now.history) (state_of c.args.state.now) c.args.ticket.now c.args.index (flush_numbered (map flush_state c.args.state.now.flushes.items) c.args.ticket.now.number)
@@ -33,9 +33,8 @@ left c =
 
 pub returns-in_err-found : goal.returns-in_err-found
 returns-in_err-found c =
-    let kept : map flush_state c.args.state.now.flushes.items ≡ map flush_state c.as_slice.result.now = ap (map flush_state) (sym c.as_slice.ensures.value) in
     let cause : IfErr c.from_residual.result (λ fault. flush_cause c.args.config.now (vec_len c.args.state.now.history) (state_of c.args.state.now) c.args.ticket.now c.args.index (flush_numbered (map flush_state c.args.state.now.flushes.items) c.args.ticket.now.number) ≡ Some fault) =
-    search (rules, c.in_err-found.ensures.cause c.args.config.now (vec_len c.args.state.now.history) (state_of c.args.state.now) kept) in
+    search (rules, c.in_err-found.ensures.cause c.args.config.now (vec_len c.args.state.now.history) (state_of c.args.state.now) refl) in
     refused c.from_residual.result _ (flush_cause c.args.config.now (vec_len c.args.state.now.history) (state_of c.args.state.now) c.args.ticket.now c.args.index (flush_numbered (map flush_state c.args.state.now.flushes.items) c.args.ticket.now.number)) (LeavesUnchanged c.args.config.now c.args.state.now c.args.state.now) c.from_residual.ensures.0 cause
     (stays_itself c.args.config.now c.args.state.now c.requires.good)
 
@@ -46,7 +45,7 @@ returns-then-not-has_room c =
 
 pub returns-then-is_err : goal.returns-then-is_err
 returns-then-is_err c =
-    let room : vec_len c.args.state.now.history + vec_len c.args.state.now.flushes + 1 ≤ c.args.config.now.limits.history = c.has_room.ensures.0 c.if-not-has_room.false in
+    let room : vec_len c.args.state.now.history + deque_len c.args.state.now.flushes + 1 ≤ c.args.config.now.limits.history = c.has_room.ensures.0 c.if-not-has_room.false in
     let none = left (goal.at.returns-then-is_err c).In_ok-found ∙ ap (λ b. if b then Some note.HistoryFull else None) (has_room c.args.config.now c.args.state.now room) in (
       subst (λ o. IsNoteAnswer o note.NoMemory) (sym none) refl,
       record {
@@ -64,7 +63,7 @@ pub returns : goal.returns
 returns c =
     let old = c.args.state.now in
     let found = found-in (goal.at.returns c).In_ok-found in
-    let room : vec_len c.args.state.now.history + vec_len c.args.state.now.flushes + 1 ≤ c.args.config.now.limits.history = c.has_room.ensures.0 c.if-not-has_room.false in
+    let room : vec_len c.args.state.now.history + deque_len c.args.state.now.flushes + 1 ≤ c.args.config.now.limits.history = c.has_room.ensures.0 c.if-not-has_room.false in
     let none = left (goal.at.returns c).In_ok-found ∙ ap (λ b. if b then Some note.HistoryFull else None) (has_room c.args.config.now c.args.state.now room) in
     let new : kept.State = record {
       clock = c.time-t.result;
@@ -73,7 +72,7 @@ returns c =
       groups = old.groups;
       silences = old.silences;
       log = c.log_at_once.new.log;
-      flushes = with_item old.flushes c.in_ok-found.found.flush c.log_at_once.new.flush;
+      flushes = deque_with_item old.flushes c.in_ok-found.found.flush c.log_at_once.new.flush;
       next_number = old.next_number;
       history = c.push_reserved.new.self;
     } in
@@ -81,7 +80,7 @@ returns c =
     let is : entry c.args.pass (Note c.args.now c.args.ticket.now.number c.in_ok-found.found.integration c.in_ok-found.found.outcome) replies.Noted ≡ entry c.args.pass (Note c.args.now c.args.ticket.now.number notice.0.integration (outcome_of c.args.ticket.now.outcomes notice.0.integration)) replies.Noted =
     ap (λ o. entry c.args.pass (Note c.args.now c.args.ticket.now.number c.in_ok-found.found.integration o) replies.Noted) found.outcome
     ∙ ap (λ j. entry c.args.pass (Note c.args.now c.args.ticket.now.number j (outcome_of c.args.ticket.now.outcomes j)) replies.Noted) (sym notice.2) in
-    let roomy : vec_len c.reserve.new.self + (vec_len c.args.state.now.flushes + 1) ≤ vec_capacity c.reserve.new.self =
+    let roomy : vec_len c.reserve.new.self + (deque_len c.args.state.now.flushes + 1) ≤ vec_capacity c.reserve.new.self =
     subst (λ m. vec_len c.reserve.new.self + (m + 1) ≤ vec_capacity c.reserve.new.self) c.len.ensures (on-ok c.reserve.result _ c.reserve.ensures.ok (cc)) in
     let history : c.push_reserved.new.self.items ≡ c.args.state.now.history.items ++ entry c.args.pass (Note c.args.now c.args.ticket.now.number c.in_ok-found.found.integration c.in_ok-found.found.outcome) replies.Noted ∷ [] =
     c.push_reserved.ensures.items
@@ -112,5 +111,4 @@ returns c =
     )
 
 pub find_noting-requires : goal.find_noting-requires
-find_noting-requires c =
-    subst (λ (fs : List OpenFlush). IsDistinct same_number (map flush_state fs)) (sym c.as_slice.ensures.value) c.requires.good.consistent.numbers
+find_noting-requires c = c.requires.good.consistent.numbers

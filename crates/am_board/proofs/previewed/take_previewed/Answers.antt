@@ -3,6 +3,7 @@ use Rattle.std.specs.Prelude.{All}
 use Rattle.std.specs.Option.{option_map}
 use Rattle.std.proofs.lemmas.Result.{err_from_is_err_and}
 use Rattle.std.proofs.lemmas.List.{get_or_default}
+use Rattle.std.specs.VecDeque.{deque_len}
 use Rattle.am_alerts.specs.declared.limits.TheConstants.{MAX_TIME}
 use Rattle.am_mute.specs.Sources.{AreLearnt}
 use Rattle.am_model.specs.Begin.{taken}
@@ -78,7 +79,7 @@ pub begin_with-requires-clause-found : goal.begin_with-requires-clause-found
 begin_with-requires-clause-found c d =
     let s = c.prepare.new.state in
     let within = subst (λ (x : State). c.in-Some.chosen.index < length x.groups.items) (sym c.prepare.ensures) c.in-Some.ensures.chosen.index in
-    subst (λ (x : Group). IsPreviewedPlan c.args.config.now c.args.id (vec_len s.flushes) (state_of s) c.in-Some.chosen.t (group_state x) (Ok c.in_ok-found.found))
+    subst (λ (x : Group). IsPreviewedPlan c.args.config.now c.args.id (deque_len s.flushes) (state_of s) c.in-Some.chosen.t (group_state x) (Ok c.in_ok-found.found))
     (c.at-group.ensures ∙ sym (get_or_default s.groups.items c.in-Some.chosen.index d c.at-group.result.now within)) c.in_ok-found.ensures
 
 pub returns : goal.returns
@@ -95,7 +96,7 @@ returns c =
 
 pub begin_with-requires-clause-room : goal.begin_with-requires-clause-room
 begin_with-requires-clause-room c =
-    subst (λ (x : State). vec_len x.history + vec_len x.flushes + 2 ≤ c.args.config.now.limits.history) (sym c.prepare.ensures) (c.has_room.ensures.0 c.if-not-has_room.false)
+    subst (λ (x : State). vec_len x.history + deque_len x.flushes + 2 ≤ c.args.config.now.limits.history) (sym c.prepare.ensures) (c.has_room.ensures.0 c.if-not-has_room.false)
 
 pub returns-in-Ok : goal.returns-in-Ok
 returns-in-Ok c =
@@ -125,7 +126,7 @@ returns-in-Err c =
 -- what the begin works out, of the state before it was put in order
 abbrev Plans : Config → ℕ → ChosenGroup → Fault → State → Type 0
 Plans config id chosen fault s =
-    (d : Group) → IsPlan config id (vec_len s.flushes) (state_of s) chosen.t (group_state (slice_index_or s.groups.items chosen.index d)) (Err fault)
+    (d : Group) → IsPlan config id (deque_len s.flushes) (state_of s) chosen.t (group_state (slice_index_or s.groups.items chosen.index d)) (Err fault)
 
 pub returns-in_err-found : goal.returns-in_err-found
 returns-in_err-found c =
@@ -138,7 +139,7 @@ returns-in_err-found c =
     let p = err_from_is_err_and c.from_residual.result c.from_residual.ensures.1 in
     let within = subst (λ (x : State). chosen.index < length x.groups.items) (sym c.prepare.ensures) takes.chosen.index in
     let worked : Plans config c.args.id chosen fault new = λ d.
-    subst (λ (x : Group). IsPlan config c.args.id (vec_len new.flushes) (state_of new) chosen.t (group_state x) (Err fault))
+    subst (λ (x : Group). IsPlan config c.args.id (deque_len new.flushes) (state_of new) chosen.t (group_state x) (Err fault))
     (c.at-group.ensures ∙ sym (get_or_default new.groups.items chosen.index d c.at-group.result.now within)) c.in_err-found.ensures in
     rw (p.1, p.2) (
       subst (λ n. IsAnswer (begin_cause config (vec_len s.history) (state_of s) (time (state_of s) n)) fault) takes.now

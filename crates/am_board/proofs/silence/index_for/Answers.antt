@@ -14,6 +14,7 @@ use Rattle.am_board.proofs.lemmas.invariant.Staying.{not_full}
 use Rattle.am_board.proofs.silence.index_for.Goals as goal
 use Rattle.am_board.proofs.silence.index_for.Goals.{else-is_none-via-then-is_none+else-len-config, else-is_none-via-else-is_none}
 use Rattle.std.proofs.lemmas.Bool.{and_right}
+use Rattle.std.specs.VecDeque.{deque_len}
 
 refused : {T : Type 0} (full many there : Bool) (x : T) → full ≡ false → many ≡ true → there ≡ false
     → ◌≡◌ {A = Result T Fault} (Err TooManySilences) (ok_unless (if full then Some HistoryFull else (if many && not there then Some TooManySilences else None)) x)
@@ -42,7 +43,7 @@ below m n h = grind (arith, nat_tests)
 pub returns-then-len-config : goal.returns-then-len-config
 returns-then-len-config c silence h =
     let silences = c.args.state.now.silences.items in
-    let counted : vec_len c.args.state.now.flushes ≡ length c.args.state.now.flushes.items = omega arith in
+    let counted : deque_len c.args.state.now.flushes ≡ length c.args.state.now.flushes.items = omega arith in
     let room = not_full c.args.config.now c.args.state.now 1 counted (omega arith) in
     let many : nat_le c.args.config.now.limits.silences (length silences) ≡ true = at_least _ _ (omega (arith, c.len.ensures)) in
     let found = found_as c.args.id c.find-index.result silences silence c.find-index.ensures.index h in
@@ -53,7 +54,7 @@ returns-then-len-config c silence h =
 pub returns : goal.returns
 returns c silence h =
     let silences = c.args.state.now.silences.items in
-    let counted : vec_len c.args.state.now.flushes ≡ length c.args.state.now.flushes.items = omega arith in
+    let counted : deque_len c.args.state.now.flushes ≡ length c.args.state.now.flushes.items = omega arith in
     let room = not_full c.args.config.now c.args.state.now 1 counted (omega arith) in
     let found = found_as c.args.id c.find-index.result silences silence c.find-index.ensures.index h in
     let fact : list_any (same_silence silence) silences ≡ not c.is_none.result =

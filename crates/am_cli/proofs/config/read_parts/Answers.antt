@@ -14,7 +14,7 @@ use Rattle.am_cli.specs.Read.{ObjectData, duration_in}
 use Rattle.am_cli.specs.Decoding.{IsList, Has, HasOr}
 use Rattle.am_cli.specs.declared.reader.Mode.{Mode}
 use Rattle.am_cli.proofs.Configured.{few_receivers, plain_children, plain_rules}
-use Rattle.am_cli.proofs.Decoding.{all_sure, as_listed, as_decoded, as_decoded_in, decoded_or, handed_on, in_object, listed_in, missing, refused_or, decoded_in, unknown}
+use Rattle.am_cli.proofs.Decoding.{all_sure, as_listed, as_decoded, as_decoded_in, decoded_or, handed_on, in_object, listed_in, missing, refused_or, decoded_in, starved, unknown}
 use Rattle.am_cli.proofs.Once.{one_child, one_list, one_or, one_receiver, one_root, one_there}
 use Rattle.am_cli.proofs.config.read_parts.Goals as goal
 
@@ -35,8 +35,8 @@ returns-clause-decoded c =
     let routes : c.in_ok-routes.routes ≡ tree_of c.in_ok-root.root children = c.in_ok-routes.ensures.made in
     let config : Config = record {
       routes = c.in_ok-routes.routes;
-      receivers = c.from.result;
-      rules = c.from-2.result;
+      receivers = c.in_ok-by_name.by_name;
+      rules = c.from.result;
       retention = c.in_ok-retention.retention;
       limits = c.in_ok-limits.limits;
     } in
@@ -44,7 +44,7 @@ returns-clause-decoded c =
       only = sym c.in_ok-only.ensures.known;
       retention = decoded_or duration_in 432000000 c.in_ok-retention.retention (get_member (codes "retention") members) c.in_ok-retention.ensures;
       limits = c.in_ok-limits.ensures.decoded;
-      receivers = subst (λ (rs : List Receiver). Has (IsList (DecodesToReceiver o.mode)) (codes "receivers") members rs) (sym c.from.ensures)
+      receivers = subst (λ (rs : List Receiver). Has (IsList (DecodesToReceiver o.mode)) (codes "receivers") members rs) (sym c.in_ok-by_name.ensures)
           (as_listed DecodesToReceiver o.mode c.in_ok-required.field-0.mode (view c.in_ok-required.field-0.value) (get_member (codes "receivers") members)
           c.in_ok-receivers.receivers.items c.in_ok-required.ensures.value c.in_ok-required.ensures.mode c.in_ok-receivers.ensures.decoded);
       root = subst (λ (r : Route). Has (DecodesToRoot o.mode) (codes "route") members r) (sym (ap (λ (t : RoutingTree). t.root) routes))
@@ -54,7 +54,7 @@ returns-clause-decoded c =
       listed = c.in_ok-children.ensures.decoded;
       tree = routes ∙ ap (λ (r : Route). tree_of r children) (sym (ap (λ (t : RoutingTree). t.root) routes));
       sound = c.in_ok-routes.ensures.sound;
-      rules = subst (λ (rs : List RuleData). HasOr (IsList (DecodesToRule o.mode)) [] (codes "inhibit") members rs) (sym c.from-2.ensures) c.in_ok-rules.ensures.decoded;
+      rules = subst (λ (rs : List RuleData). HasOr (IsList (DecodesToRule o.mode)) [] (codes "inhibit") members rs) (sym c.from.ensures) c.in_ok-rules.ensures.decoded;
     } in
     as_decoded HasParts c.args.reader.now.mode o.mode members (view c.args.reader.now.value) config c.in_ok-config.ensures.members c.in_ok-config.ensures.mode has
 
@@ -120,6 +120,10 @@ returns-in_err-routes-clause-refused c =
     (get_member (codes "children") (members_view c.in_ok-config.config.members)) is.children c.in_ok-children.children.items is.listed c.in_ok-children.ensures.decoded in
     let routes : tree_of c.in_ok-root.root c.in_ok-children.children.items ≡ x.routes = (λ i. tree_of (sym root i) (sym children i)) ∙ sym is.tree in
     c.in_err-routes.ensures.refused (ap level_fault routes ∙ is.sound))
+
+pub returns-in_err-by_name-clause-refused : goal.returns-in_err-by_name-clause-refused
+returns-in_err-by_name-clause-refused c =
+    starved (Decodes c.args.reader.now.mode (view c.args.reader.now.value)) c.from_residual-in_err-by_name.result c.from_residual-in_err-by_name.ensures.1
 
 -- more receivers than a dispatcher may have
 pub returns-then-len-gt-MAX_RECEIVERS-clause-refused : goal.returns-then-len-gt-MAX_RECEIVERS-clause-refused

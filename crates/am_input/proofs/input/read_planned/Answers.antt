@@ -41,6 +41,7 @@ returns-clause-decoded c =
       starts = c.in_ok-requested.ensures.start;
       ends = c.requires.ends ∙ ap Some (sym c.in_ok-rehearsal.ensures.until);
       maintains = c.in_ok-rehearsal.ensures.maintain;
+      ticks = c.in_ok-rehearsal.ensures.ticks;
       plans = c.in_ok-rehearsal.ensures.plans;
       outages = c.in_ok-rehearsal.ensures.outages;
       targets = subst (λ (config : Config). IsTrue (have_targets (configs_of config c.args.handed.dispatcher_changes.items) c.in_ok-rehearsal.rehearsal.outages.items)) (sym c.in_ok-rehearsal.ensures.config)
@@ -68,6 +69,7 @@ returns-in_err-rehearsal-clause-refused c timed later =
     handed_on (Decodes c.args.top.now.mode c.args.changes (members_view c.args.top.now.members) c.args.configured.config c.args.handed.dispatcher_changes.items) c.from_residual-in_err-rehearsal.result c.in_err-rehearsal.field-0.0 c.from_residual-in_err-rehearsal.ensures.1
     (λ refusal x decoded. c.in_err-rehearsal.ensures.refused refusal x.rehearsal (
       decoded.0.maintains,
+      decoded.0.ticks,
       decoded.0.outages,
       subst (λ (config : Config). IsTrue (have_targets (configs_of config c.as_slice-later.result.now) x.rehearsal.outages.items)) decoded.1
           (subst (λ (hs : List DispatcherChange). IsTrue (have_targets (configs_of x.rehearsal.config hs) x.rehearsal.outages.items)) (decoded.2 ∙ sym c.as_slice-later.ensures.value) decoded.0.targets),

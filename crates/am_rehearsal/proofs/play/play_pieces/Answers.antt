@@ -27,7 +27,7 @@ pub returns-in_ok-into_played-in-Ok-clause-played : goal.returns-in_ok-into_play
 returns-in_ok-into_played-in-Ok-clause-played g c =
     let config = c.args.config in
     let plans = c.args.plans.items in
-    let r : Setting = setting_with c.args.until c.args.maintain c.args.outages.now c.args.span in
+    let r : Setting = setting_with c.args.until c.args.upkeep c.args.outages.now c.args.span in
     let was = c.in_ok-simulation.simulation in
     let last : Scene = scene_in c.run.new.self in
     let set : setting_in was ≡ r = c.in_ok-simulation.ensures.setting in
@@ -44,12 +44,12 @@ pub returns-in_err-simulation-clause-refused : goal.returns-in_err-simulation-cl
 returns-in_err-simulation-clause-refused g c =
     let why = c.in_err-simulation.ensures.refused in
     handed_on c.from_residual.result _ _
-    (λ fault is. subst (IsCauseOfFault (setting_with c.args.until c.args.maintain c.args.outages.now c.args.span) c.args.config c.args.plans.items) (sym (is ∙ why.0)) why.1) c.from_residual.ensures.1
+    (λ fault is. subst (IsCauseOfFault (setting_with c.args.until c.args.upkeep c.args.outages.now c.args.span) c.args.config c.args.plans.items) (sym (is ∙ why.0)) why.1) c.from_residual.ensures.1
 
 pub returns-in-Err-clause-refused : goal.returns-in-Err-clause-refused
 returns-in-Err-clause-refused g c =
     let plans = c.args.plans.items in
-    let r : Setting = setting_with c.args.until c.args.maintain c.args.outages.now c.args.span in
+    let r : Setting = setting_with c.args.until c.args.upkeep c.args.outages.now c.args.span in
     let was = c.in_ok-simulation.simulation in
     let fault = c.in-Err.fault in
     let first : Scene = opening_scene r c.args.config plans in

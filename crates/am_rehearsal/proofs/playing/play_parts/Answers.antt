@@ -12,8 +12,8 @@ pub loop-part-preserved : goal.loop-part-preserved
 loop-part-preserved g c =
     let was = c.loop-part in
     let added = c.in-Ok.ensures.added in
-    subst (λ (qs : List PlayedPart). ArePlayed c.args.maintain c.args.outages.now None (was.yielded ++ c.in-Some.part ∷ []) qs) (sym added.1)
-    (played_more c.args.maintain c.args.outages.now None was.yielded was.played.items c.in-Some.part added.0 was.invariant added.2)
+    subst (λ (qs : List PlayedPart). ArePlayed c.args.upkeep c.args.outages.now None (was.yielded ++ c.in-Some.part ∷ []) qs) (sym added.1)
+    (played_more c.args.upkeep c.args.outages.now None was.yielded was.played.items c.in-Some.part added.0 was.invariant added.2)
 
 pub returns-in-Err-clause-refused : goal.returns-in-Err-clause-refused
 returns-in-Err-clause-refused g c =
@@ -24,5 +24,5 @@ returns-in-Err-clause-refused g c =
     let from = YieldsList-from_vec {s = c.into_iter-part-iterator.result} parts gives.0 (gives.1 ∙ c.args.parts.ok.0) in
     let so_far = YieldsList-so_far from was.yielded was.part-iterator was.yielded_by in
     let turn = YieldsList-turn from was.yielded was.part-iterator was.yielded_by c.next.result c.next.new.self c.in-Some.part c.in-Some.is c.next.ensures.steps in
-    stopped_at c.args.maintain c.args.outages.now parts was.yielded was.played.items c.in-Some.part returned (sym (map-id was.yielded) ∙ so_far) turn
+    stopped_at c.args.upkeep c.args.outages.now parts was.yielded was.played.items c.in-Some.part returned (sym (map-id was.yielded) ∙ so_far) turn
     (c.len.ensures ∙ c.play_next.new.played.ok.0 ∙ ap length c.in-Err.ensures.kept) was.invariant c.in-Err.ensures.refused

@@ -14,17 +14,17 @@ pub returns-clause-printed : goal.returns-clause-printed
 returns-clause-printed g c =
     let input = c.args.input in
     let Decodes : List Change → List PlayedPart → List Expectation → Type 0 =
-    λ changes played expectations. IfOk c.render_from.result (λ rendered. IsOutputOf changes played input.output c.args.options.now (times_from input.start) expectations rendered.is_met (string_bytes rendered.text)) in
+    λ changes played expectations. IfOk c.render_all.result (λ rendered. IsOutputOf changes played input.output c.args.options.now (times_from input.start) expectations rendered.is_met (string_bytes rendered.text)) in
     let played = c.in_ok-played.played.items in
     let changed = c.as_slice-changes.ensures.value ∙ c.in_ok-changes.ensures ∙ ap (map change_of) c.as_slice.ensures.value in
-    IfOk-weaker c.render_from.result _ _
+    IfOk-weaker c.render_all.result _ _
     (λ rendered tale. record { played = played; plays = c.in_ok-played.ensures.plays; tale = tale })
     (subst (λ (changes : List Change). Decodes changes played input.expectations.items) changed
     (subst (λ (parts : List PlayedPart). Decodes c.as_slice-changes.result.now parts input.expectations.items) c.as_slice-played.ensures.value
-    (subst (λ (expectations : List Expectation). Decodes c.as_slice-changes.result.now c.as_slice-played.result.now expectations) c.as_slice-expectations.ensures.value c.render_from.ensures.output)))
+    (subst (λ (expectations : List Expectation). Decodes c.as_slice-changes.result.now c.as_slice-played.result.now expectations) c.as_slice-expectations.ensures.value c.render_all.ensures.output)))
 
 pub returns-clause-refused : goal.returns-clause-refused
-returns-clause-refused g c = starved (RefusesPlay c.args.input.rehearsal c.args.input.dispatcher_changes.items) c.render_from.result tt c.render_from.ensures.refused
+returns-clause-refused g c = starved (RefusesPlay c.args.input.rehearsal c.args.input.dispatcher_changes.items) c.render_all.result tt c.render_all.ensures.refused
 
 pub returns-in_err-played-clause-refused : goal.returns-in_err-played-clause-refused
 returns-in_err-played-clause-refused g c =

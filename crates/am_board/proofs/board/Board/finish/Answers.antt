@@ -16,7 +16,7 @@ finish_flush-requires-clause-good c = (c.self.inside.config, good c.self.inside 
 
 pub returns-in_default-clause-not_open : goal.returns-in_default-clause-not_open
 returns-in_default-clause-not_open c =
-    let at = c.in_default.ensures.first ∙ ap (position (λ (flush : OpenFlush). flush.number == c.ticket.inside.number)) c.as_slice.ensures.value in
+    let at = c.in_default.ensures.first in
     let none = none_open c.self.inside c.self.invariant c.args.self.now c.self.view_is c.ticket.inside.number at in
     let same : c.ticket.inside.number ≡ c.args.ticket.number = ap (λ (t : TicketData). t.number) c.ticket.view_is in
     let id = ap (λ (d : BoardData). d.id) c.self.view_is in
@@ -25,22 +25,21 @@ returns-in_default-clause-not_open c =
 pub invariant_of-self : goal.invariant_of-self
 invariant_of-self c =
     finish_sound c.self.inside c.self.invariant c.args.self.now c.self.view_is c.finish_flush.new.state c.args.pass c.args.now c.in-Some.f c.ticket.inside.number c.ticket.inside.outcomes.items c.args.ticket
-    (ap (λ (t : TicketData). t.number) c.ticket.view_is) (ap (λ (t : TicketData). t.outcomes) c.ticket.view_is) c.finish_flush.result (c.in-Some.ensures.first ∙ ap (position (λ (flush : OpenFlush). flush.number == c.ticket.inside.number)) c.as_slice.ensures.value) c.finish_flush.ensures.accepted c.finish_flush.ensures.closed
+    (ap (λ (t : TicketData). t.number) c.ticket.view_is) (ap (λ (t : TicketData). t.outcomes) c.ticket.view_is) c.finish_flush.result (c.in-Some.ensures.first) c.finish_flush.ensures.accepted c.finish_flush.ensures.closed
 
 pub returns-clause-recorded : goal.returns-clause-recorded
 returns-clause-recorded c =
     finish_recorded c.self.inside c.self.invariant c.args.self.now c.self.view_is c.finish_flush.new.state c.args.pass c.args.now c.in-Some.f c.ticket.inside.number c.ticket.inside.outcomes.items c.args.ticket
-    (ap (λ (t : TicketData). t.number) c.ticket.view_is) (ap (λ (t : TicketData). t.outcomes) c.ticket.view_is) c.finish_flush.result (c.in-Some.ensures.first ∙ ap (position (λ (flush : OpenFlush). flush.number == c.ticket.inside.number)) c.as_slice.ensures.value) c.finish_flush.ensures.accepted
+    (ap (λ (t : TicketData). t.number) c.ticket.view_is) (ap (λ (t : TicketData). t.outcomes) c.ticket.view_is) c.finish_flush.result (c.in-Some.ensures.first) c.finish_flush.ensures.accepted
 
 pub returns-clause-reply : goal.returns-clause-reply
 returns-clause-reply c =
     finish_returned c.self.inside c.self.invariant c.args.self.now c.self.view_is c.finish_flush.new.state c.args.pass c.args.now c.in-Some.f c.ticket.inside.number c.ticket.inside.outcomes.items c.args.ticket
-    (ap (λ (t : TicketData). t.number) c.ticket.view_is) (ap (λ (t : TicketData). t.outcomes) c.ticket.view_is) c.finish_flush.result (c.in-Some.ensures.first ∙ ap (position (λ (flush : OpenFlush). flush.number == c.ticket.inside.number)) c.as_slice.ensures.value) c.finish_flush.ensures.accepted
+    (ap (λ (t : TicketData). t.number) c.ticket.view_is) (ap (λ (t : TicketData). t.outcomes) c.ticket.view_is) c.finish_flush.result (c.in-Some.ensures.first) c.finish_flush.ensures.accepted
 
 pub returns-clause-not_open : goal.returns-clause-not_open
 returns-clause-not_open c =
     (λ e. absurd e, λ h. not_none _ _ _ (returns-clause-reply c) h.1)
 
 pub find_flush-requires : goal.find_flush-requires
-find_flush-requires c =
-    subst (λ (fs : List OpenFlush). IsDistinct same_number (map flush_state fs)) (sym c.as_slice.ensures.value) (good c.self.inside c.self.invariant).consistent.numbers
+find_flush-requires c = (good c.self.inside c.self.invariant).consistent.numbers

@@ -1,4 +1,4 @@
-use Rattle.std.proofs.Common.{◌≡◌, map, ap, ◌∙◌}
+use Rattle.std.proofs.Common.{map, ap, ◌∙◌}
 use Rattle.am_nflog.specs.Members.{is_empty}
 use Rattle.am_model.specs.Insert.{same_member}
 use Rattle.am_board.specs.Members.{MemberList}

@@ -1,4 +1,4 @@
-use Rattle.std.proofs.Common.{◌≡◌, ltb, ap, sym, ◌∙◌}
+use Rattle.std.proofs.Common.{ltb, ap, ◌∙◌}
 use Rattle.am_board.specs.GroupList.{GroupList}
 use Rattle.am_board.proofs.lemmas.maintain.Empties.{any_empty, any_of}
 use Rattle.std.specs.Map.{values_of}

@@ -32,11 +32,11 @@ all_keys set = (set.ring ++ set.tree.keys) ++ set.heap
 -- each group that can be taken has its key there
 all_have : (set : DueSet) (gs : List Group) (fs : List FlushState) (t : ℕ) → IsTrue set.whole → AreDue set gs → TellOpen fs gs
     → (j : ℕ) (d : Group) → j < length gs → may_take fs t (group_state (get_or gs j d)) ≡ true → has_key (all_keys set) (key_of (get_or gs j d)) ≡ true
-all_have set gs fs t whole due told j d within may =
+all_have set gs fs t whole due marked j d within may =
     let g : Group = get_or gs j d in
     let q : DueKey = key_of g in
     let same : DueKey → Bool = λ k. is_eq (key_cmp q k) in
-    let closed : g.is_open ≡ false = told j d within ∙ off (is_flushing fs g.name) (and_parts (nat_le g.due t) (not (is_flushing fs g.name)) may).1 in
+    let closed : g.is_open ≡ false = marked j d within ∙ off (is_flushing fs g.name) (and_parts (nat_le g.due t) (not (is_flushing fs g.name)) may).1 in
     list_any-append same (set.ring ++ set.tree.keys) set.heap
     ∙ (ap (λ b. b || has_key set.heap q) (list_any-append same set.ring set.tree.keys)
     ∙ (assoc (has_key set.ring q) (has_key set.tree.keys q) (has_key set.heap q)
@@ -51,18 +51,18 @@ all_have set gs fs t whole due told j d within may =
     assoc false b c = refl
 
 pub returns-clause-first : goal.returns-clause-first
-returns-clause-first c fs told =
+returns-clause-first c fs marked =
     let gs : List Group = values_of c.args.groups.now.entries in
     let set : DueSet = c.args.due.now in
     let t = c.args.t in
     let is = c.as_slice-groups.ensures ∙ c.values.ensures.rest in
-    let in_ring : IsFirstOfKeys fs t gs set.ring c.in_ok-in_ring.in_ring = c.in_ok-in_ring.ensures.first fs set.ring told c.front.ensures in
-    let in_tree : IsFirstOfKeys fs t gs set.tree.keys c.in_ok-in_tree.in_tree = c.in_ok-in_tree.ensures.first fs set.tree.keys told c.tree_front.ensures in
-    let in_heap : IsFirstOfKeys fs t gs set.heap c.in_ok-in_heap.in_heap = c.in_ok-in_heap.ensures.first fs set.heap told c.front-2.ensures in
+    let in_ring : IsFirstOfKeys fs t gs set.ring c.in_ok-in_ring.in_ring = c.in_ok-in_ring.ensures.first fs set.ring marked c.front.ensures in
+    let in_tree : IsFirstOfKeys fs t gs set.tree.keys c.in_ok-in_tree.in_tree = c.in_ok-in_tree.ensures.first fs set.tree.keys marked c.tree_front.ensures in
+    let in_heap : IsFirstOfKeys fs t gs set.heap c.in_ok-in_heap.in_heap = c.in_ok-in_heap.ensures.first fs set.heap marked c.front-2.ensures in
     let in_both : IsFirstOfKeys fs t gs (set.ring ++ set.tree.keys) c.first_of_two-in_both.result =
     subst (λ (xs : List Group). IsFirstOfKeys fs t xs set.ring c.in_ok-in_ring.in_ring → IsFirstOfKeys fs t xs set.tree.keys c.in_ok-in_tree.in_tree → IsFirstOfKeys fs t xs (set.ring ++ set.tree.keys) c.first_of_two-in_both.result)
     is (c.first_of_two-in_both.ensures.first fs t set.ring set.tree.keys) in_ring in_tree in
     let in_all : IsFirstOfKeys fs t gs (all_keys set) c.first_of_two.result =
     subst (λ (xs : List Group). IsFirstOfKeys fs t xs (set.ring ++ set.tree.keys) c.first_of_two-in_both.result → IsFirstOfKeys fs t xs set.heap c.in_ok-in_heap.in_heap → IsFirstOfKeys fs t xs (all_keys set) c.first_of_two.result)
     is (c.first_of_two.ensures.first fs t (set.ring ++ set.tree.keys) set.heap) in_both in_heap in
-    first_of_all fs t gs (all_keys set) (distinct c.args.groups.now.entries c.requires.keyed c.requires.distinct) (all_have set gs fs t c.if-not-due.false c.requires.keys told) c.first_of_two.result in_all
+    first_of_all fs t gs (all_keys set) (distinct c.args.groups.now.entries c.requires.keyed c.requires.distinct) (all_have set gs fs t c.if-not-due.false c.requires.keys marked) c.first_of_two.result in_all

@@ -1,34 +1,38 @@
-use Rattle.std.proofs.Common.{◌∙◌, refl, sym}
+use Rattle.std.proofs.Common.{◌∙◌, [], refl, sym}
+use Rattle.am_board.specs.Logged.{finished_rows}
+use Rattle.am_lines.specs.Logged.{finished_tokens}
 use Rattle.am_lines.specs.declared.request.Request.TheVariants.{Finish}
-use Rattle.am_dispatch.proofs.Leaving.{lacks_ticket, made_all, not_open_leaves}
-use Rattle.am_dispatch.proofs.Making.{finishes, first_ticket, held_there, made}
+use Rattle.am_dispatch.proofs.Leaving.{lacks_ticket, not_open_leaves, untold_all}
+use Rattle.am_dispatch.proofs.Making.{finished_with, finishes, first_ticket, held_there}
 use Rattle.am_dispatch.proofs.session.Session.finish.Goals as goal
 
 pub returns-in-Ok-clause-answered : goal.returns-in-Ok-clause-answered
 returns-in-Ok-clause-answered c =
-    finishes _ _ _ _ _ _ _ _
-    (first_ticket _ _ _ _ _ c.as_slice.ensures.value c.in-Some.ensures.first
-    (held_there _ _ _ _ c.as_slice.ensures.value c.in-Some.ensures.within c.remove-own.ensures.value)) c.remove-own.ensures.items
-    (made _ _ _ _ _ _ _ c.in-Ok.ensures.reply c.in-Ok.ensures.recorded c.answer_with.ensures.answered)
+    finishes _ _ (λ rows. rows.items) _ _ _ _ _ _ _ _ _
+    (first_ticket _ _ _ _ _ c.as_slice.ensures.value c.in-Some.ensures.first (held_there _ _ _ _ c.as_slice.ensures.value c.in-Some.ensures.within c.remove-own.ensures.value)) c.remove-own.ensures.items
+    c.ticket.ensures.ticket c.in-Ok.ensures.reply c.in-Ok.ensures.recorded c.finished_rows-rows.ensures
+    c.answer_finished.ensures.answered c.answer_finished.ensures.listed
 
 pub returns-in-Ok-clause-refused : goal.returns-in-Ok-clause-refused
 returns-in-Ok-clause-refused c =
-    let at = first_ticket _ _ _ _ _ c.as_slice.ensures.value c.in-Some.ensures.first
-    (held_there _ _ _ _ c.as_slice.ensures.value c.in-Some.ensures.within c.remove-own.ensures.value) in
-    made_all _ _ _ (Finish c.args.finishing) _ _
-    (λ _ makes. record { index = _; ticket = _; at = at; makes = makes; tickets = c.remove-own.ensures.items }) (λ e. absurd (cc))
-    c.in-Ok.ensures.reply c.in-Ok.ensures.recorded c.answer_with.ensures.untold
+    let tokens = finished_tokens c.finish_own.new.self.config c.in-Ok.finished (finished_rows c.args.self.now.board c.args.finishing.now c.ticket.result.now) in
+    untold_all _ _ _ (Finish c.args.finishing) c.answer_finished.ensures.untold (λ e. absurd (cc)) (
+      tokens,
+      finished_with _ _ _ [] tokens _ _ _ c.in-Ok.finished
+          (first_ticket _ _ _ _ _ c.as_slice.ensures.value c.in-Some.ensures.first (held_there _ _ _ _ c.as_slice.ensures.value c.in-Some.ensures.within c.remove-own.ensures.value)) c.remove-own.ensures.items
+          c.ticket.ensures.ticket c.in-Ok.ensures.reply c.in-Ok.ensures.recorded refl,
+    )
 
 pub returns-in-Err-clause-refused : goal.returns-in-Err-clause-refused
-returns-in-Err-clause-refused c = record {
-  index = _;
-  ticket = _;
-  at = first_ticket _ _ _ _ _ c.as_slice.ensures.value c.in-Some.ensures.first
-      (held_there _ _ _ _ c.as_slice.ensures.value c.in-Some.ensures.within c.remove-own.ensures.value);
-  not_open = c.in-Err.ensures.not_open;
-  board = c.in-Err.ensures.refused;
-  tickets = c.remove-own.ensures.items;
-}
+returns-in-Err-clause-refused c =
+    record {
+      index = _;
+      ticket = _;
+      at = first_ticket _ _ _ _ _ c.as_slice.ensures.value c.in-Some.ensures.first (held_there _ _ _ _ c.as_slice.ensures.value c.in-Some.ensures.within c.remove-own.ensures.value);
+      not_open = c.in-Err.ensures.not_open;
+      board = c.in-Err.ensures.refused;
+      tickets = c.remove-own.ensures.items;
+    }
 
 pub returns-in_default-clause-refused : goal.returns-in_default-clause-refused
 returns-in_default-clause-refused c =

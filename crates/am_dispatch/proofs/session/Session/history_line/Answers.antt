@@ -11,4 +11,4 @@ returns-clause-line c =
     let tokens : c.write_list.new.answer ≡ taken_tokens board =
     answered_taken board c.config.result.now c.kept.result.now c.new-answer.result c.write_list.new.answer
     c.config.ensures.config c.kept.ensures.records c.new-answer.ensures c.in_ok-write_list.ensures in
-    subst (λ (t : List Token). IfOk c.into_line.result (λ line. line.items ≡ print t ++ 10 ∷ [])) tokens c.into_line.ensures
+    subst (λ (t : List Token). IfOk c.into_line.result (λ line. line.items ≡ print t ++ 10 ∷ [])) tokens c.into_line.ensures.text

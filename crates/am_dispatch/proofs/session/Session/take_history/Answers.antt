@@ -13,6 +13,7 @@ returns-in-Ok-clause-answered c = (
     tickets = refl;
   },
   c.in_ok-line.ensures.line,
+  c.in_ok-line.ensures.one,
 )
 
 pub returns-clause-refused : goal.returns-clause-refused

@@ -15,16 +15,15 @@ children_decide receivers root children there =
     sym (list_all-map (λ (r : Route). has_receiver receivers r.receiver) (λ (c : Child). c.route) children)
     ∙ ap (λ b. b && list_all (λ r. has_receiver receivers r.receiver) (map (λ c. c.route) children)) (sym there)
 
-pub returns-then-has_receiver : goal.returns-then-has_receiver
-returns-then-has_receiver c =
-    let receivers = c.as_slice-receivers.ensures in
+pub returns-then-has : goal.returns-then-has
+returns-then-has c =
     let name = c.as_str.ensures ∙ ap (λ (r : Route). r.receiver) c.root.ensures.root in
     let there : has_receiver c.args.self.now.receivers c.args.self.now.routes.root.receiver ≡ true =
-    sym (c.has_receiver.ensures ∙ (λ i. has_receiver (receivers i) (name i))) ∙ c.if-has_receiver.true in
+    sym (c.has.ensures ∙ (λ i. has_receiver c.args.self.now.receivers (name i))) ∙ c.if-has.true in
     record {
       value =
           c.have_receivers.ensures
-          ∙ (λ i. list_all (λ (d : Child). has_receiver (receivers i) d.route.receiver) (c.children-children.ensures.children i))
+          ∙ (λ i. list_all (λ (d : Child). has_receiver c.args.self.now.receivers d.route.receiver) (c.children-children.ensures.children i))
           ∙ children_decide c.args.self.now.receivers c.args.self.now.routes.root (children_of c.args.self.now.routes) there;
       few = c.children-children.ensures.few;
     }

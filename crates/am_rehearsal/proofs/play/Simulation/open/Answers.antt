@@ -7,7 +7,7 @@ use Rattle.am_rehearsal.proofs.play.Simulation.open.Goals as goal
 
 pub returns-clause-scene : goal.returns-clause-scene
 returns-clause-scene c =
-    opened (setting_with c.args.until c.args.maintain c.args.outages.now c.args.span) c.args.config c.args.plans.items _ _ _ _ _
+    opened (setting_with c.args.until c.args.upkeep c.args.outages.now c.args.span) c.args.config c.args.plans.items _ _ _ _ _
     c.in_ok-new.ensures.board c.in_ok-new.ensures.events c.from_vec.ensures.items c.new-2.ensures c.saturating_add.ensures
 
 pub returns-in_err-new-clause-refused : goal.returns-in_err-new-clause-refused

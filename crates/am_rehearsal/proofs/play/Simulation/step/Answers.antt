@@ -1,7 +1,7 @@
 use Rattle.std.proofs.Common.{◌<◌, ◌≤◌, arith, length}
 use Rattle.std.proofs.lemmas.Result.{IfErr-weaker, on_ok_weaker}
 use Rattle.am_rehearsal.specs.Simulations.{scene_in, setting_in}
-use Rattle.am_rehearsal.specs.declared.next.Step.TheVariants.{Begin, End, Finish, Maintenance, Plan}
+use Rattle.am_rehearsal.specs.declared.next.Step.TheVariants.{Begin, End, Finish, Maintenance, Plan, Removal}
 use Rattle.am_terms.specs.declared.rehearsal.TimedAction.{TimedAction}
 use Rattle.am_rehearsal.proofs.Hindering.{allowed_by, memory_hindered, own_hindered, plan_allowed, plan_hindered}
 use Rattle.am_rehearsal.proofs.Stepping.{on_ok_both, plan_done, steps_by, there_for, within_some}
@@ -54,6 +54,11 @@ returns-in-Maintenance-clause-done c =
     let was = c.args.self.now in
     on_ok_weaker c.make_maintenance.result (steps_by (setting_in was) (scene_in was) c.args.coming Maintenance c.requires.comes c.in-Maintenance.is (scene_in c.make_maintenance.new.self)) c.make_maintenance.ensures.done
 
+pub returns-in-Removal-clause-done : goal.returns-in-Removal-clause-done
+returns-in-Removal-clause-done c =
+    let was = c.args.self.now in
+    on_ok_weaker c.remove_empty_groups.result (steps_by (setting_in was) (scene_in was) c.args.coming Removal c.requires.comes c.in-Removal.is (scene_in c.remove_empty_groups.new.self)) c.remove_empty_groups.ensures.done
+
 pub returns-in-Begin-clause-done : goal.returns-in-Begin-clause-done
 returns-in-Begin-clause-done c =
     let was = c.args.self.now in
@@ -91,10 +96,20 @@ returns-in-Maintenance-clause-allowed c =
     let was = c.args.self.now in
     on_ok_weaker c.make_maintenance.result (allowed_by was.count (scene_in was) c.args.coming Maintenance c.in-Maintenance.is) c.make_maintenance.ensures.allowed
 
+pub returns-in-Removal-clause-allowed : goal.returns-in-Removal-clause-allowed
+returns-in-Removal-clause-allowed c =
+    let was = c.args.self.now in
+    on_ok_weaker c.remove_empty_groups.result (allowed_by was.count (scene_in was) c.args.coming Removal c.in-Removal.is) c.remove_empty_groups.ensures.allowed
+
 pub returns-in-Maintenance-clause-hindered : goal.returns-in-Maintenance-clause-hindered
 returns-in-Maintenance-clause-hindered c =
     let was = c.args.self.now in
     IfErr-weaker c.make_maintenance.result _ _ (own_hindered was.count (scene_in was) c.args.coming Maintenance c.in-Maintenance.is) c.make_maintenance.ensures.hindered
+
+pub returns-in-Removal-clause-hindered : goal.returns-in-Removal-clause-hindered
+returns-in-Removal-clause-hindered c =
+    let was = c.args.self.now in
+    IfErr-weaker c.remove_empty_groups.result _ _ (own_hindered was.count (scene_in was) c.args.coming Removal c.in-Removal.is) c.remove_empty_groups.ensures.hindered
 
 pub returns-in-Begin-clause-allowed : goal.returns-in-Begin-clause-allowed
 returns-in-Begin-clause-allowed c =

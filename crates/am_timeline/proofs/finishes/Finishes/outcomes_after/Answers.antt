@@ -1,4 +1,4 @@
-use Rattle.std.proofs.Common.{◌≡◌, ◌∙◌, ◌≤◌, ◌+◌, List, Option, None, Some, ap, sym, arith, drop}
+use Rattle.std.proofs.Common.{◌≡◌, ◌∙◌, ◌≤◌, ◌+◌, List, None, Some, ap, sym, arith, drop}
 use Rattle.am_model.specs.declared.record.Record.{Record}
 use Rattle.am_model.specs.Outcomes.{outcomes_in}
 use Rattle.am_timeline.specs.Finishes.{first_finish}

@@ -1,0 +1,42 @@
+//! Matchers of a command line, as `--alert` and `--drop` take them. `play` and `story` read them.
+use am_alerts::matcher::Matcher;
+use am_command::exit_status::ExitStatus;
+use am_console::console::Console;
+use am_console::matcher_words::{matcher_of, words_for};
+
+/// Returns the matchers that these values of an option write. The error is the status.
+pub fn matchers_of<R: Eprint + AllocGlobal>(
+    rt: &R,
+    console: &Console,
+    option: &str,
+    texts: &[&str],
+) -> Result<Vec<Matcher>, ExitStatus> {
+    let mut matchers = Vec::new(rt.alloc());
+    for text in texts {
+        let matcher = matcher_in(rt, console, option, text)?;
+        if matchers.push(matcher).is_err() {
+            return Err(console.complain_of_memory(rt));
+        }
+    }
+    Ok(matchers)
+}
+
+/// Returns the matcher that a value of an option writes. The error is the status.
+fn matcher_in<R: Eprint + AllocGlobal>(
+    rt: &R,
+    console: &Console,
+    option: &str,
+    text: &str,
+) -> Result<Matcher, ExitStatus> {
+    let fault = match matcher_of(rt.alloc(), text) {
+        Ok(matcher) => return Ok(matcher),
+        Err(fault) => fault,
+    };
+    match words_for(fault) {
+        None => Err(console.complain_of_memory(rt)),
+        Some(words) => {
+            let _ = eprintln!(rt; "am-rehearse: {option}: `{text}` {words}");
+            Err(ExitStatus::Rejected)
+        }
+    }
+}

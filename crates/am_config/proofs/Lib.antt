@@ -1,0 +1,8 @@
+-- faults that compose, and what was read without one
+pub mod Collecting
+-- the lists of a receiver's integrations
+pub mod Integrations
+-- matchers that were read, one more at a time
+pub mod Matched
+-- the pieces of a text of matchers
+pub mod Pieces

@@ -1,0 +1,11 @@
+use Rattle.std.proofs.Common.{take}
+use Rattle.serde_json.specs.View.{items_view}
+use Rattle.am_cli.specs.Decoding.{DecodeEach, IsObject}
+use Rattle.am_config.specs.Collects.{Collects}
+use Rattle.am_config.specs.Rules.{HasRule}
+use Rattle.am_config.proofs.inhibit.read_rules.Given as goal
+
+-- the rules so far are those of the items so far
+abbrev pub invariant-loop-index : goal.invariant-loop-index
+invariant-loop-index l =
+    Collects l.fn.faults l.faults (DecodeEach (IsObject HasRule) (items_view (take l.index l.items)) l.rules.items)

@@ -1,0 +1,11 @@
+use Rattle.std.proofs.Common.{take}
+use Rattle.serde_json.specs.View.{items_view}
+use Rattle.am_cli.specs.Decoding.{DecodeEach, IsObject}
+use Rattle.am_config.specs.Collects.{Collects}
+use Rattle.am_config.specs.Receivers.{HasReceiver}
+use Rattle.am_config.proofs.receiver.read_receivers.Given as goal
+
+-- the receivers so far are those of the items so far
+abbrev pub invariant-loop-index : goal.invariant-loop-index
+invariant-loop-index l =
+    Collects l.fn.faults l.faults (DecodeEach (IsObject HasReceiver) (items_view (take l.index l.items)) l.receivers.items)

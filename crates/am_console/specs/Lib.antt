@@ -1,0 +1,2 @@
+-- what is read from a source
+pub mod Source

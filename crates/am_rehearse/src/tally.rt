@@ -1,0 +1,58 @@
+//! `Tally`: what became of several stories. `play` counts them.
+use am_command::exit_status::ExitStatus;
+
+/// What became of the stories so far.
+#[derive(Clone, Copy)]
+pub(crate) struct Tally {
+    stories: u64,
+    /// Those with an expectation that isn't met.
+    unmet: u64,
+    /// Those that didn't run.
+    rejected: u64,
+    /// The least status that isn't `Done`, if there is one.
+    status: ExitStatus,
+}
+
+impl Tally {
+    /// Returns the tally of no story.
+    pub(crate) fn none() -> Tally {
+        Tally {
+            stories: 0,
+            unmet: 0,
+            rejected: 0,
+            status: ExitStatus::Done,
+        }
+    }
+
+    /// Counts a story that ended with a status.
+    pub(crate) fn add(&mut self, status: ExitStatus) {
+        self.stories = self.stories.saturating_add(1);
+        match status {
+            ExitStatus::Done => return,
+            ExitStatus::Unmet => self.unmet = self.unmet.saturating_add(1),
+            _ => self.rejected = self.rejected.saturating_add(1),
+        }
+        if self.status == ExitStatus::Done || status.code() < self.status.code() {
+            self.status = status;
+        }
+    }
+
+    /// Returns the status of all: the least that isn't `Done`, if there is one.
+    pub(crate) fn status(self) -> ExitStatus {
+        self.status
+    }
+
+    /// Says on standard error what became of the stories.
+    pub(crate) fn say<R: Eprint>(self, rt: &R) {
+        let Tally {
+            stories,
+            unmet,
+            rejected,
+            status: _,
+        } = self;
+        let met = stories.saturating_sub(unmet).saturating_sub(rejected);
+        let _ = eprintln!(rt;
+            "am-rehearse: {stories} stories: {met} as expected, {unmet} with an expectation that isn't met, {rejected} rejected"
+        );
+    }
+}

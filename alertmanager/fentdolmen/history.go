@@ -15,7 +15,7 @@ import (
 // mostUnwritten is how many bytes of a history wait in memory while the disk is full.
 const mostUnwritten = 64 << 20
 
-// historyFile appends lines to a file, or drops them if it has no name. One goroutine writes, so that a disk that is stuck holds up
+// historyFile appends lines to a file, or drops them if it has no name. One goroutine writes, so a disk that is stuck holds up
 // nobody who adds.
 type historyFile struct {
 	path   string

@@ -57,7 +57,7 @@ func insertsCall(items ...[]byte) call {
 	return call{name: "inserts", items: items, answers: []string{"inserts"}}
 }
 
-// mostItems and mostLine bound a line, so that a flush that is due doesn't wait for many alerts.
+// mostItems and mostLine bound a line, so a flush that is due doesn't wait for many alerts.
 const mostItems, mostLine = 500, 1 << 20
 
 // insertLines gathers inserts into calls.

@@ -53,7 +53,7 @@ func (r *room) wasSince(kind string, then time.Time) bool {
 }
 
 // culprits knows the inserts and silences at which boards ended. Those of a line with several are suspects: each is tried alone from then
-// on. After two boards that ended at one alone it is kept from the next ones, so that no request can end all of them. After an hour it is
+// on. After two boards that ended at one alone it is kept from the next ones, so no request can end all of them. After an hour it is
 // tried again: a machine that stops for a while can end boards too.
 type culprits struct {
 	mtx   sync.Mutex

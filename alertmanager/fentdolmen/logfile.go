@@ -177,8 +177,8 @@ func (f *logFile) shorten() time.Duration {
 	return shortenEvery
 }
 
-// replaceFile puts a file with this text in place of the one of this name, so that at any time one of both is there whole. A path has one
-// writer at a time: the new file always has the same name, so that one that a killed process left behind is overwritten.
+// replaceFile puts a file with this text in place of the one of this name, so at any time one of both is there whole. A path has one
+// writer at a time: the new file always has the same name, so one that a killed process left behind is overwritten.
 func replaceFile(path string, text []byte) (*os.File, error) {
 	file, err := os.OpenFile(path+".part", os.O_CREATE|os.O_TRUNC|os.O_RDWR, 0o666)
 	if err != nil {

@@ -5,7 +5,7 @@ use Rattle.std.specs.Prelude.{max, nat_le}
 use Rattle.std.proofs.lemmas.Bool.{cases_lt, le-leb, leb-false, leb-true, lt-leb}
 use Rattle.std.proofs.lemmas.List.{append_assoc, at_drop_more, length-append, length-map, map-append, set_at}
 use Rattle.am_alerts.specs.Forest.{Forest, bare, grow, count, height, listed}
-use Rattle.am_alerts.specs.Layout.{beside, laid}
+use Rattle.am_alerts.specs.Layout.{followed, preorder}
 use Rattle.am_alerts.specs.Nested.{Branch, branch, branch_step, forest, rule_of, below_of, settled, settled_below, settled_route}
 use Rattle.am_alerts.specs.RouteLayouts.{layout_of, tree_below}
 use Rattle.am_alerts.specs.RoutingTree.{TreeRoute}
@@ -16,7 +16,7 @@ use Rattle.am_alerts.specs.declared.spans.Spans.{Spans}
 use Rattle.am_alerts.specs.declared.tree.RouteSpec.{RouteSpec}
 use Rattle.am_alerts.specs.declared.tree.Node.{Node}
 use Rattle.am_alerts.specs.declared.tree.Node.TheFolds.{fold_out-Node}
-use Rattle.am_alerts.proofs.Layouts.{length_laid}
+use Rattle.am_alerts.proofs.Layouts.{length_preorder}
 
 -- a node as a branch
 pub branch_out : (n : Node) → branch n ≡ record { rule = rule_of n; below = below_of n }
@@ -68,35 +68,35 @@ module _ (nodes : List Node) (i : ℕ) (n d : Node) (within : i < length nodes) 
 
 -- ---- node after node
 
-beside_forest : (ns : List Node) (m : Node) → forest (ns ++ m ∷ []) ≡ beside (forest ns) (grow (rule_of m) (below_of m) bare)
-beside_forest [] m = forest-cons m []
-beside_forest (n ∷ ns) m =
-    forest-cons n (ns ++ m ∷ []) ∙ ap (λ f. grow (rule_of n) (below_of n) f) (beside_forest ns m)
-    ∙ ap (λ f. beside f (grow (rule_of m) (below_of m) bare)) (sym (forest-cons n ns))
+followed_forest : (ns : List Node) (m : Node) → forest (ns ++ m ∷ []) ≡ followed (forest ns) (grow (rule_of m) (below_of m) bare)
+followed_forest [] m = forest-cons m []
+followed_forest (n ∷ ns) m =
+    forest-cons n (ns ++ m ∷ []) ∙ ap (λ f. grow (rule_of n) (below_of n) f) (followed_forest ns m)
+    ∙ ap (λ f. followed f (grow (rule_of m) (below_of m) bare)) (sym (forest-cons n ns))
 
-beside_settled : (above : Route) (f g : Forest RouteSpec)
-    → settled_below above (beside f g) ≡ beside (settled_below above f) (settled_below above g)
-beside_settled above bare g = refl
-beside_settled above (grow r below after) g =
-    ap (λ h. grow (settled_route above r) (settled_below (settled above r) below) h) (beside_settled above after g)
+followed_settled : (above : Route) (f g : Forest RouteSpec)
+    → settled_below above (followed f g) ≡ followed (settled_below above f) (settled_below above g)
+followed_settled above bare g = refl
+followed_settled above (grow r below after) g =
+    ap (λ h. grow (settled_route above r) (settled_below (settled above r) below) h) (followed_settled above after g)
 
 module _ {X : Type 0} where
-  listed-beside : (f g : Forest X) → listed (beside f g) ≡ listed f ++ listed g
-  listed-beside bare g = refl
-  listed-beside (grow x below after) g =
-      ap (λ xs. x ∷ (listed below ++ xs)) (listed-beside after g)
+  listed-followed : (f g : Forest X) → listed (followed f g) ≡ listed f ++ listed g
+  listed-followed bare g = refl
+  listed-followed (grow x below after) g =
+      ap (λ xs. x ∷ (listed below ++ xs)) (listed-followed after g)
       ∙ ap (λ xs. x ∷ xs) (sym (append_assoc (listed below) (listed after) (listed g)))
 
-  laid-beside : (f g : Forest X) → laid (beside f g) ≡ laid f ++ laid g
-  laid-beside bare g = refl
-  laid-beside (grow x below after) g =
-      ap (λ xs. (x, count below) ∷ (laid below ++ xs)) (laid-beside after g)
-      ∙ ap (λ xs. (x, count below) ∷ xs) (sym (append_assoc (laid below) (laid after) (laid g)))
+  preorder-followed : (f g : Forest X) → preorder (followed f g) ≡ preorder f ++ preorder g
+  preorder-followed bare g = refl
+  preorder-followed (grow x below after) g =
+      ap (λ xs. (x, count below) ∷ (preorder below ++ xs)) (preorder-followed after g)
+      ∙ ap (λ xs. (x, count below) ∷ xs) (sym (append_assoc (preorder below) (preorder after) (preorder g)))
 
 module _ (above : Route) (ns : List Node) (m : Node) where
   settled_more : settled_below above (forest (ns ++ m ∷ []))
-      ≡ beside (settled_below above (forest ns)) (tree_below above (rule_of m) (below_of m))
-  settled_more = ap (settled_below above) (beside_forest ns m) ∙ beside_settled above (forest ns) (grow (rule_of m) (below_of m) bare)
+      ≡ followed (settled_below above (forest ns)) (tree_below above (rule_of m) (below_of m))
+  settled_more = ap (settled_below above) (followed_forest ns m) ∙ followed_settled above (forest ns) (grow (rule_of m) (below_of m) bare)
 
   -- the routes of one more node, and their layouts
   pub children_more : (before so_far now : List Child) → so_far ≡ before ++ map (λ r. r.child) (listed (settled_below above (forest ns)))
@@ -107,29 +107,29 @@ module _ (above : Route) (ns : List Node) (m : Node) where
       let more = map (λ (r : TreeRoute). r.child) (listed (tree_below above (rule_of m) (below_of m))) in
       added ∙ ap (λ cs. cs ++ more) was ∙ append_assoc before first more
       ∙ ap (λ cs. before ++ cs) (sym (ap (λ f. map (λ r. r.child) (listed f)) settled_more
-      ∙ ap (map (λ r. r.child)) (listed-beside (settled_below above (forest ns)) (tree_below above (rule_of m) (below_of m)))
+      ∙ ap (map (λ r. r.child)) (listed-followed (settled_below above (forest ns)) (tree_below above (rule_of m) (below_of m)))
       ∙ map-append (λ r. r.child) (listed (settled_below above (forest ns))) (listed (tree_below above (rule_of m) (below_of m)))))
 
-  pub layouts_more : (before so_far now : List RouteLayout) → so_far ≡ before ++ map layout_of (laid (settled_below above (forest ns)))
-      → now ≡ so_far ++ map layout_of (laid (tree_below above (rule_of m) (below_of m)))
-      → now ≡ before ++ map layout_of (laid (settled_below above (forest (ns ++ m ∷ []))))
+  pub layouts_more : (before so_far now : List RouteLayout) → so_far ≡ before ++ map layout_of (preorder (settled_below above (forest ns)))
+      → now ≡ so_far ++ map layout_of (preorder (tree_below above (rule_of m) (below_of m)))
+      → now ≡ before ++ map layout_of (preorder (settled_below above (forest (ns ++ m ∷ []))))
   layouts_more before so_far now was added =
-      let first = map layout_of (laid (settled_below above (forest ns))) in
-      let more = map layout_of (laid (tree_below above (rule_of m) (below_of m))) in
+      let first = map layout_of (preorder (settled_below above (forest ns))) in
+      let more = map layout_of (preorder (tree_below above (rule_of m) (below_of m))) in
       added ∙ ap (λ cs. cs ++ more) was ∙ append_assoc before first more
-      ∙ ap (λ cs. before ++ cs) (sym (ap (λ f. map layout_of (laid f)) settled_more
-      ∙ ap (map layout_of) (laid-beside (settled_below above (forest ns)) (tree_below above (rule_of m) (below_of m)))
-      ∙ map-append layout_of (laid (settled_below above (forest ns))) (laid (tree_below above (rule_of m) (below_of m)))))
+      ∙ ap (λ cs. before ++ cs) (sym (ap (λ f. map layout_of (preorder f)) settled_more
+      ∙ ap (map layout_of) (preorder-followed (settled_below above (forest ns)) (tree_below above (rule_of m) (below_of m)))
+      ∙ map-append layout_of (preorder (settled_below above (forest ns))) (preorder (tree_below above (rule_of m) (below_of m)))))
 
 -- the layout of a route is reported once those below it have theirs
 pub layout_counted : (before now : List RouteLayout) (x : TreeRoute) (p : RouteLayout) (f : Forest TreeRoute) (size : ℕ) (muted : Spans)
-    → muted ≡ x.muted → now ≡ (before ++ p ∷ []) ++ map layout_of (laid f) → size ≡ length now - length before - 1
-    → set now (length before) (record { below = size; muted = muted }) ≡ before ++ layout_of (x, count f) ∷ map layout_of (laid f)
+    → muted ≡ x.muted → now ≡ (before ++ p ∷ []) ++ map layout_of (preorder f) → size ≡ length now - length before - 1
+    → set now (length before) (record { below = size; muted = muted }) ≡ before ++ layout_of (x, count f) ∷ map layout_of (preorder f)
 layout_counted before now x p f size muted own was fact =
-    let others = map layout_of (laid f) in
+    let others = map layout_of (preorder f) in
     let flat : now ≡ before ++ p ∷ others = was ∙ append_assoc before (p ∷ []) others in
     let all : length now ≡ length before + suc (length others) = ap length flat ∙ length-append before (p ∷ others) in
-    let many : length others ≡ count f = length-map (laid f) layout_of ∙ length_laid f in
+    let many : length others ≡ count f = length-map (preorder f) layout_of ∙ length_preorder f in
     let is : size ≡ count f = fact ∙ omega (arith, all, many) in
     ap (λ ps. set ps (length before) (record { below = size; muted = muted })) flat
     ∙ set_at before p others (record { below = size; muted = muted }) (length before) refl

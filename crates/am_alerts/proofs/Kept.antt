@@ -4,9 +4,9 @@ use Rattle.std.specs.Prelude.{nat_le, max}
 use Rattle.std.proofs.lemmas.Bool.{and_parts, and_from, le-leb, leb-true}
 use Rattle.std.proofs.lemmas.List.{length-map}
 use Rattle.am_alerts.specs.Forest.{Forest, bare, grow, count, height, listed, level}
-use Rattle.am_alerts.specs.Layout.{laid, planted_of_laid}
+use Rattle.am_alerts.specs.Layout.{preorder, planted_of_preorder}
 use Rattle.am_alerts.specs.Nested.{nested_of, settled, settled_below}
-use Rattle.am_alerts.specs.RouteLayouts.{IsLaid, IsPlanted, paired, layout_of, tree_from}
+use Rattle.am_alerts.specs.RouteLayouts.{IsPreorder, IsPlanted, paired, layout_of, tree_from}
 use Rattle.am_alerts.specs.RoutingTree.{RoutingTree, TreeRoute, children_of, fault_where, is_within, last_of, level_fault, plain}
 use Rattle.am_alerts.specs.RoutingTree.{tree_fault, tree_of}
 use Rattle.am_alerts.specs.declared.limits.TheConstants.{MAX_CHILDREN, MAX_DEPTH, MAX_ROUTES}
@@ -14,7 +14,7 @@ use Rattle.am_alerts.specs.declared.route_layout.RouteLayout.{RouteLayout}
 use Rattle.am_alerts.specs.declared.route.Child.{Child}
 use Rattle.am_alerts.specs.declared.route.Route.{Route}
 use Rattle.am_alerts.specs.declared.tree.RouteSpec.{RouteSpec}
-use Rattle.am_alerts.proofs.Layouts.{laid_level, length_listed, listed_level, paired_laid, planted_level}
+use Rattle.am_alerts.proofs.Layouts.{preorder_level, length_listed, listed_level, paired_preorder, planted_level}
 use Rattle.am_alerts.proofs.Trees.{fits-none}
 
 -- ---- one level
@@ -75,7 +75,7 @@ tree_from_level root cs = ap (λ f. let t : RoutingTree = record { root = root; 
 pub is_planted_level : (root : Route) (cs : List Child) → fault_where (nat_le (length cs) MAX_CHILDREN) root cs ≡ None
     → IsPlanted root (paired cs [])
 is_planted_level root cs none = (
-  ap laid (planted_level cs) ∙ laid_level cs,
+  ap preorder (planted_level cs) ∙ preorder_level cs,
   ap tree_fault (tree_from_level root cs) ∙ level_fault-tree_fault root cs (level_fault_is root cs ∙ none),
 )
 
@@ -88,15 +88,15 @@ height_settled above (grow r below after) =
     ∙ ap (λ n. max (height below + 1) n) (height_settled above after)
 
 module _ (root : Route) (f : Forest RouteSpec) (cs : List Child) (ps : List RouteLayout)
-    (children : cs ≡ map (λ r. r.child) (listed (settled_below root f))) (layouts : ps ≡ map layout_of (laid (settled_below root f))) where
-  paired_nested : paired cs ps ≡ laid (settled_below root f)
+    (children : cs ≡ map (λ r. r.child) (listed (settled_below root f))) (layouts : ps ≡ map layout_of (preorder (settled_below root f))) where
+  paired_nested : paired cs ps ≡ preorder (settled_below root f)
   paired_nested = ap (λ ds. paired ds ps) children ∙ ap (λ qs. paired (map (λ r. r.child) (listed (settled_below root f))) qs) layouts
-      ∙ paired_laid (settled_below root f)
+      ∙ paired_preorder (settled_below root f)
 
   pub tree_from_nested : tree_from root (paired cs ps) ≡ nested_of root f
   tree_from_nested =
       ap (λ ts. tree_from root ts) paired_nested
-      ∙ ap (λ g. let t : RoutingTree = record { root = root; below = g } in t) (planted_of_laid (settled_below root f))
+      ∙ ap (λ g. let t : RoutingTree = record { root = root; below = g } in t) (planted_of_preorder (settled_below root f))
 
   length_nested : length cs ≡ count (settled_below root f)
   length_nested = ap length children ∙ length-map (listed (settled_below root f)) (λ (r : TreeRoute). r.child)
@@ -112,6 +112,6 @@ module _ (root : Route) (f : Forest RouteSpec) (cs : List Child) (ps : List Rout
   pub is_planted_nested : fault_where (nat_le (length cs) MAX_ROUTES && nat_le (height f) MAX_DEPTH) root cs ≡ None
       → IsPlanted root (paired cs ps)
   is_planted_nested none = (
-    subst (λ ts. IsLaid ts) (sym paired_nested) (ap laid (planted_of_laid (settled_below root f))),
+    subst (λ ts. IsPreorder ts) (sym paired_nested) (ap preorder (planted_of_preorder (settled_below root f))),
     ap tree_fault tree_from_nested ∙ sym fault_nested ∙ none,
   )

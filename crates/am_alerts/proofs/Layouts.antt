@@ -4,8 +4,8 @@ use Rattle.std.proofs.Common.{ap, ◌∙◌, subst, arith}
 use Rattle.std.proofs.lemmas.List.{map-append, length-append, length-take-le, length-drop, take_at, drop_at, take-take, drop-take}
 use Rattle.std.proofs.lemmas.List.{drop-drop, drop_more, take_all}
 use Rattle.am_alerts.specs.Forest.{Forest, bare, grow, count, listed, level}
-use Rattle.am_alerts.specs.Layout.{laid, planted, planted_of_laid, first_trees-none, other_trees, other_trees-none}
-use Rattle.am_alerts.specs.RouteLayouts.{IsLaid, IsPlanted, below_in, paired, part, layout_of, muted_in, tree_from}
+use Rattle.am_alerts.specs.Layout.{preorder, planted, planted_of_preorder, first_trees-none, other_trees, other_trees-none}
+use Rattle.am_alerts.specs.RouteLayouts.{IsPreorder, IsPlanted, below_in, paired, part, layout_of, muted_in, tree_from}
 use Rattle.am_alerts.specs.RoutingTree.{RoutingTree, TreeRoute, below_at, plain, children_of, last_of, tree_fault}
 use Rattle.am_alerts.specs.Spans.{muted_at}
 use Rattle.am_alerts.specs.declared.route_layout.RouteLayout.{RouteLayout}
@@ -15,16 +15,16 @@ use Rattle.am_alerts.specs.declared.route.Route.{Route}
 -- ---- any forest
 
 module _ {X : Type 0} where
-  pub length_laid : (f : Forest X) → length (laid f) ≡ count f
-  length_laid bare = refl
-  length_laid (grow x below after) = omega (arith, length-append (laid below) (laid after), length_laid below, length_laid after)
+  pub length_preorder : (f : Forest X) → length (preorder f) ≡ count f
+  length_preorder bare = refl
+  length_preorder (grow x below after) = omega (arith, length-append (preorder below) (preorder after), length_preorder below, length_preorder after)
 
-  pub listed_of_laid : (f : Forest X) → map (λ t. t.0) (laid f) ≡ listed f
-  listed_of_laid bare = refl
-  listed_of_laid (grow x below after) =
-      ap (λ xs. x ∷ xs) (map-append (λ t. t.0) (laid below) (laid after)
-      ∙ ap (λ xs. xs ++ map (λ t. t.0) (laid after)) (listed_of_laid below)
-      ∙ ap (λ xs. listed below ++ xs) (listed_of_laid after))
+  pub listed_of_preorder : (f : Forest X) → map (λ t. t.0) (preorder f) ≡ listed f
+  listed_of_preorder bare = refl
+  listed_of_preorder (grow x below after) =
+      ap (λ xs. x ∷ xs) (map-append (λ t. t.0) (preorder below) (preorder after)
+      ∙ ap (λ xs. xs ++ map (λ t. t.0) (preorder after)) (listed_of_preorder below)
+      ∙ ap (λ xs. listed below ++ xs) (listed_of_preorder after))
 
   pub length_listed : (f : Forest X) → length (listed f) ≡ count f
   length_listed bare = refl
@@ -66,12 +66,12 @@ children_twice : (ts : List (TreeRoute × ℕ)) → map (λ r. r.child) (map (λ
 children_twice [] = refl
 children_twice (t ∷ ts) = ap (λ r. t.0.child ∷ r) (children_twice ts)
 
-pub children_laid : (f : Forest TreeRoute) → map (λ t. t.0.child) (laid f) ≡ map (λ r. r.child) (listed f)
-children_laid f = sym (children_twice (laid f)) ∙ ap (map (λ r. r.child)) (listed_of_laid f)
+pub children_preorder : (f : Forest TreeRoute) → map (λ t. t.0.child) (preorder f) ≡ map (λ r. r.child) (listed f)
+children_preorder f = sym (children_twice (preorder f)) ∙ ap (map (λ r. r.child)) (listed_of_preorder f)
 
 -- the children and the layouts of a forest are its layout
-pub paired_laid : (f : Forest TreeRoute) → paired (map (λ r. r.child) (listed f)) (map layout_of (laid f)) ≡ laid f
-paired_laid f = ap (λ cs. paired cs (map layout_of (laid f))) (sym (children_laid f)) ∙ paired_again (laid f)
+pub paired_preorder : (f : Forest TreeRoute) → paired (map (λ r. r.child) (listed f)) (map layout_of (preorder f)) ≡ preorder f
+paired_preorder f = ap (λ cs. paired cs (map layout_of (preorder f))) (sym (children_preorder f)) ∙ paired_again (preorder f)
 
 -- children without layouts are one level
 pub planted_level : (cs : List Child) → planted (paired cs []) ≡ level (map plain cs)
@@ -80,43 +80,43 @@ planted_level (c ∷ cs) =
     ap (λ f. grow (plain c) f (other_trees 0 (planted (paired cs [])))) (first_trees-none (planted (paired cs [])))
     ∙ ap (λ f. grow (plain c) bare f) (other_trees-none (planted (paired cs [])) ∙ planted_level cs)
 
-pub laid_level : (cs : List Child) → laid (level (map plain cs)) ≡ paired cs []
-laid_level [] = refl
-laid_level (c ∷ cs) = ap (λ ts. (plain c, 0) ∷ ts) (laid_level cs)
+pub preorder_level : (cs : List Child) → preorder (level (map plain cs)) ≡ paired cs []
+preorder_level [] = refl
+preorder_level (c ∷ cs) = ap (λ ts. (plain c, 0) ∷ ts) (preorder_level cs)
 
-module _ (root : Route) (cs : List Child) (ps : List RouteLayout) (is_laid : IsLaid (paired cs ps)) where
+module _ (root : Route) (cs : List Child) (ps : List RouteLayout) (is_preorder : IsPreorder (paired cs ps)) where
   pub children_planted : children_of (tree_from root (paired cs ps)) ≡ cs
   children_planted =
-      sym (children_laid (planted (paired cs ps))) ∙ ap (map (λ t. t.0.child)) is_laid ∙ children_paired cs ps
+      sym (children_preorder (planted (paired cs ps))) ∙ ap (map (λ t. t.0.child)) is_preorder ∙ children_paired cs ps
 
   pub last_planted : last_of (tree_from root (paired cs ps)) ≡ length cs
-  last_planted = sym (length_laid (planted (paired cs ps))) ∙ ap length is_laid ∙ length_paired cs ps
+  last_planted = sym (length_preorder (planted (paired cs ps))) ∙ ap length is_preorder ∙ length_paired cs ps
 
 -- ---- the first route of a layout, those below it and those after it
 
 abbrev Splits : TreeRoute × ℕ → List (TreeRoute × ℕ) → Forest TreeRoute → Type 0
 Splits t rest f =
-    (t.1 ≤ length rest) × IsLaid (take t.1 rest) × IsLaid (drop t.1 rest)
+    (t.1 ≤ length rest) × IsPreorder (take t.1 rest) × IsPreorder (drop t.1 rest)
     × (f ≡ grow t.0 (planted (take t.1 rest)) (planted (drop t.1 rest)))
 
-splits-grow : (x : TreeRoute) (below after : Forest TreeRoute) → Splits (x, count below) (laid below ++ laid after) (grow x below after)
+splits-grow : (x : TreeRoute) (below after : Forest TreeRoute) → Splits (x, count below) (preorder below ++ preorder after) (grow x below after)
 splits-grow x below after =
-    let taken : take (count below) (laid below ++ laid after) ≡ laid below =
-    take_at (laid below) (laid after) (count below) (length_laid below) in
-    let left : drop (count below) (laid below ++ laid after) ≡ laid after =
-    drop_at (laid below) (laid after) (count below) (length_laid below) in (
-      omega (arith, length-append (laid below) (laid after), length_laid below),
-      subst (λ ts. IsLaid ts) (sym taken) (ap laid (planted_of_laid below)),
-      subst (λ ts. IsLaid ts) (sym left) (ap laid (planted_of_laid after)),
-      ap (λ f. grow x f after) (sym (ap planted taken ∙ planted_of_laid below))
-          ∙ ap (λ f. grow x (planted (take (count below) (laid below ++ laid after))) f) (sym (ap planted left ∙ planted_of_laid after)),
+    let taken : take (count below) (preorder below ++ preorder after) ≡ preorder below =
+    take_at (preorder below) (preorder after) (count below) (length_preorder below) in
+    let left : drop (count below) (preorder below ++ preorder after) ≡ preorder after =
+    drop_at (preorder below) (preorder after) (count below) (length_preorder below) in (
+      omega (arith, length-append (preorder below) (preorder after), length_preorder below),
+      subst (λ ts. IsPreorder ts) (sym taken) (ap preorder (planted_of_preorder below)),
+      subst (λ ts. IsPreorder ts) (sym left) (ap preorder (planted_of_preorder after)),
+      ap (λ f. grow x f after) (sym (ap planted taken ∙ planted_of_preorder below))
+          ∙ ap (λ f. grow x (planted (take (count below) (preorder below ++ preorder after))) f) (sym (ap planted left ∙ planted_of_preorder after)),
     )
 
-splits : (f : Forest TreeRoute) (t : TreeRoute × ℕ) (rest : List (TreeRoute × ℕ)) → laid f ≡ t ∷ rest → Splits t rest f
+splits : (f : Forest TreeRoute) (t : TreeRoute × ℕ) (rest : List (TreeRoute × ℕ)) → preorder f ≡ t ∷ rest → Splits t rest f
 splits bare t rest e = absurd (cc)
 splits (grow x below after) t rest e =
     let first : (x, count below) ≡ t = cc in
-    let others : laid below ++ laid after ≡ rest = cc in
+    let others : preorder below ++ preorder after ≡ rest = cc in
     subst (λ u. Splits u rest (grow x below after)) first
     (subst (λ us. Splits (x, count below) us (grow x below after)) others (splits-grow x below after))
 
@@ -152,31 +152,31 @@ part-none ts at to past = let none : to - at ≡ 0 = omega arith in ap (λ n. ta
 -- the route at a layout in a part that is written, those below it and those after them
 pub record IsOpened (ts : List (TreeRoute × ℕ)) (at to end : ℕ) (x : TreeRoute) : Type 0 where
   pub ends : end ≤ to
-  pub below : IsLaid (part (at + 1) end ts)
-  pub after : IsLaid (part end to ts)
+  pub below : IsPreorder (part (at + 1) end ts)
+  pub after : IsPreorder (part end to ts)
   pub whole : planted (part at to ts) ≡ grow x (planted (part (at + 1) end ts)) (planted (part end to ts))
   pub size : at + 1 + count (planted (part (at + 1) end ts)) ≡ end
 
-pub opened : (ts : List (TreeRoute × ℕ)) (at to : ℕ) (d : TreeRoute × ℕ) → at < to → to ≤ length ts → IsLaid (part at to ts)
+pub opened : (ts : List (TreeRoute × ℕ)) (at to : ℕ) (d : TreeRoute × ℕ) → at < to → to ≤ length ts → IsPreorder (part at to ts)
     → IsOpened ts at to (at + 1 + (get_or ts at d).1) (get_or ts at d).0
-opened ts at to d before within is_laid =
+opened ts at to d before within is_preorder =
     let t = get_or ts at d in
     let rest = part (at + 1) to ts in
     let cons : part at to ts ≡ t ∷ rest = part-cons ts at to d before within in
-    let parts : Splits t rest (planted (part at to ts)) = splits (planted (part at to ts)) t rest (is_laid ∙ cons) in
-    let room : at + 1 + t.1 ≤ to = omega (arith, parts.0, length_part ts (at + 1) to (omega arith) within) in
-    let taken : take t.1 rest ≡ part (at + 1) (at + 1 + t.1) ts = part-take ts (at + 1) t.1 to room in
-    let left : drop t.1 rest ≡ part (at + 1 + t.1) to ts = part-drop ts (at + 1) t.1 to room in
-    let below : IsLaid (part (at + 1) (at + 1 + t.1) ts) = subst (λ us. IsLaid us) taken parts.1 in
+    let parts : Splits t rest (planted (part at to ts)) = splits (planted (part at to ts)) t rest (is_preorder ∙ cons) in
+    let space : at + 1 + t.1 ≤ to = omega (arith, parts.0, length_part ts (at + 1) to (omega arith) within) in
+    let taken : take t.1 rest ≡ part (at + 1) (at + 1 + t.1) ts = part-take ts (at + 1) t.1 to space in
+    let left : drop t.1 rest ≡ part (at + 1 + t.1) to ts = part-drop ts (at + 1) t.1 to space in
+    let below : IsPreorder (part (at + 1) (at + 1 + t.1) ts) = subst (λ us. IsPreorder us) taken parts.1 in
     record {
-      ends = room;
+      ends = space;
       below = below;
-      after = subst (λ us. IsLaid us) left parts.2;
+      after = subst (λ us. IsPreorder us) left parts.2;
       whole = parts.3 ∙ ap (λ us. grow t.0 (planted us) (planted (drop t.1 rest))) taken
           ∙ ap (λ us. grow t.0 (planted (part (at + 1) (at + 1 + t.1) ts)) (planted us)) left;
       size = omega (
         arith,
-        sym (length_laid (planted (part (at + 1) (at + 1 + t.1) ts)))
+        sym (length_preorder (planted (part (at + 1) (at + 1 + t.1) ts)))
             ∙ ap length below,
         length_part ts (at + 1) (at + 1 + t.1) (omega arith) (omega arith),
       );
@@ -192,10 +192,10 @@ small-append : (n : ℕ) (ts us : List (TreeRoute × ℕ)) → AreSmall n ts →
 small-append n [] us a b = b
 small-append n (t ∷ ts) us a b = (a.0, small-append n ts us a.1 b)
 
-small_laid : (n : ℕ) (f : Forest TreeRoute) → count f ≤ n → AreSmall n (laid f)
-small_laid n bare few = tt
-small_laid n (grow x below after) few =
-    (omega arith, small-append n (laid below) (laid after) (small_laid n below (omega arith)) (small_laid n after (omega arith)))
+small_preorder : (n : ℕ) (f : Forest TreeRoute) → count f ≤ n → AreSmall n (preorder f)
+small_preorder n bare few = tt
+small_preorder n (grow x below after) few =
+    (omega arith, small-append n (preorder below) (preorder after) (small_preorder n below (omega arith)) (small_preorder n after (omega arith)))
 
 small-at : (n : ℕ) (ts : List (TreeRoute × ℕ)) (k : ℕ) → AreSmall n ts → get_or (map (λ t. t.1) ts) k 0 ≤ n
 small-at n [] k a = omega arith
@@ -220,8 +220,8 @@ muted_twice : (ts : List (TreeRoute × ℕ)) → map (λ r. r.muted) (map (λ t.
 muted_twice [] = refl
 muted_twice (t ∷ ts) = ap (λ r. t.0.muted ∷ r) (muted_twice ts)
 
-muted_laid : (f : Forest TreeRoute) → map (λ t. t.0.muted) (laid f) ≡ map (λ r. r.muted) (listed f)
-muted_laid f = sym (muted_twice (laid f)) ∙ ap (map (λ r. r.muted)) (listed_of_laid f)
+muted_preorder : (f : Forest TreeRoute) → map (λ t. t.0.muted) (preorder f) ≡ map (λ r. r.muted) (listed f)
+muted_preorder f = sym (muted_twice (preorder f)) ∙ ap (map (λ r. r.muted)) (listed_of_preorder f)
 
 -- ---- a routing tree and what it is kept as
 
@@ -249,11 +249,11 @@ module _ (root : Route) (cs : List Child) (ps : List RouteLayout) (tree : Routin
       ap (muted_in ps) e
       ∙ sym (muted_paired cs ps k (omega (arith, kept_last)))
       ∙ ap (λ ts. get_or (map (λ t. t.0.muted) ts) k []) (sym kept.0)
-      ∙ ap (λ xs. get_or xs k []) (muted_laid (planted (paired cs ps)))
+      ∙ ap (λ xs. get_or xs k []) (muted_preorder (planted (paired cs ps)))
       ∙ ap (λ t. muted_at t (suc k)) view
 
   pub below_at-small : (position : ℕ) → below_at tree position ≤ last_of tree
-  below_at-small position = small-at (last_of tree) (laid tree.below) (position - 1) (small_laid (last_of tree) tree.below (omega arith))
+  below_at-small position = small-at (last_of tree) (preorder tree.below) (position - 1) (small_preorder (last_of tree) tree.below (omega arith))
 
 -- the whole list is the part of it that is in it
 pub part_paired : (cs : List Child) (ps : List RouteLayout) → part 0 (length cs) (paired cs ps) ≡ paired cs ps

@@ -5,7 +5,7 @@ use Rattle.std.proofs.lemmas.List.{append_assoc, append-nil, get_or_default}
 use Rattle.am_alerts.specs.Forest.{count}
 use Rattle.am_alerts.specs.Layout.{planted}
 use Rattle.am_alerts.specs.Matcher.{match_all}
-use Rattle.am_alerts.specs.RouteLayouts.{IsLaid, below_in, paired, part}
+use Rattle.am_alerts.specs.RouteLayouts.{IsPreorder, below_in, paired, part}
 use Rattle.am_alerts.specs.RoutingTree.{TreeRoute, matching, or_self, plain}
 use Rattle.am_alerts.specs.declared.labels.Label.{Label}
 use Rattle.am_alerts.specs.declared.route_layout.RouteLayout.{RouteLayout}
@@ -13,7 +13,7 @@ use Rattle.am_alerts.specs.declared.route.Child.{Child}
 use Rattle.am_alerts.proofs.Layouts.{IsOpened, opened, kept_route, get_or_paired, length_paired, part-none}
 
 module _ (cs : List Child) (ps : List RouteLayout) (at to end : ℕ) (x : Child) (before : at < to) (within : to ≤ length cs)
-    (here : x ≡ get_or cs at x) (end-is : end ≡ at + 1 + below_in ps at) (is_laid : IsLaid (part at to (paired cs ps))) where
+    (here : x ≡ get_or cs at x) (end-is : end ≡ at + 1 + below_in ps at) (is_preorder : IsPreorder (part at to (paired cs ps))) where
   abbrev ts : List (TreeRoute × ℕ)
   ts = paired cs ps
 
@@ -25,7 +25,7 @@ module _ (cs : List Child) (ps : List RouteLayout) (at to end : ℕ) (x : Child)
       get_or_paired cs ps at x d (omega arith) ∙ ap (λ y. (kept_route y ps at, below_in ps at)) (sym here) in
       subst (λ e. IsOpened (paired cs ps) at to e (kept_route x ps at)) (sym end-is)
       (subst (λ u. IsOpened (paired cs ps) at to (at + 1 + u.1) u.0) t
-      (opened (paired cs ps) at to d before (omega (arith, length_paired cs ps)) is_laid))
+      (opened (paired cs ps) at to d before (omega (arith, length_paired cs ps)) is_preorder))
 
   module _ (labels : List Label) where
     abbrev later : List ℕ
@@ -69,13 +69,13 @@ module _ (cs : List Child) (ps : List RouteLayout) (at to end : ℕ) (x : Child)
           sym (sym so_far ∙ ap (λ r. found ++ r) (matching-step ∙ ap (λ b. cond b (reached ++ cond x.continues later []) later) fails))
 
 -- those below a route are in the part
-pub ends_within : (cs : List Child) (ps : List RouteLayout) (at to : ℕ) → at < to → to ≤ length cs → IsLaid (part at to (paired cs ps))
+pub ends_within : (cs : List Child) (ps : List RouteLayout) (at to : ℕ) → at < to → to ≤ length cs → IsPreorder (part at to (paired cs ps))
     → at + 1 + below_in ps at ≤ to
-ends_within [] ps at to before within is_laid = absurd (omega arith)
-ends_within (c ∷ cs) ps at to before within is_laid =
+ends_within [] ps at to before within is_preorder = absurd (omega arith)
+ends_within (c ∷ cs) ps at to before within is_preorder =
     let x = get_or (c ∷ cs) at c in
     let here : x ≡ get_or (c ∷ cs) at x = get_or_default (c ∷ cs) at c x (omega arith) in
-    (opened_here (c ∷ cs) ps at to (at + 1 + below_in ps at) x before within here refl is_laid).ends
+    (opened_here (c ∷ cs) ps at to (at + 1 + below_in ps at) x before within here refl is_preorder).ends
 
 -- no route is left
 pub matching-all : (cs : List Child) (ps : List RouteLayout) (at to : ℕ) (labels : List Label) (found whole : List ℕ) → to ≤ at

@@ -7,9 +7,9 @@ use Rattle.std.proofs.lemmas.Bool.{lt-ltb, le-ltb}
 use Rattle.am_alerts.specs.Forest.{Forest, bare, grow, count}
 
 -- a forest in the order of its positions, each with the number of those below it
-abbrev pub laid : {X : Type 0} → Forest X → List (X × ℕ)
-laid bare = []
-laid (grow x below after) = (x, count below) ∷ (laid below ++ laid after)
+abbrev pub preorder : {X : Type 0} → Forest X → List (X × ℕ)
+preorder bare = []
+preorder (grow x below after) = (x, count below) ∷ (preorder below ++ preorder after)
 
 -- the first trees, of so many routes in all
 abbrev pub first_trees : {X : Type 0} → ℕ → Forest X → Forest X
@@ -31,9 +31,9 @@ planted (t ∷ ts) = grow t.0 (first_trees t.1 (planted ts)) (other_trees t.1 (p
 -- ---- a forest is planted again from where it lies, so it is stored as that list
 
 -- one forest and then another
-abbrev pub beside : {X : Type 0} → Forest X → Forest X → Forest X
-beside bare others = others
-beside (grow x below after) others = grow x below (beside after others)
+abbrev pub followed : {X : Type 0} → Forest X → Forest X → Forest X
+followed bare others = others
+followed (grow x below after) others = grow x below (followed after others)
 
 module _ {X : Type 0} where
   pub first_trees-none : (f : Forest X) → first_trees 0 f ≡ bare
@@ -46,44 +46,44 @@ module _ {X : Type 0} where
   other_trees-none (grow x below after) =
       ap (λ b. if b then grow x below after else other_trees (0 - (count below + 1)) after) (lt-ltb 0 (count below + 1) (omega arith))
 
-  first_trees-beside : (f g : Forest X) → first_trees (count f) (beside f g) ≡ f
-  first_trees-beside bare g = first_trees-none g
-  first_trees-beside (grow x below after) g =
+  first_trees-followed : (f g : Forest X) → first_trees (count f) (followed f g) ≡ f
+  first_trees-followed bare g = first_trees-none g
+  first_trees-followed (grow x below after) g =
       let n = count below + 1 + count after in
       let left : n - (count below + 1) ≡ count after = omega arith in
-      ap (λ b. if b then bare else grow x below (first_trees (n - (count below + 1)) (beside after g)))
+      ap (λ b. if b then bare else grow x below (first_trees (n - (count below + 1)) (followed after g)))
       (le-ltb n (count below + 1) (omega arith))
-      ∙ ap (λ k. grow x below (first_trees k (beside after g))) left
-      ∙ ap (λ f. grow x below f) (first_trees-beside after g)
+      ∙ ap (λ k. grow x below (first_trees k (followed after g))) left
+      ∙ ap (λ f. grow x below f) (first_trees-followed after g)
 
-  other_trees-beside : (f g : Forest X) → other_trees (count f) (beside f g) ≡ g
-  other_trees-beside bare g = other_trees-none g
-  other_trees-beside (grow x below after) g =
+  other_trees-followed : (f g : Forest X) → other_trees (count f) (followed f g) ≡ g
+  other_trees-followed bare g = other_trees-none g
+  other_trees-followed (grow x below after) g =
       let n = count below + 1 + count after in
       let left : n - (count below + 1) ≡ count after = omega arith in
-      ap (λ b. if b then grow x below (beside after g) else other_trees (n - (count below + 1)) (beside after g))
+      ap (λ b. if b then grow x below (followed after g) else other_trees (n - (count below + 1)) (followed after g))
       (le-ltb n (count below + 1) (omega arith))
-      ∙ ap (λ k. other_trees k (beside after g)) left
-      ∙ other_trees-beside after g
+      ∙ ap (λ k. other_trees k (followed after g)) left
+      ∙ other_trees-followed after g
 
-  pub planted-beside : (f : Forest X) (ts : List (X × ℕ)) → planted (laid f ++ ts) ≡ beside f (planted ts)
-  planted-beside bare ts = refl
-  planted-beside (grow x below after) ts =
-      let rest : planted ((laid below ++ laid after) ++ ts) ≡ beside below (beside after (planted ts)) =
-      ap planted (append_assoc (laid below) (laid after) ts) ∙ planted-beside below (laid after ++ ts)
-      ∙ ap (beside below) (planted-beside after ts) in
+  pub planted-followed : (f : Forest X) (ts : List (X × ℕ)) → planted (preorder f ++ ts) ≡ followed f (planted ts)
+  planted-followed bare ts = refl
+  planted-followed (grow x below after) ts =
+      let rest : planted ((preorder below ++ preorder after) ++ ts) ≡ followed below (followed after (planted ts)) =
+      ap planted (append_assoc (preorder below) (preorder after) ts) ∙ planted-followed below (preorder after ++ ts)
+      ∙ ap (followed below) (planted-followed after ts) in
       ap (λ f. grow x (first_trees (count below) f) (other_trees (count below) f)) rest
-      ∙ ap (λ f. grow x f (other_trees (count below) (beside below (beside after (planted ts)))))
-      (first_trees-beside below (beside after (planted ts)))
-      ∙ ap (λ f. grow x below f) (other_trees-beside below (beside after (planted ts)))
+      ∙ ap (λ f. grow x f (other_trees (count below) (followed below (followed after (planted ts)))))
+      (first_trees-followed below (followed after (planted ts)))
+      ∙ ap (λ f. grow x below f) (other_trees-followed below (followed after (planted ts)))
 
-  beside-bare : (f : Forest X) → beside f bare ≡ f
-  beside-bare bare = refl
-  beside-bare (grow x below after) = ap (λ f. grow x below f) (beside-bare after)
+  followed-bare : (f : Forest X) → followed f bare ≡ f
+  followed-bare bare = refl
+  followed-bare (grow x below after) = ap (λ f. grow x below f) (followed-bare after)
 
-  pub planted_of_laid : (f : Forest X) → planted (laid f) ≡ f
-  planted_of_laid f = ap planted (sym (append-nil (laid f))) ∙ planted-beside f [] ∙ beside-bare f
+  pub planted_of_preorder : (f : Forest X) → planted (preorder f) ≡ f
+  planted_of_preorder f = ap planted (sym (append-nil (preorder f))) ∙ planted-followed f [] ∙ followed-bare f
 
 -- the code of a forest: where it lies
 abbrev pub forest_code : {X : Type 0} → Coded X → Coded (Forest X)
-forest_code {X = X} c = code_by (List (X × ℕ)) (coded_list (coded× c coded_ℕ)) laid planted planted_of_laid
+forest_code {X = X} c = code_by (List (X × ℕ)) (coded_list (coded× c coded_ℕ)) preorder planted planted_of_preorder

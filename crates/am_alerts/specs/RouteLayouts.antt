@@ -1,7 +1,7 @@
 -- How a routing tree is kept: its routes below the root in the order of their positions, each with the number of those below it.
 use Rattle.std.specs.Prelude.{◌≡◌, ℕ, ◌-◌, List, [], ◌∷◌, None, drop, map, slice_index_or, take}
 use Rattle.am_alerts.specs.Forest.{Forest, bare, grow}
-use Rattle.am_alerts.specs.Layout.{laid, planted}
+use Rattle.am_alerts.specs.Layout.{preorder, planted}
 use Rattle.am_alerts.specs.Nested.{settled, settled_below, settled_route}
 use Rattle.am_alerts.specs.RoutingTree.{RoutingTree, TreeRoute, plain, tree_fault}
 use Rattle.am_alerts.specs.declared.route.Route.{Route}
@@ -41,9 +41,9 @@ abbrev pub tree_from : Route → List (TreeRoute × ℕ) → RoutingTree
 tree_from root routes = record { root = root; below = planted routes }
 
 -- whether the list is one in which a forest lies
-abbrev pub IsLaid : List (TreeRoute × ℕ) → Type 0
-IsLaid routes = laid (planted routes) ≡ routes
+abbrev pub IsPreorder : List (TreeRoute × ℕ) → Type 0
+IsPreorder routes = preorder (planted routes) ≡ routes
 
 -- whether it is one of a routing tree without a fault
 abbrev pub IsPlanted : Route → List (TreeRoute × ℕ) → Type 0
-IsPlanted root routes = IsLaid routes × (tree_fault (tree_from root routes) ≡ None)
+IsPlanted root routes = IsPreorder routes × (tree_fault (tree_from root routes) ≡ None)

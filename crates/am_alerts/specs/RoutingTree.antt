@@ -6,7 +6,7 @@ use Rattle.std.specs.List.{list_all}
 use Rattle.std.specs.Str.{bytes_eq}
 use Rattle.am_alerts.specs.Forest.{Forest, bare, grow, count, height, listed, level}
 use Rattle.am_alerts.specs.Labels.{is_label_name, has_text_twice}
-use Rattle.am_alerts.specs.Layout.{laid}
+use Rattle.am_alerts.specs.Layout.{preorder}
 use Rattle.am_alerts.specs.Matcher.{match_all}
 use Rattle.am_alerts.specs.Route.{has_grouping_names, has_few_names, has_good_intervals}
 use Rattle.am_alerts.specs.declared.labels.Label.{Label}
@@ -53,7 +53,7 @@ route_at tree position = slice_index_or (routes_in tree) position tree.root
 
 -- how many routes are below the one at a position, which isn't the root's: they are at the positions right behind it
 abbrev pub below_at : RoutingTree → ℕ → ℕ
-below_at tree position = slice_index_or (map (λ t. t.1) (laid tree.below)) (position - 1) 0
+below_at tree position = slice_index_or (map (λ t. t.1) (preorder tree.below)) (position - 1) 0
 
 -- these positions, or this one where there is none
 abbrev pub or_self : ℕ → List ℕ → List ℕ

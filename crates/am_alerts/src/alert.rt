@@ -16,7 +16,7 @@ use thiserror::Error;
 pub enum AlertFault {
     #[error("an alert needs a label")]
     NoLabels = 1,
-    #[error("a moment is above 10^15")]
+    #[error("a time is above 10^15")]
     BadTime = 2,
     #[error("the alert ends before it starts")]
     EndBeforeStart = 3,

@@ -1,7 +1,7 @@
 //! Lays a tree of `Node`s out in the order of positions, for `Routes::nested`.
 ghost use Rattle.std.specs.Prelude.{◌≡◌, ◌++◌, IfOk, map, nat_le, unwrap_or};
 ghost use Rattle.am_alerts.specs.Forest.{height, listed};
-ghost use Rattle.am_alerts.specs.Layout.{laid};
+ghost use Rattle.am_alerts.specs.Layout.{preorder};
 ghost use Rattle.am_alerts.specs.Nested.{forest, settled_below, settled_options, settled_route};
 ghost use Rattle.am_alerts.specs.RouteLayouts.{below_in, layout_of, muted_in, tree_below};
 
@@ -65,7 +65,7 @@ pub(crate) fn push_nodes(
     ensures children { IfOk result (λ _. children.new.items ≡ children.old.items
         ++ map (λ r. r.child) (listed (settled_below above.now (forest nodes.items)))) }
     ensures layouts { IfOk result (λ _. layouts.new.items ≡ layouts.old.items
-        ++ map layout_of (laid (settled_below above.now (forest nodes.items)))) }
+        ++ map layout_of (preorder (settled_below above.now (forest nodes.items)))) }
 {
     for node in nodes {
         let Node { rule, routes } = node;
@@ -87,7 +87,7 @@ fn push_node(
     ensures children { IfOk result (λ _. children.new.items ≡ children.old.items
         ++ map (λ r. r.child) (listed (tree_below above.now rule (forest routes.items)))) }
     ensures layouts { IfOk result (λ _. layouts.new.items ≡ layouts.old.items
-        ++ map layout_of (laid (tree_below above.now rule (forest routes.items)))) }
+        ++ map layout_of (preorder (tree_below above.now rule (forest routes.items)))) }
 {
     let (child, muted) = settled(alloc, above, rule)?;
     if routes.is_empty() {

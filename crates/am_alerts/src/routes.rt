@@ -9,7 +9,7 @@ ghost use Rattle.std.specs.List.Sorted.{IsStrictlyIncreasing};
 ghost use Rattle.am_alerts.specs.Fault.{ok_unless};
 ghost use Rattle.am_alerts.specs.Nested.{forest, nested_of};
 ghost use Rattle.am_alerts.specs.Layout.{planted};
-ghost use Rattle.am_alerts.specs.RouteLayouts.{IsLaid, paired, part};
+ghost use Rattle.am_alerts.specs.RouteLayouts.{IsPreorder, paired, part};
 ghost use Rattle.am_alerts.specs.Route.{group_labels_of, key_text_of, has_good_intervals};
 ghost use Rattle.am_alerts.specs.RoutingTree.{tree_of, children_of, last_of, route_at, below_at, matching, or_self, routes_of};
 ghost use Rattle.am_alerts.specs.RoutingTree.{level_fault, tree_fault};
@@ -236,7 +236,7 @@ fn routes_found(
     labels: &Labels,
 ) -> Result<Vec<u32>, AllocError>
     requires few { length children.now ≤ MAX_ROUTES }
-    requires laid { IsLaid (paired children.now layouts.now) }
+    requires preorder { IsPreorder (paired children.now layouts.now) }
     ensures { IfOk result (λ positions. positions.items
         ≡ or_self 0 (matching 1 (planted (paired children.now layouts.now)) labels.now)) }
 {
@@ -271,7 +271,7 @@ fn push_matching(
     requires few { length children.now ≤ MAX_ROUTES }
     requires ordered { from ≤ to }
     requires within { to ≤ length children.now }
-    requires laid { IsLaid (part from to (paired children.now layouts.now)) }
+    requires preorder { IsPreorder (part from to (paired children.now layouts.now)) }
     ensures { IfOk result (λ _. found.new.items ≡ found.old.items
         ++ matching (from + 1) (planted (part from to (paired children.now layouts.now))) labels.now) }
 {
@@ -305,7 +305,7 @@ fn push_reached(
     requires few { length children.now ≤ MAX_ROUTES }
     requires ordered { at < end }
     requires within { end ≤ length children.now }
-    requires laid { IsLaid (part (at + 1) end (paired children.now layouts.now)) }
+    requires preorder { IsPreorder (part (at + 1) end (paired children.now layouts.now)) }
     ensures { IfOk result (λ _. found.new.items ≡ found.old.items ++ or_self (at + 1)
         (matching (at + 2) (planted (part (at + 1) end (paired children.now layouts.now))) labels.now)) }
 {

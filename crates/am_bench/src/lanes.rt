@@ -167,13 +167,13 @@ fn run<N: Name + Send + Sync, R: Print + Eprint + Clock + CpuClock + Threads + W
         lane.now = now;
     }
     let watch = Watch::start(rt);
-    run_beside(rt, alloc, desk, lanes);
+    run_concurrently(rt, alloc, desk, lanes);
     watch.stop(rt, step, alerts);
     print_lanes(rt, lanes, step)
 }
 
 /// Each lane in a thread of its own.
-fn run_beside<N: Name + Send + Sync, R: Threads + Wait + Sync>(
+fn run_concurrently<N: Name + Send + Sync, R: Threads + Wait + Sync>(
     rt: &R,
     alloc: Global,
     desk: &Desk<N>,

@@ -56,7 +56,7 @@ pub record IsPutAgain (config : Config) (now : ℕ) (alert : AlertData) (answer 
   pub flushes : new.flushes ≡ old.flushes
   pub history : new.history.items ≡ old.history.items
   pub records : vec_len new.history ≡ vec_len old.history
-  pub room : vec_len new.history + deque_len new.flushes + 1 ≤ vec_capacity new.history
+  pub space : vec_len new.history + deque_len new.flushes + 1 ≤ vec_capacity new.history
 
 -- an alert was put so, or the state holds what it held
 abbrev pub PutsAgain : Config → ℕ → AlertData → Result (Option Inserted) AllocError → State → State → Type 0

@@ -145,7 +145,7 @@ pub record IsPlannedFlush (config : Config) (id : ℕ) (s : State) (t : ℕ) (g 
   pub recorded : o.recorded ≡ record { number = o.number; deadline = o.deadline; notices = o.notices.items }
   pub outcomes : o.outcomes.items ≡ []
   pub none : vec_len o.outcomes ≡ 0
-  pub room : vec_len o.notices ≤ vec_capacity o.outcomes
+  pub space : vec_len o.notices ≤ vec_capacity o.outcomes
 
 -- the plan of a begin at t that takes a group: nobody is notified, or a flush is opened, and the limit allows one more
 abbrev pub IsPlan : Config → ℕ → ℕ → State → ℕ → GroupState → Result (Option PlannedFlush) Fault → Type 0

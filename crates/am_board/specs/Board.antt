@@ -35,7 +35,7 @@ pub record IsSound (b : Inside) : Type 0 where
   pub silences : length (state_of b.state).silences ≤ b.config.limits.silences
   pub opened : deque_len b.state.flushes ≤ b.config.limits.flushes
   pub kept : vec_len b.state.history + deque_len b.state.flushes ≤ b.config.limits.history
-  pub room : vec_len b.state.history + deque_len b.state.flushes ≤ vec_capacity b.state.history
+  pub space : vec_len b.state.history + deque_len b.state.flushes ≤ vec_capacity b.state.history
   pub routed : AreRouted b.config.routes (names_of b.state.groups.items)
   pub prepared : All (IsPrepared b.config b.state.log) b.state.flushes.items
   pub marked : AreMarked (map flush_state b.state.flushes.items) b.state.groups.items

@@ -29,17 +29,17 @@ AddsAtMost old name new = (new ≡ old) ⊎ (new ≡ old ++ name ∷ [])
 
 -- a group has capacity for so many more alerts
 abbrev pub Fits : ℕ → Group → Type 0
-Fits n g = n ≤ g.members.room
+Fits n g = n ≤ g.members.space
 
 -- a group of this name has capacity for so many more alerts
-abbrev pub HasRoom : ℕ → GroupName → List Group → Type 0
-HasRoom n name groups = All (λ g. g.name ≡ name → Fits n g) groups
+abbrev pub HasSpace : ℕ → GroupName → List Group → Type 0
+HasSpace n name groups = All (λ g. g.name ≡ name → Fits n g) groups
 
 -- the group is the same, with no less capacity
 pub record IsReserved (old new : Group) : Type 0 where
   pub name : new.name ≡ old.name
   pub is_open : new.is_open ≡ old.is_open
-  pub room : old.members.room ≤ new.members.room
+  pub space : old.members.space ≤ new.members.space
   pub state : group_state new ≡ group_state old
 
 -- the group at an index was changed, but not its name
@@ -48,12 +48,12 @@ pub record Changes (change : Group → Group → Type 0) (i : ℕ) (old new : Gr
   pub to : Group
   pub was : from ≡ slice_index_or old.items i from
   pub items : new.items ≡ slice_set old.items i to
-  pub room : new.room ≡ old.room
+  pub space : new.space ≡ old.space
   pub name : to.name ≡ from.name
   pub changed : change from to
 
 -- a member was put into the group, which waits so long before its first flush
 pub record Gets (m : MemberState) (wait t : ℕ) (from to : Group) : Type 0 where
   pub is_open : to.is_open ≡ from.is_open
-  pub room : from.members.room ≤ to.members.room + 1
+  pub space : from.members.space ≤ to.members.space + 1
   pub state : (config : Config) → wait ≡ wait_of config from.name → group_state to ≡ group_with config t m (group_state from)

@@ -6,7 +6,7 @@ use Rattle.am_model.specs.declared.group.GroupName.{GroupName}
 -- groups, with capacity for so many more
 pub record GroupList : Type 0 where
   pub items : List Group
-  pub room : ℕ
+  pub space : ℕ
 
 -- the name that a group is under
 abbrev pub name_of : Group → GroupName

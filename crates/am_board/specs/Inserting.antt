@@ -17,7 +17,7 @@ use Rattle.am_board.specs.declared.insert.Placement.{Placement}
 use Rattle.am_board.specs.declared.insert.Target.{Target}
 use Rattle.am_board.specs.declared.group.Group.{Group}
 use Rattle.am_board.specs.declared.state.State.{State}
-use Rattle.am_board.specs.Group.{names_of, HasRoom}
+use Rattle.am_board.specs.Group.{names_of, HasSpace}
 use Rattle.am_board.specs.Marks.{marks_of}
 use Rattle.am_board.specs.Refinement.{member_state, state_of}
 use Rattle.am_model.specs.State.{MemberState, same_name}
@@ -43,16 +43,16 @@ abbrev pub AreApart : List Placement → Type 0
 AreApart placements = IsDistinct (λ p q. p.name.route == q.name.route) placements
 
 -- the list for a group that has to be made has capacity for an alert, and the group's name and the alert's labels are there once more
-abbrev pub IsEmptyWithRoom : Placement → Type 0
-IsEmptyWithRoom placement =
+abbrev pub IsEmptyWithSpace : Placement → Type 0
+IsEmptyWithSpace placement =
     (placement.members.items ≡ [])
-    × (placement.index ≡ None → 0 < placement.members.room)
+    × (placement.index ≡ None → 0 < placement.members.space)
     × (placement.key ≡ placement.name)
     × (placement.labels ≡ placement.member.alert.labels)
 
 -- the group of each placement has capacity for one more alert
-abbrev pub HaveRoom : List Group → List Placement → Type 0
-HaveRoom groups placements = All (λ p. HasRoom 1 p.name groups) placements
+abbrev pub HaveSpace : List Group → List Placement → Type 0
+HaveSpace groups placements = All (λ p. HasSpace 1 p.name groups) placements
 
 -- a state holds what it held, with no less capacity for records
 pub record IsReservedState (old new : State) : Type 0 where
@@ -70,9 +70,9 @@ pub record IsReservedState (old new : State) : Type 0 where
 -- a state has capacity for all that an insert adds, and for the finish of each open flush
 pub record IsReadyFor (state : State) (placements : List Placement) : Type 0 where
   pub records : vec_len state.history + deque_len state.flushes + 1 ≤ vec_capacity state.history
-  pub known : 1 ≤ state.known.room
-  pub spare : length placements ≤ state.groups.room
-  pub room : HaveRoom state.groups.items placements
+  pub known : 1 ≤ state.known.space
+  pub spare : length placements ≤ state.groups.space
+  pub space : HaveSpace state.groups.items placements
 
 -- each placement is of a route of the tree
 abbrev pub AreRoutedPlacements : RoutingTree → List Placement → Type 0
@@ -94,12 +94,12 @@ pub record IsPlacementOf (tree : RoutingTree) (m : MemberState) (p : Placement) 
 
 -- a placement has all that puts this alert into its group, whose index was found
 abbrev pub IsToPut : RoutingTree → List Group → MemberState → Placement → Type 0
-IsToPut tree groups m p = IsFound groups (target_of p) × IsEmptyWithRoom p × IsPlacementOf tree m p
+IsToPut tree groups m p = IsFound groups (target_of p) × IsEmptyWithSpace p × IsPlacementOf tree m p
 
 -- what an insert found: there is capacity for its record and for its label set, the known alert is the one with its labels, and the
 -- placements put it into the groups that it goes to
 pub record IsWhereToPut (config : Config) (s : State) (alert : AlertData) (found : Found) : Type 0 where
-  pub room : is_full config (vec_len s.history) (state_of s) 1 ≡ false
+  pub space : is_full config (vec_len s.history) (state_of s) 1 ≡ false
   pub few : is_alert_too_many config (state_of s) alert ≡ false
   pub index : found.index ≡ position (same_alert alert) s.known.items
   pub within : IfSome found.index (λ i. i < length s.known.items)

@@ -6,7 +6,7 @@ use Rattle.am_alerts.specs.declared.labels.Label.{Label}
 -- alerts, with capacity for so many more
 pub record KnownAlerts : Type 0 where
   pub items : List AlertData
-  pub room : ℕ
+  pub space : ℕ
 
 -- the labels that an alert is under
 abbrev pub labels_of : AlertData → List Label

@@ -22,5 +22,5 @@ abbrev pub AreMarked : List FlushState → List Group → Type 0
 AreMarked flushes groups = (name : GroupName) → is_marked (marks_of groups) name ≡ is_flushing flushes name
 
 -- each of these groups says whether a flush of it is open
-abbrev pub TellOpen : List FlushState → List Group → Type 0
-TellOpen flushes groups = All (λ g. g.is_open ≡ is_flushing flushes g.name) groups
+abbrev pub HaveOpenFlags : List FlushState → List Group → Type 0
+HaveOpenFlags flushes groups = All (λ g. g.is_open ≡ is_flushing flushes g.name) groups

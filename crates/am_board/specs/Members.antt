@@ -9,7 +9,7 @@ use Rattle.am_board.specs.Keyed.{AreKeyed}
 -- alerts of a group, with capacity for so many more
 pub record MemberList : Type 0 where
   pub items : List Member
-  pub room : ℕ
+  pub space : ℕ
 
 -- the labels that an alert of a group is under
 abbrev pub labels_of : Member → List Label

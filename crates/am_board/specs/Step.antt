@@ -35,7 +35,7 @@ pub record StateInvariant (config : Config) (s : kept.State) : Type 0 where
   pub routed : AreRouted config.routes (names_of s.groups.items)
   pub prepared : All (IsPrepared config s.log) s.flushes.items
   pub marked : AreMarked (map flush_state s.flushes.items) s.groups.items
-  pub room : vec_len s.history + deque_len s.flushes ≤ vec_capacity s.history
+  pub space : vec_len s.history + deque_len s.flushes ≤ vec_capacity s.history
   pub few : HaveFewIntegrations config
   pub retention : config.retention ≤ MAX_DURATION
 
@@ -48,7 +48,7 @@ pub record AppliesCall (config : Config) (id : ℕ) (r : Record) (old new : kept
   pub marked : AreMarked (map flush_state new.flushes.items) new.groups.items
   pub history : new.history.items ≡ old.history.items ++ r ∷ []
   pub records : vec_len new.history ≡ vec_len old.history + 1
-  pub room : vec_len new.history + deque_len new.flushes ≤ vec_capacity new.history
+  pub space : vec_len new.history + deque_len new.flushes ≤ vec_capacity new.history
 
 -- a call was refused: the state and the history are what they were
 pub record LeavesUnchanged (config : Config) (old new : kept.State) : Type 0 where
@@ -58,7 +58,7 @@ pub record LeavesUnchanged (config : Config) (old new : kept.State) : Type 0 whe
   pub marked : AreMarked (map flush_state new.flushes.items) new.groups.items
   pub history : new.history.items ≡ old.history.items
   pub records : vec_len new.history ≡ vec_len old.history
-  pub room : vec_len new.history + deque_len new.flushes ≤ vec_capacity new.history
+  pub space : vec_len new.history + deque_len new.flushes ≤ vec_capacity new.history
 
 -- a fault that can be answered where this is the first cause other than memory: it is that cause;
 -- where there is none there was no memory, and it may have been refused before groups or open flushes were counted

@@ -1,7 +1,7 @@
 //! Begins: `Board::begin` calls `take_group`, which picks the group and opens a flush or ends it at
 //! once.
 //!
-//! Steps, if the history has capacity (`take_with_room`): `Groups::first_due` picks the group,
+//! Steps, if the history has capacity (`take_with_space`): `Groups::first_due` picks the group,
 //! `prepare` sorts it and notes what no silence mutes, `plan` finds what is unmuted and whom to
 //! notify, and `begin_planned` ends the begin. `previewed` has the same steps, with a preview in the
 //! place of what `plan` finds. A begin that opens a flush allocates in this order:
@@ -97,14 +97,14 @@ pub(crate) fn take_group(
         (λ fault. IsAnswer (begin_cause config.now (vec_len state.old.history) (state_of state.old) (time (state_of state.old) now)) fault
         × LeavesUnchanged config.now state.old state.new) }
 {
-    if !state.has_room(2, config.limits.history) {
+    if !state.has_space(2, config.limits.history) {
         return Err(Fault::HistoryFull);
     }
-    take_with_room(alloc, config, id, state, sources, pass, now)
+    take_with_space(alloc, config, id, state, sources, pass, now)
 }
 
 /// Does what `take_group` does once the history is known to have capacity.
-fn take_with_room(
+fn take_with_space(
     alloc: Global,
     config: &Config,
     id: u64,
@@ -116,7 +116,7 @@ fn take_with_room(
     requires good { StateInvariant config.now state.old }
     requires sources { AreLearnt config.now.rules state.old.known.items sources.now }
     requires times { All (λ row. row.time ≤ MAX_TIME) (log_rows state.old.log) }
-    requires room { vec_len state.old.history + deque_len state.old.flushes + 2 ≤ config.now.limits.history }
+    requires space { vec_len state.old.history + deque_len state.old.flushes + 2 ≤ config.now.limits.history }
     ensures { MatchResult result
         (λ begun. (begin_cause config.now (vec_len state.old.history) (state_of state.old) (time (state_of state.old) now) ≡ None)
         × AppliesCall config.now id (entry pass (Call.Begin now) (reply_of begun)) state.old state.new × IsFresh id begun)
@@ -161,7 +161,7 @@ pub(crate) fn begin_planned(
 ) -> Result<Begun, Fault>
     requires index { chosen.index < length state.old.groups.items }
     requires none { IfSome planned (λ p. vec_len p.outcomes ≡ 0) }
-    requires room { IfSome planned (λ p. vec_len p.notices ≤ vec_capacity p.outcomes) }
+    requires space { IfSome planned (λ p. vec_len p.notices ≤ vec_capacity p.outcomes) }
     requires few { IfSome planned (λ p. vec_len p.notices ≤ MAX_INTEGRATIONS) }
     ensures { (config : ConfigData) (g : Group) → StateInvariant config state.old → IsChosen config state.old chosen g
         → IsPlan config id (deque_len state.old.flushes) (state_of state.old) chosen.t (group_state g) (Ok planned)
@@ -248,7 +248,7 @@ fn begin_flush(
 ) -> Result<Begun, Fault>
     requires index { chosen.index < length state.old.groups.items }
     requires none { vec_len planned.outcomes ≡ 0 }
-    requires room { vec_len planned.notices ≤ vec_capacity planned.outcomes }
+    requires space { vec_len planned.notices ≤ vec_capacity planned.outcomes }
     requires few { vec_len planned.notices ≤ MAX_INTEGRATIONS }
     ensures { (config : ConfigData) (g : Group) → StateInvariant config state.old → IsChosen config state.old chosen g
         → notified_of config (state_of state.old) chosen.t (group_state g) ≢ []

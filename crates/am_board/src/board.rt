@@ -201,7 +201,7 @@ impl Board {
     /// - `NoMemory`, which can precede `TooManyOpen` while the log is read.
     ///
     /// Clause `fresh`: the ticket carries the board's id, and has no outcome. Clause `unhindered`: where
-    /// as many flushes may be open as there may be groups, `TooManyOpen` never comes.
+    /// the limit of open flushes is that of groups, `TooManyOpen` never comes.
     pub fn begin(&mut self, alloc: Global, pass: u32, now: u64) -> Result<Begun, Fault>
         ensures recorded { IfOk result (λ begun. self.new ≡ with_record self.old (entry pass (Call.Begin now) (reply_of begun))) }
         ensures reply { IfOk result (λ begun. IsReplyAt self.old (Call.Begin now) (reply_of begun)) }

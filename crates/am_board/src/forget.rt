@@ -58,7 +58,7 @@ pub(crate) fn forget_idle(
         (state.new.log ≡ without_unused same_name (map (λ f. f.group) state.old.flushes.items) state.old.log) }
     ensures kept { AreKept config.now state.new.known.items destinations.new }
 {
-    if !state.has_room(1, config.limits.history) {
+    if !state.has_space(1, config.limits.history) {
         return Err(Fault::HistoryFull);
     }
     let seed = state.groups.seed();

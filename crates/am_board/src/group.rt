@@ -45,10 +45,10 @@ impl Group {
     /// An alert whose wait is over makes the group due at `t`, if it wasn't flushed.
     pub(crate) fn insert(&mut self, labels: Labels, member: Member, wait: u64, t: u64)
         requires labels { labels ≡ member.alert.labels }
-        requires room { 0 < self.old.members.room }
+        requires space { 0 < self.old.members.space }
         ensures name { self.new.name ≡ self.old.name }
         ensures opened { self.new.is_open ≡ self.old.is_open }
-        ensures room { self.old.members.room ≤ self.new.members.room + 1 }
+        ensures space { self.old.members.space ≤ self.new.members.space + 1 }
         ensures alerts { has_no_alerts (group_state self.new) ≡ false }
         ensures state { (config : Config) → wait ≡ wait_of config self.old.name
             → group_state self.new ≡ group_with config t (member_state member) (group_state self.old) }
@@ -66,7 +66,7 @@ impl Group {
         requires within { j < length self.old.members.items }
         ensures name { self.new.name ≡ self.old.name }
         ensures opened { self.new.is_open ≡ self.old.is_open }
-        ensures room { self.new.members.room ≡ self.old.members.room }
+        ensures space { self.new.members.space ≡ self.old.members.space }
         ensures labels { label_sets self.new ≡ label_sets self.old }
         ensures state { (config : Config) → wait ≡ wait_of config self.old.name
             → group_state self.new ≡ group_with config t (stamped_alert alert stamp) (group_state self.old) }
@@ -94,7 +94,7 @@ impl Group {
 /// Reserves memory for so many more alerts in a group.
 pub(crate) fn reserve_members(group: &mut Group, more: usize) -> Result<(), AllocError>
     ensures kept { IsReserved group.old group.new }
-    ensures room { OnOk result (Fits more group.new) }
+    ensures space { OnOk result (Fits more group.new) }
 {
     group.members.reserve(more)
 }

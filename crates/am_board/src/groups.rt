@@ -40,7 +40,7 @@ impl Model for Groups {
 
     ghost Value = { GroupList };
 
-    ghost view = { λ g. record { items = values_of g.groups.entries; room = spare g.groups } };
+    ghost view = { λ g. record { items = values_of g.groups.entries; space = spare g.groups } };
 
     ghost invariant = { λ g. IsTied g.due g.groups.entries × IsCounted g.empty g.groups.entries };
 }
@@ -88,7 +88,7 @@ impl Groups {
     /// Reserves memory for so many more groups.
     pub(crate) fn reserve(&mut self, more: usize) -> Result<(), AllocError>
         ensures items { self.new.items ≡ self.old.items }
-        ensures room { OnOk result (more ≤ self.new.room) }
+        ensures space { OnOk result (more ≤ self.new.space) }
     {
         self.groups.reserve(more)
     }

@@ -51,7 +51,7 @@ impl Board {
     ///   until `HistoryFull`.
     /// - `NoMemory`, which comes only with an open flush.
     ///
-    /// `NoMemory` can't hold a board at `HistoryFull`. There each begin is refused, so that no
+    /// `NoMemory` can't hold a board at `HistoryFull`. There each begin is refused, so no
     /// further flush opens. A finish allocates nothing, and its capacity is kept. After the last
     /// finish no flush is open, and the take succeeds.
     ///

@@ -19,7 +19,7 @@ ghost use Rattle.std.specs.Prelude.{◌≡◌, ℕ, ◌+◌, ◌<◌, ◌≤◌,
 ghost use Rattle.std.specs.Prelude.{IfSome, IfOk, IfErr, OnOk, MatchResult, vec_len};
 ghost use Rattle.am_alerts.specs.RoutingTree.{RoutingTree, last_of, routes_of};
 ghost use Rattle.am_board.specs.GroupNameCache.{AreKept};
-ghost use Rattle.am_board.specs.Group.{names_of, AreRouted, AddsAtMost, HasRoom};
+ghost use Rattle.am_board.specs.Group.{names_of, AreRouted, AddsAtMost, HasSpace};
 ghost use Rattle.am_model.specs.Causes.{insert_cause, is_full, is_alert_too_many};
 ghost use Rattle.am_model.specs.Records.{entry};
 ghost use Rattle.am_model.specs.Insert.{same_alert, put_into_group, names_for, after_insert};
@@ -28,7 +28,7 @@ ghost use Rattle.am_board.specs.Marks.{is_marked, marks_of};
 ghost use Rattle.am_board.specs.Step.{MAX_CALLS, StateInvariant, AppliesCall, LeavesUnchanged, IsAnswer};
 ghost use Rattle.std.specs.List.{IsDistinct};
 ghost use Rattle.am_board.specs.Inserting.{IsFound, AreFound, AreApart, IsToPut, index_in, target_of};
-ghost use Rattle.am_board.specs.Inserting.{IsReservedState, IsReadyFor, IsEmptyWithRoom, HaveRoom};
+ghost use Rattle.am_board.specs.Inserting.{IsReservedState, IsReadyFor, IsEmptyWithSpace, HaveSpace};
 ghost use Rattle.am_board.specs.Inserting.{AreRoutedPlacements, IsPlacementOf, IsWhereToPut, name_at, stamped_alert};
 ghost use Rattle.am_model.specs.State.{MemberState, same_name};
 ghost use Rattle.am_alerts.specs.declared.limits.TheConstants.{MAX_TIME};
@@ -135,7 +135,7 @@ fn put_routed(
     requires kept { AreKept config.now state.old.known.items destinations.old }
     requires index { index ≡ position (same_alert alert) state.old.known.items }
     requires within { IfSome index (λ i. i < length state.old.known.items) }
-    requires room { is_full config.now (vec_len state.old.history) (state_of state.old) 1 ≡ false }
+    requires space { is_full config.now (vec_len state.old.history) (state_of state.old) 1 ≡ false }
     requires names { is_alert_too_many config.now (state_of state.old) alert ≡ false }
     ensures put { MatchResult result
         (λ inserted. (insert_cause config.now (vec_len state.old.history) (state_of state.old) alert ≡ None)
@@ -221,11 +221,11 @@ fn put_found(
 fn find_index(config: &Config, state: &State, alert: &Alert) -> Result<Option<usize>, Fault>
     ensures index { IfOk result (λ index. index ≡ position (same_alert alert.now) state.now.known.items) }
     ensures within { IfOk result (λ index. IfSome index (λ i. i < length state.now.known.items)) }
-    ensures room { OnOk result (is_full config.now (vec_len state.now.history) (state_of state.now) 1 ≡ false) }
+    ensures space { OnOk result (is_full config.now (vec_len state.now.history) (state_of state.now) 1 ≡ false) }
     ensures names { OnOk result (is_alert_too_many config.now (state_of state.now) alert.now ≡ false) }
     ensures refused { IfErr result (IsAnswer (insert_cause config.now (vec_len state.now.history) (state_of state.now) alert.now)) }
 {
-    if !state.has_room(1, config.limits.history) {
+    if !state.has_space(1, config.limits.history) {
         return Err(Fault::HistoryFull);
     }
     let index = state.known.find(alert.labels());
@@ -249,7 +249,7 @@ fn put_prepared(
     requires within { IfSome known (λ i. i < length state.old.known.items) }
     requires inserts { state.old.inserts ≤ MAX_CALLS }
     requires ready { IsReadyFor state.old placements.items }
-    requires empty { All IsEmptyWithRoom placements.items }
+    requires empty { All IsEmptyWithSpace placements.items }
     requires found { AreFound state.old.groups.items placements.items }
     requires apart { AreApart placements.items }
     ensures log { state.new.log ≡ state.old.log }
@@ -442,7 +442,7 @@ fn prepare(
 ) -> Result<Placement, AllocError>
     requires { target.name.route ≤ last_of routes.now }
     ensures target { IfOk result (λ placement. target_of placement ≡ target) }
-    ensures ready { IfOk result IsEmptyWithRoom }
+    ensures ready { IfOk result IsEmptyWithSpace }
     ensures placed { IfOk result (IsPlacementOf routes.now (stamped_alert alert.now stamp)) }
 {
     let Target { name, index } = target;
@@ -467,7 +467,7 @@ fn prepare(
 /// A group that exists needs none.
 fn list_for(alloc: Global, seed: Seed, index: Option<usize>) -> Result<Members, AllocError>
     ensures empty { IfOk result (λ members. members.items ≡ []) }
-    ensures room { index ≡ None → IfOk result (λ members. 0 < members.room) }
+    ensures space { index ≡ None → IfOk result (λ members. 0 < members.space) }
 {
     match index {
         Some(_) => Ok(Members::new(alloc, seed)),
@@ -482,8 +482,8 @@ fn reserve_all(groups: &mut Groups, placements: &[Placement]) -> Result<(), Allo
     ensures names { names_of groups.new.items ≡ names_of groups.old.items }
     ensures marks { marks_of groups.new.items ≡ marks_of groups.old.items }
     ensures states { map group_state groups.new.items ≡ map group_state groups.old.items }
-    ensures spare { groups.new.room ≡ groups.old.room }
-    ensures room { OnOk result (HaveRoom groups.new.items placements.now) }
+    ensures spare { groups.new.space ≡ groups.old.space }
+    ensures space { OnOk result (HaveSpace groups.new.items placements.now) }
 {
     for placement in placements {
         groups.reserve_found(placement.index, 1)?;
@@ -493,9 +493,9 @@ fn reserve_all(groups: &mut Groups, placements: &[Placement]) -> Result<(), Allo
 
 /// Puts each placement into its group, in their order.
 fn put_placements(groups: &mut Groups, mut placements: Vec<Placement>, t: u64)
-    requires spare { vec_len placements ≤ groups.old.room }
-    requires room { HaveRoom groups.old.items placements.items }
-    requires ready { All IsEmptyWithRoom placements.items }
+    requires spare { vec_len placements ≤ groups.old.space }
+    requires space { HaveSpace groups.old.items placements.items }
+    requires ready { All IsEmptyWithSpace placements.items }
     requires found { AreFound groups.old.items placements.items }
     requires apart { AreApart placements.items }
     ensures routed { (tree : RoutingTree) → AreRouted tree (names_of groups.old.items)
@@ -513,15 +513,15 @@ fn put_placements(groups: &mut Groups, mut placements: Vec<Placement>, t: u64)
 
 /// Puts a placement into its group, which is made if it is missing.
 fn put_placement(groups: &mut Groups, placement: Placement, t: u64)
-    requires spare { 0 < groups.old.room }
-    requires room { HasRoom 1 placement.name groups.old.items }
-    requires ready { IsEmptyWithRoom placement }
+    requires spare { 0 < groups.old.space }
+    requires space { HasSpace 1 placement.name groups.old.items }
+    requires ready { IsEmptyWithSpace placement }
     requires found { IsFound groups.old.items (target_of placement) }
-    ensures spare { groups.old.room ≤ groups.new.room + 1 }
+    ensures spare { groups.old.space ≤ groups.new.space + 1 }
     ensures names { AddsAtMost (names_of groups.old.items) placement.name (names_of groups.new.items) }
     ensures marks { (name : GroupName) → is_marked (marks_of groups.new.items) name ≡ is_marked (marks_of groups.old.items) name }
     ensures others { (name : GroupName) → (name.route == placement.name.route) ≡ false
-        → HasRoom 1 name groups.old.items → HasRoom 1 name groups.new.items }
+        → HasSpace 1 name groups.old.items → HasSpace 1 name groups.new.items }
     ensures state { (config : Config) (m : MemberState) → t ≤ MAX_TIME → IsPlacementOf config.routes m placement
         → map group_state groups.new.items ≡ put_into_group config t m (map group_state groups.old.items) placement.name }
 {

@@ -29,7 +29,7 @@ impl Model for Known {
 
     ghost Value = { KnownAlerts };
 
-    ghost view = { λ k. record { items = values_of k.alerts.entries; room = spare k.alerts } };
+    ghost view = { λ k. record { items = values_of k.alerts.entries; space = spare k.alerts } };
 
     ghost invariant = { λ k. AreKeyed labels_of k.alerts.entries };
 }
@@ -77,7 +77,7 @@ impl Known {
     /// Reserves memory for so many more alerts.
     pub(crate) fn reserve(&mut self, more: usize) -> Result<(), AllocError>
         ensures items { self.new.items ≡ self.old.items }
-        ensures room { OnOk result (more ≤ self.new.room) }
+        ensures space { OnOk result (more ≤ self.new.space) }
     {
         self.alerts.reserve(more)
     }
@@ -87,7 +87,7 @@ impl Known {
         requires labels { labels ≡ alert.labels }
         requires index { index ≡ position (same_alert alert) self.old.items }
         requires within { IfSome index (λ i. i < length self.old.items) }
-        requires room { 0 < self.old.room }
+        requires space { 0 < self.old.space }
         ensures { self.new.items ≡ upsert same_alert alert self.old.items }
     {
         match index {

@@ -48,7 +48,7 @@ pub(crate) fn load_row(
 {
     let t = state.time(now);
     check_row(config, &row, t)?;
-    if !state.has_room(1, config.limits.history) {
+    if !state.has_space(1, config.limits.history) {
         return Err(LoadFault::HistoryFull);
     }
     let key = key_of(alloc, &row)?;

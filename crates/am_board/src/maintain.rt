@@ -25,7 +25,7 @@ pub(crate) fn sweep(
         (λ fault. IsAnswer (maintain_cause config.now (vec_len state.old.history) (state_of state.old)) fault
         × LeavesUnchanged config.now state.old state.new) }
 {
-    if !state.has_room(1, config.limits.history) {
+    if !state.has_space(1, config.limits.history) {
         return Err(Fault::HistoryFull);
     }
     state.history.reserve(state.flushes.len() + 1)?;
@@ -56,7 +56,7 @@ pub(crate) fn remove_empty(
         (λ fault. IsAnswer (removal_cause config.now (vec_len state.old.history) (state_of state.old)) fault
         × LeavesUnchanged config.now state.old state.new) }
 {
-    if !state.has_room(1, config.limits.history) {
+    if !state.has_space(1, config.limits.history) {
         return Err(Fault::HistoryFull);
     }
     state.history.reserve(state.flushes.len() + 1)?;

@@ -50,7 +50,7 @@ impl Model for Members {
 
     ghost Value = { MemberList };
 
-    ghost view = { λ m. record { items = values_of m.members.entries; room = spare m.members } };
+    ghost view = { λ m. record { items = values_of m.members.entries; space = spare m.members } };
 
     ghost invariant = { λ m. IsTable m.members.entries m.order.items };
 }
@@ -70,14 +70,14 @@ impl Members {
     /// Returns an empty list with capacity for so many alerts.
     pub(crate) fn with_capacity(
         alloc: Global,
-        room: usize,
+        space: usize,
         seed: Seed,
     ) -> Result<Members, AllocError>
         ensures empty { IfOk result (λ members. members.items ≡ []) }
-        ensures room { IfOk result (λ members. room ≤ members.room) }
+        ensures space { IfOk result (λ members. space ≤ members.space) }
     {
         Ok(Members {
-            members: IndexMap::with_capacity_and_hasher(alloc, room, seed)?,
+            members: IndexMap::with_capacity_and_hasher(alloc, space, seed)?,
             order: Vec::new(alloc),
             noted: NotedIndex::default(),
         })
@@ -138,8 +138,8 @@ impl Members {
     /// Reserves memory for so many more alerts.
     pub(crate) fn reserve(&mut self, more: usize) -> Result<(), AllocError>
         ensures items { self.new.items ≡ self.old.items }
-        ensures kept { self.old.room ≤ self.new.room }
-        ensures room { OnOk result (more ≤ self.new.room) }
+        ensures kept { self.old.space ≤ self.new.space }
+        ensures space { OnOk result (more ≤ self.new.space) }
     {
         self.members.reserve(more)
     }
@@ -147,10 +147,10 @@ impl Members {
     /// Adds an alert, or replaces the one with its labels. Memory is reserved.
     pub(crate) fn put(&mut self, labels: Labels, mut member: Member)
         requires labels { labels ≡ member.alert.labels }
-        requires room { 0 < self.old.room }
+        requires space { 0 < self.old.space }
         ensures members { map member_state self.new.items
             ≡ upsert same_member (member_state member) (map member_state self.old.items) }
-        ensures room { self.old.room ≤ self.new.room + 1 }
+        ensures space { self.old.space ≤ self.new.space + 1 }
     {
         member.leaves = false;
         self.members.insert(labels, member).unwrap();
@@ -173,7 +173,7 @@ impl Members {
         ensures members { map member_state self.new.items
             ≡ upsert same_member (stamped_alert alert stamp) (map member_state self.old.items) }
         ensures labels { map labels_of self.new.items ≡ map labels_of self.old.items }
-        ensures room { self.new.room ≡ self.old.room }
+        ensures space { self.new.space ≡ self.old.space }
     {
         let member = &mut self.members[j];
         member.alert = alert;

@@ -48,7 +48,7 @@ pub(crate) fn note_success(
         (flush_numbered (state_of state.old).flushes ticket.now.number)) fault × LeavesUnchanged config.now state.old state.new) }
 {
     let found = find_noting(&state.flushes, ticket, index)?;
-    if !state.has_room(1, config.limits.history) {
+    if !state.has_space(1, config.limits.history) {
         return Err(NoteFault::HistoryFull);
     }
     if state.history.reserve(state.flushes.len() + 1).is_err() {

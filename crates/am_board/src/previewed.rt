@@ -93,7 +93,7 @@ fn take_previewed(
         × LeavesUnchanged config.now state.old state.new) }
 {
     // As of any begin, this comes before memory is allocated.
-    if !state.has_room(2, config.limits.history) {
+    if !state.has_space(2, config.limits.history) {
         return Err(Fault::HistoryFull);
     }
     let Some(chosen) = choose(config, state, pass, now) else {
@@ -151,7 +151,7 @@ fn begin_with(
 ) -> Result<(Begun, Option<Preview>), Fault>
     requires good { StateInvariant config.now state.old }
     requires index { chosen.index < length state.old.groups.items }
-    requires room { vec_len state.old.history + deque_len state.old.flushes + 2 ≤ config.now.limits.history }
+    requires space { vec_len state.old.history + deque_len state.old.flushes + 2 ≤ config.now.limits.history }
     requires found { (d : Group) → IsPreviewedPlan config.now id (deque_len state.old.flushes) (state_of state.old) chosen.t
         (group_state (slice_index_or state.old.groups.items chosen.index d)) (Ok (preview, planned)) }
     ensures { (g : Group) → IsChosen config.now state.old chosen g → MatchResult result

@@ -65,7 +65,7 @@ fn index_for(config: &Config, state: &State, id: u64) -> Result<Option<usize>, F
         ≡ ok_unless (silence_cause config.now (vec_len state.now.history) (state_of state.now) silence)
         (position (same_silence silence) state.now.silences.items) }
 {
-    if !state.has_room(1, config.limits.history) {
+    if !state.has_space(1, config.limits.history) {
         return Err(Fault::HistoryFull);
     }
     let index = state.silences.find(id);
@@ -78,7 +78,7 @@ fn index_for(config: &Config, state: &State, id: u64) -> Result<Option<usize>, F
 /// Puts a silence in place of the one with its id, which is at this index, or adds it.
 fn keep_silence(alloc: Global, silences: &mut NotedSilences, index: Option<usize>, silence: Silence)
     requires index { index ≡ position (same_silence silence) silences.old.items }
-    requires room { 0 < silences.old.room }
+    requires space { 0 < silences.old.space }
     ensures { silences.new.items ≡ upsert same_silence silence silences.old.items }
 {
     match index {

@@ -70,14 +70,14 @@ impl NotedSilences {
     /// Reserves memory for so many more silences.
     pub(crate) fn reserve(&mut self, more: usize) -> Result<(), AllocError>
         ensures items { self.new.items ≡ self.old.items }
-        ensures room { OnOk result (more ≤ self.new.room) }
+        ensures space { OnOk result (more ≤ self.new.space) }
     {
         self.silences.reserve(more)
     }
 
     /// Adds a silence behind the others. Memory is reserved.
     pub(crate) fn add(&mut self, alloc: Global, silence: Silence)
-        requires room { 0 < self.old.room }
+        requires space { 0 < self.old.space }
         ensures items { self.new.items ≡ self.old.items ++ silence ∷ [] }
     {
         self.noted.empty();

@@ -55,7 +55,7 @@ impl State {
 
     /// Returns whether the history has capacity for so many records and the finish of each open
     /// flush.
-    pub(crate) fn has_room(&self, records: usize, limit: usize) -> bool
+    pub(crate) fn has_space(&self, records: usize, limit: usize) -> bool
         requires { records ≤ 2 }
         ensures { IsTrue result ↔ (vec_len self.now.history + deque_len self.now.flushes + records ≤ limit) }
     {

@@ -362,7 +362,7 @@ fn fault_of_text(name: &str) -> &'static str {
         "start" => "is no time of RFC 3339; write 2026-11-23T08:00:00Z",
         "output" => "is no output; write timeline, notices, json or html",
         "answer" => "is no answer; write done, again or never",
-        "when" => "isn't right here; write firing or resolved, and `within` and `of` beside it",
+        "when" => "isn't right here; write firing or resolved, with `within` and `of`",
         "name" => "can't be the name: another has it, or it has other letters than names may have",
         _ => "isn't allowed here",
     }
@@ -505,7 +505,7 @@ fn too_many(alloc: Global, spot: &Spot<'_>, bounds: &Bounds) -> Result<String, A
         "integrations" => ("there are too many integrations", bounds.integrations, ""),
         "inhibit" | "inhibit_rules" => ("there are too many inhibition rules", bounds.rules, ""),
         "group_by" | "equal" => (
-            "too many names, or `...` beside another",
+            "too many names, or `...` with another",
             bounds.names,
             ", and `...` alone",
         ),
@@ -523,7 +523,7 @@ fn too_many(alloc: Global, spot: &Spot<'_>, bounds: &Bounds) -> Result<String, A
 fn too_large(alloc: Global, name: &str, bounds: &Bounds) -> Result<String, AllocError> {
     match name {
         "routes" => format!(in alloc;
-            "there are too many routes: at most {} stand below the root, at {} levels",
+            "there are too many routes: at most {} below the root, at {} levels",
             bounds.routes, bounds.levels
         ),
         "labels" | "firing" | "resolved" => format!(in alloc;
@@ -546,7 +546,7 @@ fn not_allowed(alloc: Global, name: &str) -> Result<String, AllocError> {
             "the receiver has no integration of this number; they are counted from 0"
         ),
         "none" => format!(in alloc;
-            "`none` is of every notification: nothing that says which stands beside it"
+            "`none` is of every notification: leave out what says which"
         ),
         "never" | "count" | "at_most" => format!(in alloc;
             "one of `none`, `never`, `count` and `at_most` is enough"

@@ -6,7 +6,7 @@ use serde_json::Value;
 use std::alloc::{AllocError, Global};
 
 /// The routes below a root, in the order of their positions, which begin at 1: each route comes before
-/// those below it, and these before the next one beside it.
+/// those below it, and these before the next one on its level.
 ///
 /// They are the first 1,023 that are no more than 64 levels below the root: further ones aren't read.
 #[derive(Drop)]
@@ -32,7 +32,7 @@ impl<'v> WrittenRoutes<'v> {
         Ok(written)
     }
 
-    /// Adds the routes below the route at a position, under which so many levels may be.
+    /// Adds the routes below the route at a position, under which so many levels are allowed.
     fn add_below(
         &mut self,
         route: &'v Value,

@@ -52,7 +52,7 @@ fn explain_field(
         }
         (FaultKind::BadValue, "from" | "to" | "within") => bad_time(alloc, field),
         (FaultKind::BadValue, "integration") => no_integration(alloc, field),
-        (FaultKind::BadValue, _) => match words_beside(field) {
+        (FaultKind::BadValue, _) => match words_together(field) {
             None => Ok(None),
             Some(words) => Ok(Some(String::from_str(alloc, words)?)),
         },
@@ -154,10 +154,10 @@ fn bad_time(alloc: Global, field: &Field<'_, '_>) -> Result<Option<String>, Allo
         return Ok(None);
     };
     if field.name == "within" {
-        return beside_within(alloc, field);
+        return words_with_within(alloc, field);
     }
     if has(field, "at") {
-        let words = "`at` is one time: neither `from` nor `to` stands beside it";
+        let words = "`at` is one time: leave out `from` and `to`";
         return Ok(Some(String::from_str(alloc, words)?));
     }
     if read_duration(text).is_err() {
@@ -169,9 +169,9 @@ fn bad_time(alloc: Global, field: &Field<'_, '_>) -> Result<Option<String>, Allo
     Ok(Some(format!(in alloc; "`{text}` is after the end of the story")?))
 }
 
-fn beside_within(alloc: Global, field: &Field<'_, '_>) -> Result<Option<String>, AllocError> {
+fn words_with_within(alloc: Global, field: &Field<'_, '_>) -> Result<Option<String>, AllocError> {
     if has(field, "at") || has(field, "from") || has(field, "to") {
-        let words = "`within` says the time: neither `at`, `from` nor `to` stands beside it";
+        let words = "`within` says the time: leave out `at`, `from` and `to`";
         return Ok(Some(String::from_str(alloc, words)?));
     }
     Ok(None)
@@ -201,20 +201,20 @@ fn is_empty(value: &Value) -> bool {
 }
 
 /// Returns which fields a field excludes, in words.
-fn words_beside(field: &Field<'_, '_>) -> Option<&'static str> {
+fn words_together(field: &Field<'_, '_>) -> Option<&'static str> {
     match field.name {
         "exactly" if is_empty(field.value) => {
             Some("`exactly` lists no alert, and a notification has one")
         }
         "exactly" if !field.is_item => {
             Some(
-                "`exactly` says which alerts fire, and that none is resolved: neither `firing` nor `resolved` stands beside it",
+                "`exactly` says which alerts fire, and that none is resolved: leave out `firing` and `resolved`",
             )
         }
         "firing" if !field.is_item => {
             Some("neither `firing` nor `resolved` lists an alert, and a notification has one")
         }
-        "when" if !has(field, "within") => Some("`when` stands with `within` and `of`"),
+        "when" if !has(field, "within") => Some("`when` goes with `within` and `of`"),
         "none" if has(field, "of") => {
             Some("`none` is of every notification, and `of` says of which alert; write `never`")
         }

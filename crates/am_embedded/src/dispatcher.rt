@@ -26,7 +26,7 @@ const BOARD_ID: u64 = 1;
 /// The pass of each call: one thread makes them all.
 const PASS: u32 = 0;
 
-/// How many groups a round begins at most: 128, so that their notices aren't too many for `run_jobs`.
+/// How many groups a round begins at most: 128. Then their notices aren't too many for `run_jobs`.
 const MOST_BEGUN: usize = MAX_JOBS / MAX_INTEGRATIONS;
 
 /// The board.

@@ -43,7 +43,7 @@ pub fn read_hours<Z: ZoneFiles>(
     let Some(horizon) = until.checked_add(BEHIND) else {
         return Ok(None);
     };
-    if !has_room(start, horizon) {
+    if !fits_years(start, horizon) {
         return Ok(None);
     }
     let zones = with_files(top.alloc(), config, zones, files)?;
@@ -57,7 +57,7 @@ fn start_of(top: &Object<'_, '_>) -> Option<Timestamp> {
 }
 
 /// Whether the clocks from a start to a horizon show years from 1 to 9999.
-fn has_room(start: Timestamp, horizon: u64) -> bool {
+fn fits_years(start: Timestamp, horizon: u64) -> bool {
     let from = start.as_millisecond();
     match from.checked_add_unsigned(horizon) {
         None => false,

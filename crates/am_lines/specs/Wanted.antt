@@ -80,7 +80,7 @@ refusal_message pointer refusal.WrongType =
     else codes "another type of JSON value is wanted here; numbers are whole, from 0 on"
 refusal_message pointer refusal.BadValue = value_message pointer
 refusal_message pointer refusal.Unknown = codes "no member of this name is known here"
-refusal_message pointer refusal.Full = codes "there is no room for this"
+refusal_message pointer refusal.Full = codes "there is no space for this"
 refusal_message pointer refusal.Unsupported =
     if bytes_eq pointer (codes "/alertmanager") then codes "a route is muted by time, and no line says on which day times begin"
     else codes "this can't be reproduced exactly"

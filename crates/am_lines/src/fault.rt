@@ -110,19 +110,19 @@ impl LineFault {
             Fault::NoMemory => return LineFault::NoMemory,
             Fault::TooManyAlerts => (
                 "TooManyNames",
-                "the label set is new, and as many alerts are known as may be",
+                "the label set is new, and the limit of alerts is reached",
             ),
             Fault::TooManyGroups => (
                 "TooManyGroups",
-                "the insert would make more groups than there may be",
+                "the insert would make more groups than the limit",
             ),
             Fault::TooManySilences => (
                 "TooManySilences",
-                "the silence is new, and there are as many as there may be",
+                "the silence is new, and the limit of silences is reached",
             ),
             Fault::TooManyOpen => (
                 "TooManyOpen",
-                "the begin would open a flush, and as many are open as may be",
+                "the begin would open a flush, and the limit of open flushes is reached",
             ),
             Fault::HistoryFull => (
                 "HistoryFull",

@@ -29,7 +29,7 @@ pub(crate) fn refusal_message(pointer: &str, fault_kind: FaultKind) -> &'static 
         }
         FaultKind::BadValue => value_message(pointer.as_bytes()),
         FaultKind::Unknown => "no member of this name is known here",
-        FaultKind::Full => "there is no room for this",
+        FaultKind::Full => "there is no space for this",
         FaultKind::Unsupported => {
             if pointer == "/alertmanager" {
                 "a route is muted by time, and no line says on which day times begin"

@@ -19,15 +19,15 @@ use thiserror::Error;
 pub enum Fault {
     #[error("out of memory")]
     NoMemory = 1,
-    #[error("the label set is new, and as many alerts are known as may be")]
+    #[error("the label set is new, and the limit of alerts is reached")]
     TooManyAlerts = 2,
-    #[error("the insert would make more groups than there may be")]
+    #[error("the insert would make more groups than the limit")]
     TooManyGroups = 3,
-    #[error("the silence is new, and there are as many as there may be")]
+    #[error("the silence is new, and the limit of silences is reached")]
     TooManySilences = 4,
-    #[error("the begin would open a flush, and as many are open as may be")]
+    #[error("the begin would open a flush, and the limit of open flushes is reached")]
     TooManyOpen = 5,
-    #[error("the history has no room for the record")]
+    #[error("the history is full")]
     HistoryFull = 6,
 }
 
@@ -63,7 +63,7 @@ impl From<AllocError> for BoardFault {
 pub enum NoteFault {
     #[error("out of memory")]
     NoMemory = 1,
-    #[error("the history has no room for the record")]
+    #[error("the history is full")]
     HistoryFull = 6,
     #[error("the ticket names another desk")]
     Foreign = 7,
@@ -84,7 +84,7 @@ pub enum NoteFault {
 pub enum LoadFault {
     #[error("out of memory")]
     NoMemory = 1,
-    #[error("the history has no room for the record")]
+    #[error("the history is full")]
     HistoryFull = 6,
     #[error("there is no such route, or its receiver has no such integration")]
     NoIntegration = 11,
@@ -109,7 +109,7 @@ impl From<AllocError> for LoadFault {
 pub enum TakeFault {
     #[error("out of memory")]
     NoMemory = 1,
-    #[error("more records would be handed out than may be")]
+    #[error("more records would be handed out than the limit")]
     TooManyCalls = 2,
 }
 

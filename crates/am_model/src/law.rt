@@ -110,7 +110,7 @@ pub fn legal_histories_are_consistent()
 
 /// States that a group that is due never waits for the flush of another.
 ///
-/// Where as many flushes may be open as there may be groups, no begin is refused as `TooManyOpen`.
+/// Where the limit of open flushes is that of groups, no begin is refused as `TooManyOpen`.
 pub fn flushes_never_wait()
     ensures { FlushesNeverWait }
 {}

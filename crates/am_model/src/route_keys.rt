@@ -7,8 +7,8 @@
 ghost use Rattle.std.specs.Prelude.{◌≡◌, ◌++◌, ◌≤◌, ℕ, List, [], ◌∷◌, ◌+◌, IfOk, OnOk, codes, if◌then◌else◌, length, string_bytes};
 ghost use Rattle.std.specs.List.{insert, join_by};
 ghost use Rattle.std.specs.Str.{bytes_eq};
-ghost use Rattle.am_alerts.specs.Layout.{laid, planted};
-ghost use Rattle.am_alerts.specs.RouteLayouts.{IsLaid, part};
+ghost use Rattle.am_alerts.specs.Layout.{preorder, planted};
+ghost use Rattle.am_alerts.specs.RouteLayouts.{IsPreorder, part};
 ghost use Rattle.am_alerts.specs.RoutingTree.{last_of};
 ghost use Rattle.am_alerts.specs.declared.limits.TheConstants.{MAX_ROUTES};
 ghost use Rattle.am_model.specs.Lists.{in_order, put_in_order};
@@ -51,9 +51,9 @@ fn push_keys(
 ) -> Result<(), AllocError>
     requires ordered { from ≤ to }
     requires within { to ≤ last_of routes.now }
-    requires laid { IsLaid (part from to (laid routes.now.below)) }
+    requires preorder { IsPreorder (part from to (preorder routes.now.below)) }
     ensures { OnOk result (keys.new.items ≡ keys.old.items
-        ++ keys_below above.now (planted (part from to (laid routes.now.below)))) }
+        ++ keys_below above.now (planted (part from to (preorder routes.now.below)))) }
 {
     let children = routes.children();
     let mut at = from;

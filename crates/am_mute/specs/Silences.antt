@@ -5,4 +5,4 @@ use Rattle.am_mute.specs.Silence.{SilenceData}
 -- silences, with capacity for so many more
 pub record SilenceList : Type 0 where
   pub items : List SilenceData
-  pub room : ℕ
+  pub space : ℕ

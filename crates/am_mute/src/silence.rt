@@ -19,7 +19,7 @@ pub enum SilenceFault {
     NoMatchers = 1,
     #[error("there are more than 32 matchers")]
     TooManyMatchers = 2,
-    #[error("the silence starts after its end, or a moment is above 10^15")]
+    #[error("the silence starts after its end, or a time is above 10^15")]
     BadTimes = 3,
 }
 

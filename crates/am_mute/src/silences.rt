@@ -33,7 +33,7 @@ impl Model for Silences {
 
     ghost Value = { SilenceList };
 
-    ghost view = { λ s. record { items = s.silences.items; room = vec_capacity s.silences - vec_len s.silences } };
+    ghost view = { λ s. record { items = s.silences.items; space = vec_capacity s.silences - vec_len s.silences } };
 
     ghost invariant = { λ s. IsIndexed s.silences.items s.index };
 }
@@ -74,14 +74,14 @@ impl Silences {
     /// Reserves capacity for so many more silences.
     pub fn reserve(&mut self, more: usize) -> Result<(), AllocError>
         ensures items { self.new.items ≡ self.old.items }
-        ensures room { OnOk result (more ≤ self.new.room) }
+        ensures space { OnOk result (more ≤ self.new.space) }
     {
         self.silences.reserve(more)
     }
 
     /// Adds a silence behind the others, for which there is capacity.
     pub fn add(&mut self, alloc: Global, silence: Silence)
-        requires room { 0 < self.old.room }
+        requires space { 0 < self.old.space }
         ensures items { self.new.items ≡ self.old.items ++ silence ∷ [] }
     {
         self.silences.push_reserved(silence);

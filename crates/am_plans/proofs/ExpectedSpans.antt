@@ -22,10 +22,10 @@ DecodesWithin mode last plans members within span =
     IsSpanWithin mode last plans members within span.0 span.1 × HasNoRegexAt mode (codes "of") members
 
 -- what is given where `within` is there
-pub beside_within : (mode : Mode) (until last : ℕ) (plans : List TimedAction) (members : Members) (within : Data) (from to : ℕ)
+pub together_with_within : (mode : Mode) (until last : ℕ) (plans : List TimedAction) (members : Members) (within : Data) (from to : ℕ)
     → Some within ≡ get_member (codes "within") members → IsSpanIn mode until last plans members from to
     → HasNone (codes "at") members × HasNone (codes "from") members × HasNone (codes "to") members × IsSpanWithin mode last plans members within from to
-beside_within mode until last plans members within from to is decoded =
+together_with_within mode until last plans members within from to is decoded =
     found (IsOwnSpan until last members from to)
     (λ w. HasNone (codes "at") members × HasNone (codes "from") members × HasNone (codes "to") members × IsSpanWithin mode last plans members w from to)
     within (get_member (codes "within") members) is decoded

@@ -44,7 +44,7 @@ begins =
 
 pub puts : (n port : ℕ) (v : Hand) (x : ℕ) → v.parts ≡ ALL_PARTS → v.put ≡ x
     → Pushes Dealt n port v x (λ w. w ≡ hand v.parts (v.put + 1) v.taken)
-puts n port v x all next items views room d at =
+puts n port v x all next items views space d at =
     let w = hand v.parts (v.put + 1) v.taken in
     let here : v.put ≡ d.gone + length items = d.put port v at (omega (arith, all)) in
     let longer : length (items ++ x ∷ []) ≡ length items + 1 = length-append items (x ∷ []) in
@@ -69,8 +69,8 @@ puts n port v x all next items views room d at =
       refl,
     )
 
-pub has_room : (port : ℕ) (v : Hand) → v.parts ≡ ALL_PARTS → Learns Dealt port v (λ items. length items ≤ v.put)
-has_room port v all items views d at = omega (arith, d.put port v at (omega (arith, all)))
+pub has_space : (port : ℕ) (v : Hand) → v.parts ≡ ALL_PARTS → Learns Dealt port v (λ items. length items ≤ v.put)
+has_space port v all items views d at = omega (arith, d.put port v at (omega (arith, all)))
 
 pub takes : (port : ℕ) (v : Hand) → 0 < v.parts → Pops Dealt port v (IsTake v)
 takes port v more x items views d at =

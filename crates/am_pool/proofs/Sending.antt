@@ -18,7 +18,7 @@ use Rattle.am_pool.specs.declared.worker.Job.{Job}
 use Rattle.am_pool.specs.declared.worker.Worker.{Worker}
 use Rattle.am_pool.specs.Dealt.{hand, weigh, numbers, times, once_below}
 use Rattle.am_pool.specs.Work.{Run, RanAll, DidWork, IsFresh, numbers_of}
-use Rattle.am_pool.specs.Gathered.{AllWorked, FirstWorked, AreBelow, placed, runs_back, parts_of, weigh_taken, all_runs, IsBeside, AllRan}
+use Rattle.am_pool.specs.Gathered.{AllWorked, FirstWorked, AreBelow, placed, runs_back, parts_of, weigh_taken, all_runs, IsReportAt, AllRan}
 use Rattle.am_pool.specs.Gathered.{Shared}
 use Rattle.am_pool.specs.Sent.{IsReportOf, AreReportsOf, AreRuns, EachRan, times_in, AreSent, all_refusals, count_starved}
 use Rattle.am_pool.proofs.Weights.{weigh-append, times-numbers}
@@ -101,10 +101,10 @@ abbrev pub starved_at : Option Report → ℕ
 starved_at None = 0
 starved_at (Some r) = one_starved r
 
-starved_beside : (reports : List Report) (runs : List Run) → AllByRecursion (IsBeside reports) runs
+starved_reported : (reports : List Report) (runs : List Run) → AllByRecursion (IsReportAt reports) runs
     → starved_in runs ≡ weigh (λ k. starved_at (slice_get reports k)) (numbers_of runs)
-starved_beside reports [] all = refl
-starved_beside reports (run ∷ runs) all = omega (arith, ap starved_at all.0, starved_beside reports runs all.1)
+starved_reported reports [] all = refl
+starved_reported reports (run ∷ runs) all = omega (arith, ap starved_at all.0, starved_reported reports runs all.1)
 
 starved_numbers : (rs : List Report) (from : ℕ) (h : ℕ → ℕ) → ((i : ℕ) → h (from + i) ≡ starved_at (slice_get rs i))
     → weigh h (numbers from (length rs)) ≡ count_starved rs
@@ -157,19 +157,19 @@ module _ (jobs : List Job) where
   runs-append (x ∷ xs) ys t r t1 r1 t2 r2 a b = (a.0, a.1, a.2, runs-append xs ys a.0 a.1 t1 r1 t2 r2 a.3 b)
 
   are_runs : (reports : List Report) (runs : List Run) (t : List Tried) (r : ℕ) (t' : List Tried) (r' : ℕ)
-      → RanAll jobs runs t r t' r' → AllByRecursion (IsBeside reports) runs → AreRuns jobs reports (numbers_of runs) t r t' r'
-  are_runs reports [] t r t' r' all beside = all
-  are_runs reports (run ∷ runs) t r t' r' all beside = (
+      → RanAll jobs runs t r t' r' → AllByRecursion (IsReportAt reports) runs → AreRuns jobs reports (numbers_of runs) t r t' r'
+  are_runs reports [] t r t' r' all reported_at = all
+  are_runs reports (run ∷ runs) t r t' r' all reported_at = (
     all.0,
     all.1,
     record {
       job = (all.2).job;
       job_is = (all.2).there;
       report = run.1;
-      report_is = beside.0;
+      report_is = reported_at.0;
       delivery = (all.2).delivery;
     },
-    are_runs reports runs all.0 all.1 t' r' all.3 beside.1,
+    are_runs reports runs all.0 all.1 t' r' all.3 reported_at.1,
   )
 
 -- the numbers of each courier's runs
@@ -219,23 +219,23 @@ module _ {E : Type 0} (jobs : List Job) (tries : E → List Tried) (refusals : E
   ran_more (r ∷ rs) more [] m d ms all one = absurd all
 
   each_ran : (reports : List Report) (runs : List (List Run)) (old new : List E) → AllRan jobs tries refusals runs old new
-      → AllByRecursion (IsBeside reports) (all_runs runs) → EachRan jobs reports tries refusals (took_of runs) old new
-  each_ran reports [] [] [] all beside = tt
-  each_ran reports (r ∷ rs) (c ∷ cs) (d ∷ ds) all beside = (
-    are_runs jobs reports r _ _ _ _ all.0 (each-left (IsBeside reports) r (all_runs rs) beside),
-    each_ran reports rs cs ds all.1 (each-right (IsBeside reports) r (all_runs rs) beside),
+      → AllByRecursion (IsReportAt reports) (all_runs runs) → EachRan jobs reports tries refusals (took_of runs) old new
+  each_ran reports [] [] [] all reported_at = tt
+  each_ran reports (r ∷ rs) (c ∷ cs) (d ∷ ds) all reported_at = (
+    are_runs jobs reports r _ _ _ _ all.0 (each-left (IsReportAt reports) r (all_runs rs) reported_at),
+    each_ran reports rs cs ds all.1 (each-right (IsReportAt reports) r (all_runs rs) reported_at),
   )
-  each_ran reports [] (c ∷ cs) ds all beside = absurd all
-  each_ran reports [] [] (d ∷ ds) all beside = absurd all
-  each_ran reports (r ∷ rs) [] ds all beside = absurd all
-  each_ran reports (r ∷ rs) (c ∷ cs) [] all beside = absurd all
+  each_ran reports [] (c ∷ cs) ds all reported_at = absurd all
+  each_ran reports [] [] (d ∷ ds) all reported_at = absurd all
+  each_ran reports (r ∷ rs) [] ds all reported_at = absurd all
+  each_ran reports (r ∷ rs) (c ∷ cs) [] all reported_at = absurd all
 
   pub are_sent : (reports : List Report) (old new : List E) → Shared jobs tries refusals reports old new
       → AreSent jobs reports tries refusals old new
   are_sent reports old new s =
       record {
         took = took_of s.runs;
-        ran = each_ran reports s.runs old new s.ran s.beside;
+        ran = each_ran reports s.runs old new s.ran s.reported_at;
         once = λ k. times_took k s.runs ∙ s.weighs (λ y. if y == k then 1 else 0) ∙ times-numbers k (length jobs);
       }
 
@@ -249,17 +249,17 @@ module _ {E : Type 0} (jobs : List Job) (tries : E → List Tried) (refusals : E
             let once : times k (numbers_of all) ≡ once_below (length jobs) k =
             s.weighs (λ y. if y == k then 1 else 0) ∙ times-numbers k (length jobs) in
             let there : 0 < times k (numbers_of all) = grind (arith, once, below) in
-            let both = each_both (IsOfJob jobs) (IsBeside reports) all (ran_of_jobs s.runs old new s.ran) s.beside in
-            let here = found (λ run. IsOfJob jobs run × IsBeside reports run) k all both there in
+            let both = each_both (IsOfJob jobs) (IsReportAt reports) all (ran_of_jobs s.runs old new s.ran) s.reported_at in
+            let here = found (λ run. IsOfJob jobs run × IsReportAt reports run) k all both there in
             same_report k job report is reported here.0 here.1 here.2.0 here.2.1;
       }
     where
       same_report : (k : ℕ) (job : Job) (report : Report)
           → slice_get jobs k ≡ Some job → slice_get reports k ≡ Some report
-          → (run : Run) → run.0 ≡ k → IsOfJob jobs run → IsBeside reports run → IsReportOf job report
-      same_report k job report is reported run e of_job beside =
+          → (run : Run) → run.0 ≡ k → IsOfJob jobs run → IsReportAt reports run → IsReportOf job report
+      same_report k job report is reported run e of_job reported_at =
           let same_job : of_job.0 ≡ job = cc (ap (slice_get jobs) e, of_job.1, is) in
-          let same_report : run.1 ≡ report = cc (ap (slice_get reports) e, beside, reported) in
+          let same_report : run.1 ≡ report = cc (ap (slice_get reports) e, reported_at, reported) in
           subst (λ (j : Job). IsReportOf j report) same_job (subst (IsReportOf of_job.0) same_report of_job.2)
 
   pub refused : (reports : List Report) (old new : List E) → Shared jobs tries refusals reports old new
@@ -268,7 +268,7 @@ module _ {E : Type 0} (jobs : List Job) (tries : E → List Tried) (refusals : E
       let h = λ (k : ℕ). starved_at (slice_get reports k) in
       let numbered : weigh h (numbers 0 (length reports)) ≡ count_starved reports =
       starved_numbers reports 0 h (λ i. ap h (omega arith)) in
-      let all = starved_beside reports (all_runs s.runs) s.beside in
+      let all = starved_reported reports (all_runs s.runs) s.reported_at in
       let same = ap (λ (n : ℕ). weigh h (numbers 0 n)) s.count in
       omega (arith, ran_refusals s.runs old new s.ran, all, s.weighs h, same, numbered)
 
@@ -290,7 +290,7 @@ module _ {E : Type 0} (jobs : List Job) (tries : E → List Tried) (refusals : E
         ran = none_ran cs;
         weighs = λ h. ap (λ (l : List Run). weigh h (numbers_of l)) nothing ∙ ap (λ (n : ℕ). weigh h (numbers 0 n)) (sym empty);
         count = ap length none ∙ sym empty;
-        beside = subst (AllByRecursion (IsBeside reports)) (sym nothing) tt;
+        reported_at = subst (AllByRecursion (IsReportAt reports)) (sym nothing) tt;
       }
 
   -- what all workers did together
@@ -378,9 +378,9 @@ module _ {E : Type 0} (jobs : List Job) (tries : E → List Tried) (refusals : E
         let is : ℕ → ℕ = λ y. if y == k then 1 else 0 in
         omega (arith, times_few k 0 (length jobs), whole is, weigh-runs is (back_of e.all.runs) more, weigh_back is e.all.runs)
 
-    each : AllByRecursion (IsBeside reports) (all_runs rs)
+    each : AllByRecursion (IsReportAt reports) (all_runs rs)
     each =
-        let there = IsBeside reports in
+        let there = IsReportAt reports in
         let back = each_back (IsBelow jobs) e.all.runs (ran_below e.all.runs old (m ∷ ms) e.all.ran) in
         let below = each-append (IsBelow jobs) (back_of e.all.runs) more back (runs_below jobs more _ _ _ _ work.ran) in
         let most = subst (λ (n : ℕ). AllByRecursion (λ (run : Run). run.0 < n) in_order) (sym e.blank) below in
@@ -396,7 +396,7 @@ module _ {E : Type 0} (jobs : List Job) (tries : E → List Tried) (refusals : E
           ran = ran_more e.all.runs more old m d ms e.all.ran work.ran;
           weighs = λ h. weigh_more h e.all.runs more ∙ whole h;
           count = ap length all_placed ∙ length_placed blanks in_order ∙ e.blank;
-          beside = each;
+          reported_at = each;
         }
 
   pub all_shared : (news : List Worker) (blanks reports : List Report) (old mid new : List E) (last gone : Worker)

@@ -58,8 +58,8 @@ all_runs [] = []
 all_runs (r ∷ rs) = r ++ all_runs rs
 
 -- the report in the place of a run's number is the run's
-abbrev pub IsBeside : List Report → Run → Type 0
-IsBeside reports run = slice_get reports run.0 ≡ Some run.1
+abbrev pub IsReportAt : List Report → Run → Type 0
+IsReportAt reports run = slice_get reports run.0 ≡ Some run.1
 
 -- each courier ran the jobs of the runs at its index, one after the other, and nothing else
 abbrev pub AllRan : {E : Type 0} → List Job → (E → List Tried) → (E → ℕ) → List (List Run) → List E → List E → Type 0
@@ -78,4 +78,4 @@ pub record Shared {E : Type 0} (jobs : List Job) (tries : E → List Tried) (ref
   pub ran : AllRan jobs tries refusals runs old new
   pub weighs : (h : ℕ → ℕ) → weigh h (numbers_of (all_runs runs)) ≡ weigh h (numbers 0 (length jobs))
   pub count : length reports ≡ length jobs
-  pub beside : AllByRecursion (IsBeside reports) (all_runs runs)
+  pub reported_at : AllByRecursion (IsReportAt reports) (all_runs runs)

@@ -54,8 +54,8 @@ pub record DidWork (jobs : List Job) (old new : Worker) (tries : List Tried) (re
   pub all : IsAll (view new.pass)
 
 -- a worker has capacity for the report of each number that it may yet take
-abbrev pub HasRoom : Worker → Type 0
-HasRoom w = (vec_len w.done ≤ length (view w.pass).taken) × ((view w.pass).put ≤ vec_capacity w.done)
+abbrev pub HasSpace : Worker → Type 0
+HasSpace w = (vec_len w.done ≤ length (view w.pass).taken) × ((view w.pass).put ≤ vec_capacity w.done)
 
 -- a worker may begin: its pass is of the queue with this table, has a part, and knows of so many jobs at most;
 -- there is capacity for their reports
@@ -63,7 +63,7 @@ pub record MayWork (queue : TableId) (jobs : ℕ) (w : Worker) : Type 0 where
   pub pass : (w.pass.table_id ≡ queue) × (w.pass.me.1 ≡ [])
   pub parts : 0 < (view w.pass).parts
   pub put : (view w.pass).put ≤ jobs
-  pub room : HasRoom w
+  pub space : HasSpace w
 
 -- a worker that did nothing yet, for so many jobs
 pub record IsFresh (queue : TableId) (jobs : ℕ) (w : Worker) : Type 0 where

@@ -17,7 +17,7 @@ ghost use denote.Param.Send.{IsSync, IsSend};
 ghost use Rattle.crossbeam_queue.specs.Passes.{view, IsPassOf};
 ghost use Rattle.am_pool.specs.declared.limits.TheConstants.{ALL_PARTS, MAX_JOBS, MAX_WORKERS};
 ghost use Rattle.am_pool.specs.Dealt.{hand, weigh};
-ghost use Rattle.am_pool.specs.Work.{IsReady, IsFresh, MayWork, DidWork, HasRoom};
+ghost use Rattle.am_pool.specs.Work.{IsReady, IsFresh, MayWork, DidWork, HasSpace};
 ghost use Rattle.am_pool.specs.Gathered.{AllWorked, FirstWorked, AreBelow, Shared, placed, runs_back, parts_of, weigh_taken};
 ghost use Rattle.am_pool.specs.Sent.{AreReportsOf, AreSent, all_refusals, count_starved, pool_cause, IsPoolFault};
 ghost use Rattle.am_pool.specs.declared.worker.Worker.{Worker as Done};
@@ -91,7 +91,7 @@ fn send_all<R: Threads + Wait + Sync, C: Courier + Send>(
 {
     let count = jobs.len();
     let mut reports = unsent(alloc, jobs)?;
-    let done = room(alloc, count)?;
+    let done = space(alloc, count)?;
     let (queue, mut whole) = fill(rt, alloc, count)?;
     let mut workers = staff(alloc, &queue, &mut whole, couriers.len(), count)?;
     work_staff(rt, &queue, jobs, &mut workers, couriers);
@@ -131,7 +131,7 @@ fn work_first<R: Wait, C: Courier>(
 )
     requires pass { IsPassOf queue.now worker.old.pass × (0 < (view worker.old.pass).parts) }
     requires put { (view worker.old.pass).put ≤ length jobs.now }
-    requires room { HasRoom worker.old }
+    requires space { HasSpace worker.old }
     requires ready { All IsReady jobs.now }
     requires couriers { 0 < length couriers.old }
     ensures work { FirstWorked jobs.now C.tries C.refusals worker.old worker.new couriers.old couriers.new }
@@ -162,9 +162,9 @@ fn unsent(alloc: Global, jobs: &[Job<'_>]) -> Result<Vec<Report>, AllocError>
 }
 
 /// Returns a list with capacity for so many reports and their numbers.
-fn room(alloc: Global, count: usize) -> Result<Vec<(usize, Report)>, AllocError>
+fn space(alloc: Global, count: usize) -> Result<Vec<(usize, Report)>, AllocError>
     ensures empty { IfOk result (λ done. done.items ≡ []) }
-    ensures room { IfOk result (λ done. count ≤ vec_capacity done) }
+    ensures space { IfOk result (λ done. count ≤ vec_capacity done) }
 {
     let mut done = Vec::new(alloc);
     done.reserve(count)?;
@@ -187,7 +187,7 @@ fn staff(
 {
     let mut workers = Vec::new(alloc);
     for _ in 0..size {
-        let done = room(alloc, count)?;
+        let done = space(alloc, count)?;
         workers.push(new_worker(queue, whole, done, count))?;
     }
     Ok(workers)

@@ -112,7 +112,7 @@ pub fn fill<R: Wait>(rt: &R, alloc: Global, count: usize) -> Result<(JobQueue, J
 fn put<R: Wait>(rt: &R, queue: &JobQueue, pass: &mut JobPass, number: usize)
     requires pass { IsPassOf queue.now pass.old }
     requires whole { ((view pass.old).parts ≡ ALL_PARTS) × ((view pass.old).put ≡ number) }
-    requires room { number < ruled_capacity queue.now }
+    requires space { number < ruled_capacity queue.now }
     ensures pass { IsPassOf queue.now pass.new × (pass.new.id ≡ pass.old.id) }
     ensures one_more { view pass.new ≡ hand ALL_PARTS (number + 1) (view pass.old).taken }
 {

@@ -2,7 +2,7 @@
 //! calls it.
 ghost use Rattle.std.specs.Prelude.{◌≡◌, ◌<◌, ◌≤◌, All, length, vec_len, vec_capacity};
 ghost use Rattle.crossbeam_queue.specs.Passes.{view, IsPassOf};
-ghost use Rattle.am_pool.specs.Work.{IsReady, DidWork, HasRoom, OneMoreRan};
+ghost use Rattle.am_pool.specs.Work.{IsReady, DidWork, HasSpace, OneMoreRan};
 
 use crate::queue::{JobPass, JobQueue, take};
 use crate::{Courier, deliver};
@@ -35,7 +35,7 @@ pub(crate) fn work<R: Wait, C: Courier>(
 )
     requires pass { IsPassOf queue.now worker.old.pass × (0 < (view worker.old.pass).parts) }
     requires put { (view worker.old.pass).put ≤ length jobs.now }
-    requires room { HasRoom worker.old }
+    requires space { HasSpace worker.old }
     requires ready { All IsReady jobs.now }
     ensures pass { IsPassOf queue.now worker.new.pass }
     ensures work { DidWork jobs.now worker.old worker.new
@@ -58,7 +58,7 @@ fn run<C: Courier>(
     courier: &mut C,
 )
     requires number { number < length jobs.now }
-    requires room { vec_len done.old < vec_capacity done.old }
+    requires space { vec_len done.old < vec_capacity done.old }
     requires ready { All IsReady jobs.now }
     ensures capacity { vec_capacity done.new ≡ vec_capacity done.old }
     ensures run { OneMoreRan jobs.now number done.old.items done.new.items

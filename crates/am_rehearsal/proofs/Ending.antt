@@ -75,12 +75,12 @@ steps_left limit c =
     weigh limit (calls_of c.board) (in_flight c.sendings) (if c.blocked then 0 else 1) (if c.begins then 1 else 0)
 
 -- where no record is lost, and less is in flight
-falls_beside : (limit n m f g b d a e : ℕ) → n ≤ m → 2 * g + d + e < 2 * f + b + a → weigh limit m g d e < weigh limit n f b a
-falls_beside limit n m f g b d a e more less = omega (arith, more, less)
+falls_outside : (limit n m f g b d a e : ℕ) → n ≤ m → 2 * g + d + e < 2 * f + b + a → weigh limit m g d e < weigh limit n f b a
+falls_outside limit n m f g b d a e more less = omega (arith, more, less)
 
 -- where there is a record more, and at most one flush more
 falls_recorded : (limit n m f g b d a e : ℕ) → n < limit → m ≡ n + 1 → 2 * g + d + e < 2 * f + b + a + 132 → weigh limit m g d e < weigh limit n f b a
-falls_recorded limit n m f g b d a e room one less = omega (arith, room, one, less)
+falls_recorded limit n m f g b d a e space one less = omega (arith, space, one, less)
 
 -- a call adds a record, or none
 called_grows : (b : BoardData) (c : Call) → calls_of b ≤ calls_of (with_call b c)
@@ -114,8 +114,8 @@ planned_adds b at (Silence silence) taken =
 planned_adds b at (Load row) taken = called_adds b (call.Load at row) (load_reply b at row) (load_taken b at row taken)
 
 -- a history that isn't full has capacity
-room_of : (config : Config) (records : ℕ) (s : State) (more : ℕ) → 0 < more → is_full config records s more ≡ false → records < config.limits.history
-room_of config records s more some free = grind (arith, nat_tests, some, free)
+space_of : (config : Config) (records : ℕ) (s : State) (more : ℕ) → 0 < more → is_full config records s more ≡ false → records < config.limits.history
+space_of config records s more some free = grind (arith, nat_tests, some, free)
 
 -- where there is no cause, the first of all doesn't hold
 unfull : (b : Bool) (x : Fault) (rest : Option Fault) → (if b then Some x else rest) ≡ None → b ≡ false
@@ -128,29 +128,29 @@ module _ (b : BoardData) where
 
   -- a board that handed nothing out keeps all its calls
   module _ (whole : b.handed ≡ []) where
-    abbrev HasRoom : Type 0
-    HasRoom = calls_of b < b.config.limits.history
+    abbrev HasSpace : Type 0
+    HasSpace = calls_of b < b.config.limits.history
 
     all_kept : records_at b ≡ calls_of b
     all_kept = ap (λ (handed : List Record). length (drop (length handed) b.history)) whole
 
-    has_room : (more : ℕ) → 0 < more → is_full_for more ≡ false → HasRoom
-    has_room more some free =
-        subst (λ (n : ℕ). n < b.config.limits.history) all_kept (room_of b.config (records_at b) (state_at b) more some free)
+    has_space : (more : ℕ) → 0 < more → is_full_for more ≡ false → HasSpace
+    has_space more some free =
+        subst (λ (n : ℕ). n < b.config.limits.history) all_kept (space_of b.config (records_at b) (state_at b) more some free)
 
-    action_room : (at : ℕ) (act : Action) → refuses b at act ≡ false → HasRoom
-    action_room at (Insert alert) taken =
-        has_room 1 (omega arith) (unfull (is_full_for 1) fault.HistoryFull _ (no_cause (insert_cause b.config (records_at b) (state_at b) alert) taken))
-    action_room at (Silence silence) taken =
-        has_room 1 (omega arith) (unfull (is_full_for 1) fault.HistoryFull _ (no_cause (silence_cause b.config (records_at b) (state_at b) silence) taken))
-    action_room at (Load row) taken = has_room 1 (omega arith) (load_unfull b at row taken)
+    action_space : (at : ℕ) (act : Action) → refuses b at act ≡ false → HasSpace
+    action_space at (Insert alert) taken =
+        has_space 1 (omega arith) (unfull (is_full_for 1) fault.HistoryFull _ (no_cause (insert_cause b.config (records_at b) (state_at b) alert) taken))
+    action_space at (Silence silence) taken =
+        has_space 1 (omega arith) (unfull (is_full_for 1) fault.HistoryFull _ (no_cause (silence_cause b.config (records_at b) (state_at b) silence) taken))
+    action_space at (Load row) taken = has_space 1 (omega arith) (load_unfull b at row taken)
 
     -- so a maintenance does, and a removal, which has the same cause
-    upkeep_fits : (at : ℕ) → own_cause b at step.Maintenance ≡ None → HasRoom
-    upkeep_fits at none = has_room 1 (omega arith) (unfull (is_full_for 1) fault.HistoryFull None none)
+    upkeep_fits : (at : ℕ) → own_cause b at step.Maintenance ≡ None → HasSpace
+    upkeep_fits at none = has_space 1 (omega arith) (unfull (is_full_for 1) fault.HistoryFull None none)
 
-    begin_room : (at : ℕ) → cause_of_none b at ≡ None → HasRoom
-    begin_room at none = has_room 2 (omega arith) (unfull (is_full_for 2) fault.HistoryFull _ none)
+    begin_space : (at : ℕ) → cause_of_none b at ≡ None → HasSpace
+    begin_space at none = has_space 2 (omega arith) (unfull (is_full_for 2) fault.HistoryFull _ none)
 
 -- how many notices a reply has
 abbrev notices_in : Reply → ℕ
@@ -253,7 +253,7 @@ module _ (r : Setting) (c d : Scene) (whole : c.board.handed ≡ []) where
       let t : SendingData = after_end_of s index e.report in
       let less = flight_end c.sendings position index s t e at.1 ending.1 refl in
       falls_to (after_end c position s index e) ending.2
-      (falls_beside limit records _ flight (in_flight (slice_set c.sendings position t)) comes comes goes goes
+      (falls_outside limit records _ flight (in_flight (slice_set c.sendings position t)) comes comes goes goes
       (ended_grows (is_success e.report) e.at (with_report e.report s.ticket) e.index c.board) (omega (arith, less)))
 
   finished : (position : ℕ) → IsDone r c 0 d (step.Finish position) → Falls
@@ -262,14 +262,14 @@ module _ (r : Setting) (c d : Scene) (whole : c.board.handed ≡ []) where
       let s : SendingData = at.0 in
       let less = flight_finish c.sendings position s at.1 in
       falls_to (after_finish c position s) at.2
-      (falls_beside limit records _ flight (in_flight (remove c.sendings position)) comes 1 goes goes
+      (falls_outside limit records _ flight (in_flight (remove c.sendings position)) comes 1 goes goes
       (called_grows c.board (call.Finish c.clock s.ticket.number s.ticket.outcomes)) (omega (arith, less)))
 
   acted : (ps : List TimedAction) → IsPlanDone c d ps → Falls
   acted [] done = absurd done
   acted (p ∷ ps) done =
       falls_to (after_plan c p ps) done.1
-      (falls_recorded limit records _ flight flight comes comes goes goes (action_room c.board whole p.at p.act done.0) (planned_adds c.board p.at p.act done.0) (omega arith))
+      (falls_recorded limit records _ flight flight comes comes goes goes (action_space c.board whole p.at p.act done.0) (planned_adds c.board p.at p.act done.0) (omega arith))
 
   maintained_falls : (at : ℕ) → own_cause c.board at step.Maintenance ≡ None → IsDone r c at d step.Maintenance → Falls
   maintained_falls at none is =
@@ -289,13 +289,13 @@ module _ (r : Setting) (c d : Scene) (whole : c.board.handed ≡ []) where
 
     -- a begin that was accepted
     replied : (returned : Reply) → taken_reply ≡ returned → calls_of c.board < limit → IsReplied r c at d returned → Falls
-    replied reply.NothingDue returned room is =
+    replied reply.NothingDue returned space is =
         falls_to (after_nothing c at) is
-        (falls_recorded limit records _ flight flight comes comes goes 0 room (length_push c.board.history (entry 0 (call.Begin at) reply.NothingDue)) (omega arith))
-    replied (reply.Quiet group removed) returned room is =
+        (falls_recorded limit records _ flight flight comes comes goes 0 space (length_push c.board.history (entry 0 (call.Begin at) reply.NothingDue)) (omega arith))
+    replied (reply.Quiet group removed) returned space is =
         falls_to (after_taking c at (reply.Quiet group removed)) is
-        (falls_recorded limit records _ flight flight comes comes goes 1 room (length_push c.board.history (entry 0 (call.Begin at) (reply.Quiet group removed))) (omega arith))
-    replied (reply.Flush group opened) returned room sent =
+        (falls_recorded limit records _ flight flight comes comes goes 1 space (length_push c.board.history (entry 0 (call.Begin at) (reply.Quiet group removed))) (omega arith))
+    replied (reply.Flush group opened) returned space sent =
         let flush : Reply = reply.Flush group opened in
         let notices : List NoticeData = opened.notices in
         let s : SendingData = sent.0 in
@@ -307,22 +307,22 @@ module _ (r : Setting) (c d : Scene) (whole : c.board.handed ≡ []) where
         let more : in_flight (c.sendings ++ s ∷ []) ≡ flight + (length s.ends + 1) = sum_by_push to_come c.sendings s in
         let greatest : MAX_INTEGRATIONS ≡ 64 = refl in
         falls_to (with_sending s taking) sent.4
-        (falls_recorded limit records _ flight (in_flight (c.sendings ++ s ∷ [])) comes comes goes 1 room
+        (falls_recorded limit records _ flight (in_flight (c.sendings ++ s ∷ [])) comes comes goes 1 space
         (length_push c.board.history (entry 0 (call.Begin at) flush)) (omega (arith, count, most, more, greatest)))
-    replied (reply.Inserted inserted) returned room is = absurd is
-    replied (reply.Silenced silenced) returned room is = absurd is
-    replied (reply.Finished finished) returned room is = absurd is
-    replied (reply.Maintained maintained) returned room is = absurd is
-    replied (reply.EmptyGroupsRemoved removed) returned room is = absurd is
-    replied (reply.Forgotten forgotten) returned room is = absurd is
-    replied (reply.Loaded loaded) returned room is = absurd is
-    replied reply.Noted returned room is = absurd is
+    replied (reply.Inserted inserted) returned space is = absurd is
+    replied (reply.Silenced silenced) returned space is = absurd is
+    replied (reply.Finished finished) returned space is = absurd is
+    replied (reply.Maintained maintained) returned space is = absurd is
+    replied (reply.EmptyGroupsRemoved removed) returned space is = absurd is
+    replied (reply.Forgotten forgotten) returned space is = absurd is
+    replied (reply.Loaded loaded) returned space is = absurd is
+    replied reply.Noted returned space is = absurd is
 
     begun_by : (cause : Option Fault) → cause_of_none c.board at ≡ cause → IsTrue (c.begins || not c.blocked) → IsBegun r c at d cause → Falls
-    begun_by None why may is = replied taken_reply refl (begin_room c.board whole at why) is
+    begun_by None why may is = replied taken_reply refl (begin_space c.board whole at why) is
     begun_by (Some fault.TooManyOpen) why may is =
         falls_to (after_too_many c at) is
-        (falls_beside limit records records flight flight comes 0 goes 0 (omega arith) (omega (arith, may_count c.begins c.blocked may)))
+        (falls_outside limit records records flight flight comes 0 goes 0 (omega arith) (omega (arith, may_count c.begins c.blocked may)))
     begun_by (Some fault.NoMemory) why may is = absurd is
     begun_by (Some fault.TooManyAlerts) why may is = absurd is
     begun_by (Some fault.TooManyGroups) why may is = absurd is

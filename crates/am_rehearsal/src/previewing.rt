@@ -301,8 +301,8 @@ fn push_shown(
     preview: Option<Preview>,
     begun: &Begun,
 )
-    requires room { IsReady begins.old }
-    requires events_room { vec_len events.old + 1 ≤ vec_capacity events.old }
+    requires space { IsReady begins.old }
+    requires events_space { vec_len events.old + 1 ≤ vec_capacity events.old }
     requires begun { begin_indices events.old.items ≡ range_with_len 0 (length begins.old.items) }
     ensures previews { begins.new.items ≡ begins.old.items ++ preview_where (takes_group (reply_of begun.now)) index preview }
     ensures begun { begin_indices events.new.items ≡ range_with_len 0 (length begins.new.items) }

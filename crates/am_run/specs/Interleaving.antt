@@ -49,7 +49,7 @@ pub record RunsPhase (Answers : Tried → Type 0) (t : Terms) (phase : Phase) (p
   pub joined : Seen
   pub begins : MadeRecords took.turn.begins p begun
   pub ended : phase.flush ≡ true → BeginsExhausted t phase.at begun.log took.turn.begins
-  pub beside : RanConcurrently begun joined ls ms
+  pub concurrent : RanConcurrently begun joined ls ms
   pub ends : MadeRecords (took.turn.notes ++ took.turn.finishes) joined q
 
 -- a list has no record of these passes that they didn't make, and none of a pass that isn't there

@@ -53,14 +53,14 @@ pub record IsCallRefused (t : Terms) (phase : Phase) (past : List Record) : Type
   pub begins : List Record
   pub main : AreBeginsOf phase begins
   pub ended : phase.flush ≡ true → BeginsExhausted t phase.at (past ++ begins) begins
-  pub beside : List Record
-  pub others : own 0 beside ≡ []
-  pub lanes : (i : ℕ) → IsPrefix (calls_by (i + 1) beside) (phase_calls i phase)
-  pub legal : IsLegal t.config t.id (past ++ begins ++ beside)
+  pub concurrent : List Record
+  pub others : own 0 concurrent ≡ []
+  pub lanes : (i : ℕ) → IsPrefix (calls_by (i + 1) concurrent) (phase_calls i phase)
+  pub legal : IsLegal t.config t.id (past ++ begins ++ concurrent)
   pub lane : ℕ
   pub call : LaneCall
-  pub next : IsPrefix (calls_by (lane + 1) beside ++ call_at phase.at call ∷ []) (phase_calls lane phase)
-  pub refused : cause_of_call t call (past ++ begins ++ beside) ≢ None
+  pub next : IsPrefix (calls_by (lane + 1) concurrent ++ call_at phase.at call ∷ []) (phase_calls lane phase)
+  pub refused : cause_of_call t call (past ++ begins ++ concurrent) ≢ None
 
 -- the phases before one ran to their end on the board of this id, and then a begin of that phase or a call of its lanes was
 -- refused by a limit

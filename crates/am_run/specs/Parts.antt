@@ -11,11 +11,11 @@ use Rattle.am_scenario.specs.declared.scenario.Phase.{Phase}
 -- what a history has of a phase: the main thread's turn, and the other records
 pub record PhaseRecords : Type 0 where
   pub turn : MainSteps
-  pub beside : List Record
+  pub concurrent : List Record
 
 -- all records of a part, in their order: the other records are between its begins and its notes
 abbrev pub all_in : PhaseRecords → List Record
-all_in part = part.turn.begins ++ part.beside ++ part.turn.notes ++ part.turn.finishes
+all_in part = part.turn.begins ++ part.concurrent ++ part.turn.notes ++ part.turn.finishes
 
 -- the part of a phase, after these records of a history: the turn's records are the main thread's, which has no others, and its
 -- begins went on until no group was due or the limit of open flushes was reached; of the others each lane made just its calls, at the
@@ -23,8 +23,8 @@ all_in part = part.turn.begins ++ part.beside ++ part.turn.notes ++ part.turn.fi
 pub record AreRecordsOfPhase (t : Terms) (before : List Record) (phase : Phase) (part : PhaseRecords) : Type 0 where
   pub main : All (λ r. r.pass ≡ 0) (records_in part.turn)
   pub ended : phase.flush ≡ true → BeginsExhausted t phase.at (before ++ part.turn.begins) part.turn.begins
-  pub others : own 0 part.beside ≡ []
-  pub lanes : (i : ℕ) → calls_by (i + 1) part.beside ≡ phase_calls i phase
+  pub others : own 0 part.concurrent ≡ []
+  pub lanes : (i : ℕ) → calls_by (i + 1) part.concurrent ≡ phase_calls i phase
 
 -- these are parts of these phases, one after the other, after these records of a history
 abbrev pub ArePartsFrom : Terms → List Record → List Phase → List PhaseRecords → Type 0

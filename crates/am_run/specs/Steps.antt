@@ -16,7 +16,7 @@ use Rattle.am_desk.specs.declared.word.Terms.{Terms}
 use Rattle.am_pool.specs.declared.courier.Tried.{Tried}
 use Rattle.am_pool.specs.declared.worker.Job.{Job}
 use Rattle.am_pool.specs.Sendings.{IsSentFrom, end_on, note_at}
-use Rattle.am_run.specs.Turns.{Opened, MainSteps, AreNotesWithRoom, AreAllMainStepsOf, BeginsExhausted, FoundDue, AreMainStepsOf}
+use Rattle.am_run.specs.Turns.{Opened, MainSteps, AreNotesUnlessFull, AreAllMainStepsOf, BeginsExhausted, FoundDue, AreMainStepsOf}
 use Rattle.am_run.specs.Turns.{opened_by, outcomes_reported, last_end, records_in, report_on, reports_on, to_send}
 use Rattle.am_scenario.specs.declared.scenario.Phase.{Phase}
 
@@ -36,7 +36,7 @@ MadeRecords rs p q = (q.number ≡ p.number) × (own p.number q.log ≡ own p.nu
 pub record Notes (t : Terms) (calls : List Call) (p q : Seen) : Type 0 where
   pub records : List Record
   pub made : MadeRecords records p q
-  pub noted : AreNotesWithRoom t p.number q.log (own p.number p.log) calls records
+  pub noted : AreNotesUnlessFull t p.number q.log (own p.number p.log) calls records
 
 -- the flush of a ticket
 abbrev pub opened_of : TicketData → Opened

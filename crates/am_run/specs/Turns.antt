@@ -131,11 +131,11 @@ BeginsExhausted t at front begins = EndsWithNothingDue begins ⊎ (All FoundDue 
 
 -- a pass that had made the records before made these then: a record of each of the calls, in their order, but of those for which
 -- there was no capacity when their turn came
-abbrev pub AreNotesWithRoom : Terms → ℕ → List Record → List Record → List Call → List Record → Type 0
-AreNotesWithRoom t pass history before [] notes = notes ≡ []
-AreNotesWithRoom t pass history before (c ∷ cs) notes =
-    ((r : Record) × (rs : List Record) × (notes ≡ r ∷ rs) × (r.call ≡ c) × AreNotesWithRoom t pass history (before ++ r ∷ []) cs rs)
-    ⊎ (AtSomePrefix pass history before (FailsHistoryFull t) × AreNotesWithRoom t pass history before cs notes)
+abbrev pub AreNotesUnlessFull : Terms → ℕ → List Record → List Record → List Call → List Record → Type 0
+AreNotesUnlessFull t pass history before [] notes = notes ≡ []
+AreNotesUnlessFull t pass history before (c ∷ cs) notes =
+    ((r : Record) × (rs : List Record) × (notes ≡ r ∷ rs) × (r.call ≡ c) × AreNotesUnlessFull t pass history (before ++ r ∷ []) cs rs)
+    ⊎ (AtSomePrefix pass history before (FailsHistoryFull t) × AreNotesUnlessFull t pass history before cs notes)
 
 -- what the main thread does in a phase: it begins flushes, hears of the sending of their notices, notes successes and finishes the flushes
 pub record MainSteps : Type 0 where
@@ -156,7 +156,7 @@ pub record AreMainStepsOf (Answers : Tried → Type 0) (t : Terms) (pass : ℕ) 
     (turn : MainSteps) : Type 0 where
   pub begun : All (IsBeginOf phase) turn.begins
   pub sent : AllZip (IsSentFrom Answers phase.at) (to_send (opened_by turn.begins)) turn.reports
-  pub noted : AreNotesWithRoom t pass history (before ++ turn.begins)
+  pub noted : AreNotesUnlessFull t pass history (before ++ turn.begins)
       (all_notes_due phase.at turn.reports (opened_by turn.begins)) turn.notes
   pub finished : map (λ r. r.call) turn.finishes ≡ map (finish_of phase.at turn.reports) (opened_by turn.begins)
 

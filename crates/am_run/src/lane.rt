@@ -1,5 +1,5 @@
 //! The lanes of a phase, each in a thread of its own, while the couriers send. `phase` calls
-//! `run_beside`.
+//! `run_concurrently`.
 //!
 //! A lane's state is made once, with the pass that the lane keeps for the whole run. Its thread
 //! writes there and nowhere else. A thread is started for each lane of a phase, also for one
@@ -137,7 +137,7 @@ pub fn meet_lanes<N: Name>(desk: &Desk<N>, main: &mut Pass<N>, lane_states: &mut
 }
 
 /// Runs the lanes, each in a thread of its own, next to the couriers, who share the jobs.
-pub fn run_beside<N: Name + Send + Sync, R: Threads + Wait + Sync, C: Answering + Send>(
+pub fn run_concurrently<N: Name + Send + Sync, R: Threads + Wait + Sync, C: Answering + Send>(
     rt: &R,
     alloc: Global,
     desk: &Desk<N>,

@@ -28,7 +28,7 @@ ghost use Rattle.am_run.specs.Stops.{BeginsUntilFull, LanesStop, LanesStopBefore
 ghost use Rattle.am_run.specs.Turns.{to_send};
 
 use crate::courier::Answering;
-use crate::lane::{LaneState, lane_states_for, meet_lanes, run_beside};
+use crate::lane::{LaneState, lane_states_for, meet_lanes, run_concurrently};
 use crate::phase_faults::{PhaseFaults, Refused};
 use crate::sending::{end_on, has_succeeded, jobs_of, last_end, none_starved};
 use am_board::begin::Begun;
@@ -211,7 +211,7 @@ impl<N: Name + Send + Sync> Run<N> {
         requires lanes { vec_len lanes < N.plan.passes }
         ensures lanes { RunsLanes at lanes.items self.old self.new }
         ensures reports { self.new.reports ≡ self.old.reports }
-        ensures beside { HasNoFault self.new.faults
+        ensures concurrent { HasNoFault self.new.faults
             → RanBefore self.old.main self.new.main (lanes_of self.old) (lanes_of self.new) }
         ensures sent { HasNoFault self.new.faults
             → Sends C.answers N.terms at result.items tickets.old.items tickets.new.items self.old.main self.new.main }
@@ -222,7 +222,7 @@ impl<N: Name + Send + Sync> Run<N> {
         if !self.faults.are_none() {
             return Vec::new(self.alloc);
         }
-        let reports = self.run_beside(rt, couriers, at, tickets.as_slice(), lanes);
+        let reports = self.run_concurrently(rt, couriers, at, tickets.as_slice(), lanes);
         self.settle_all(rt, at, tickets, reports.as_slice());
         reports
     }
@@ -232,7 +232,7 @@ impl<N: Name + Send + Sync> Run<N> {
     ///
     /// The main thread's pass meets those of the lanes before they start and when they are joined: so it
     /// is known that their calls come after all that it has made, and before what it makes next.
-    fn run_beside<R: Threads + Wait + Sync, C: Answering + Send>(
+    fn run_concurrently<R: Threads + Wait + Sync, C: Answering + Send>(
         &mut self,
         rt: &R,
         couriers: &mut [C],
@@ -244,7 +244,7 @@ impl<N: Name + Send + Sync> Run<N> {
         requires lanes { vec_len lanes < N.plan.passes }
         ensures lanes { RunsLanes at lanes.items self.old self.new }
         ensures reports { self.new.reports ≡ self.old.reports }
-        ensures beside { HasNoFault self.new.faults
+        ensures concurrent { HasNoFault self.new.faults
             → RanConcurrently self.old.main self.new.main (lanes_of self.old) (lanes_of self.new) }
         ensures sent { HasNoFault self.new.faults
             → AllZip (IsSentFrom C.answers at) (to_send (map opened_of tickets.now)) result.items }
@@ -257,7 +257,7 @@ impl<N: Name + Send + Sync> Run<N> {
         };
         let lane_states = self.lane_states.as_mut_slice();
         meet_lanes(&self.desk, &mut self.main, lane_states);
-        let sent = run_beside(
+        let sent = run_concurrently(
             rt,
             self.alloc,
             &self.desk,

@@ -539,10 +539,10 @@ fn push_listed(
     for listed in &alerts {
         let name = listed.alert;
         if listed.counts.new == 0 {
-            write!(text, "nobody is told any more: {name}\n")?;
+            write!(text, "no longer notified: {name}\n")?;
         }
         if listed.counts.old == 0 {
-            write!(text, "told only now: {name}\n")?;
+            write!(text, "notified only now: {name}\n")?;
         }
     }
     Ok(())

@@ -1,6 +1,6 @@
 pub mod Again
 pub mod Found
-pub mod GroupRoom
+pub mod GroupSpace
 pub mod InIndex
 pub mod Inserting
 pub mod Placing

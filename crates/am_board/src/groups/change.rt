@@ -7,7 +7,7 @@ ghost use Rattle.am_alerts.specs.RoutingTree.{RoutingTree};
 ghost use Rattle.am_model.specs.Begin.{count_resolved, without_resolved};
 ghost use Rattle.am_model.specs.Finish.{is_leaving};
 ghost use Rattle.am_board.specs.Again.{HasAt, IsSpot};
-ghost use Rattle.am_board.specs.Group.{names_of, AreRouted, HasRoom, Fits, IsReserved, Changes, Gets, label_sets};
+ghost use Rattle.am_board.specs.Group.{names_of, AreRouted, HasSpace, Fits, IsReserved, Changes, Gets, label_sets};
 ghost use Rattle.am_board.specs.Inserting.{index_in, stamped_alert};
 ghost use Rattle.am_board.specs.Marks.{marks_of};
 ghost use Rattle.am_board.specs.Refinement.{member_state, stamped, group_state};
@@ -43,9 +43,9 @@ impl Groups {
         requires name { name ≡ group.name }
         requires missing { position (λ g. same_name name g.name) self.old.items ≡ None }
         requires alerts { has_no_alerts (group_state group) ≡ false }
-        requires room { 0 < self.old.room }
+        requires space { 0 < self.old.space }
         ensures items { self.new.items ≡ self.old.items ++ group ∷ [] }
-        ensures room { self.old.room ≤ self.new.room + 1 }
+        ensures space { self.old.space ≤ self.new.space + 1 }
     {
         self.due.put(&group.name, group.due);
         self.groups.insert(name, group).unwrap();
@@ -55,7 +55,7 @@ impl Groups {
     pub(crate) fn reserve_at(&mut self, i: usize, more: usize) -> Result<(), AllocError>
         requires index { i < length self.old.items }
         ensures kept { Changes IsReserved i self.old self.new }
-        ensures room { OnOk result ((d : Group) → Fits more (slice_index_or self.new.items i d)) }
+        ensures space { OnOk result ((d : Group) → Fits more (slice_index_or self.new.items i d)) }
     {
         reserve_members(&mut self.groups[i], more)
     }
@@ -71,9 +71,9 @@ impl Groups {
         ensures names { names_of self.new.items ≡ names_of self.old.items }
         ensures marks { marks_of self.new.items ≡ marks_of self.old.items }
         ensures states { map group_state self.new.items ≡ map group_state self.old.items }
-        ensures spare { self.new.room ≡ self.old.room }
-        ensures room { OnOk result ((name : GroupName) → index ≡ index_in name self.old.items → HasRoom more name self.new.items) }
-        ensures others { (n : ℕ) (other : GroupName) → HasRoom n other self.old.items → HasRoom n other self.new.items }
+        ensures spare { self.new.space ≡ self.old.space }
+        ensures space { OnOk result ((name : GroupName) → index ≡ index_in name self.old.items → HasSpace more name self.new.items) }
+        ensures others { (n : ℕ) (other : GroupName) → HasSpace n other self.old.items → HasSpace n other self.new.items }
     {
         match index {
             Some(i) => self.reserve_at(i, more),
@@ -85,7 +85,7 @@ impl Groups {
     pub(crate) fn insert(&mut self, i: usize, labels: Labels, member: Member, wait: u64, t: u64)
         requires index { i < length self.old.items }
         requires labels { labels ≡ member.alert.labels }
-        requires room { (d : Group) → Fits 1 (slice_index_or self.old.items i d) }
+        requires space { (d : Group) → Fits 1 (slice_index_or self.old.items i d) }
         ensures { Changes (Gets (member_state member) wait t) i self.old self.new }
     {
         let groups = self.groups.len();

@@ -17,7 +17,7 @@ ghost use Rattle.am_board.specs.DueOrder.{IsFront};
 ghost use Rattle.am_board.specs.declared.due.DueKey.{DueKey};
 ghost use Rattle.am_board.specs.GroupList.{name_of};
 ghost use Rattle.am_board.specs.Refinement.{group_state};
-ghost use Rattle.am_board.specs.Marks.{AreMarked, TellOpen};
+ghost use Rattle.am_board.specs.Marks.{AreMarked, HaveOpenFlags};
 ghost use Rattle.am_board.specs.Keyed.{AreKeyed};
 ghost use Rattle.am_board.specs.declared.group.Group.{Group};
 
@@ -54,7 +54,7 @@ fn first_by_keys(
     requires distinct { IsDistinct same_name (keys_of groups.now.entries) }
     requires keys { AreDue due.now (values_of groups.now.entries) }
     ensures within { IfSome result (λ found. IfSome found (λ i. i < length (values_of groups.now.entries))) }
-    ensures first { (flushes : List FlushState) → TellOpen flushes (values_of groups.now.entries) → IfSome result (λ found.
+    ensures first { (flushes : List FlushState) → HaveOpenFlags flushes (values_of groups.now.entries) → IfSome result (λ found.
         IsFirst (values_of groups.now.entries) found (first_of flushes t (map group_state (values_of groups.now.entries)))) }
 {
     if !due.whole {
@@ -78,7 +78,7 @@ fn first_in(
     requires keyed { AreKeyed name_of groups.now.entries }
     requires distinct { IsDistinct same_name (keys_of groups.now.entries) }
     ensures within { IfSome result (λ found. IfSome found (λ i. i < length (values_of groups.now.entries))) }
-    ensures first { (flushes : List FlushState) (keys : List DueKey) → TellOpen flushes (values_of groups.now.entries) → IsFront keys front.entry
+    ensures first { (flushes : List FlushState) (keys : List DueKey) → HaveOpenFlags flushes (values_of groups.now.entries) → IsFront keys front.entry
         → IfSome result (IsFirstOfKeys flushes t (values_of groups.now.entries) keys) }
 {
     let Some(key) = front else {
@@ -113,7 +113,7 @@ fn free_index(groups: &IndexMap<GroupName, Group, Seed>, key: &DueKey) -> Option
     requires keyed { AreKeyed name_of groups.now.entries }
     requires distinct { IsDistinct same_name (keys_of groups.now.entries) }
     ensures within { IfSome result (λ i. i < length (values_of groups.now.entries)) }
-    ensures free { (flushes : List FlushState) → TellOpen flushes (values_of groups.now.entries)
+    ensures free { (flushes : List FlushState) → HaveOpenFlags flushes (values_of groups.now.entries)
         → IsFree flushes (values_of groups.now.entries) key.now result }
 {
     let index = index_of(groups, key)?;
@@ -141,7 +141,7 @@ fn index_of(groups: &IndexMap<GroupName, Group, Seed>, key: &DueKey) -> Option<u
 /// Returns the index of the group to take at `t`, by a walk over all groups.
 fn first_by_walk(groups: &[Group], t: u64) -> Option<usize>
     ensures within { IfSome result (λ i. i < length groups.now) }
-    ensures first { (flushes : List FlushState) → TellOpen flushes groups.now
+    ensures first { (flushes : List FlushState) → HaveOpenFlags flushes groups.now
         → IsFirst groups.now result (first_of flushes t (map group_state groups.now)) }
 {
     let mut best: Option<usize> = None;

@@ -52,7 +52,7 @@ fn insert_all<N: Name + Send + Sync, R: Threads + Wait + Abort + Sync>(
 ) {
     let one = take(rt, passes);
     let zero = take(rt, passes);
-    let (mut zero, one) = insert_beside(rt, alloc, desk, zero, one);
+    let (mut zero, one) = insert_concurrently(rt, alloc, desk, zero, one);
     assert_eq!(rt; (zero.calls(), one.calls()), (INSERTS, INSERTS));
     insert_last(rt, alloc, desk, &mut zero);
     put(rt, passes, zero);
@@ -87,7 +87,7 @@ fn put<N: Name>(rt: &impl Abort, passes: &mut Vec<Pass<N>>, pass: Pass<N>) {
 }
 
 /// Each pass inserts in a thread of its own.
-fn insert_beside<N: Name + Send + Sync, R: Threads + Wait + Abort + Sync>(
+fn insert_concurrently<N: Name + Send + Sync, R: Threads + Wait + Abort + Sync>(
     rt: &R,
     alloc: Global,
     desk: &Desk<N>,

@@ -196,7 +196,7 @@ impl Session {
     /// Writes the answer to a begin, and keeps its ticket where it has one.
     fn keep(&mut self, begun: Begun, answer: &mut Answer) -> Result<(), LineFault>
         requires fresh { IsFresh BOARD_ID begun }
-        requires room { vec_len self.old.tickets < vec_capacity self.old.tickets }
+        requires space { vec_len self.old.tickets < vec_capacity self.old.tickets }
         ensures answered { OnOk result (answer.new ≡ answer.old ++ reply_tokens self.old.board.config (reply_of begun)) }
         ensures untold { IfErr result (λ fault. fault ≡ LineFault.Untold) }
         ensures board { self.new.board ≡ self.old.board }
@@ -215,7 +215,7 @@ impl Session {
     /// Keeps the ticket of a flush that was begun, and writes the answer.
     fn keep_ticket(&mut self, ticket: Ticket, answer: &mut Answer) -> Result<(), LineFault>
         requires ours { ticket.board_id ≡ BOARD_ID }
-        requires room { vec_len self.old.tickets < vec_capacity self.old.tickets }
+        requires space { vec_len self.old.tickets < vec_capacity self.old.tickets }
         ensures answered { OnOk result (answer.new ≡ answer.old
             ++ flush_tokens self.old.board.config ticket.number ticket.group ticket.deadline ticket.notices) }
         ensures untold { IfErr result (λ fault. fault ≡ LineFault.Untold) }
@@ -361,7 +361,7 @@ impl Session {
             Err(TakeFault::TooManyCalls) => Err(LineFault::NotMade {
                 pointer: "/take_history",
                 kind: "TooManyCalls",
-                message: "more records would be handed out than may be",
+                message: "more records would be handed out than the limit",
             }),
         }
     }

@@ -8,11 +8,11 @@ use Rattle.std.specs.declared.cmp.Ordering.{Ordering}
 use Rattle.std.proofs.lemmas.List.{append-nil, drop_all, drop_more, get_or-map, length-append, length-map, length-take-le, take_more}
 use Rattle.std.proofs.lemmas.Slice.Eq.{bytes_eq-Decides}
 use Rattle.am_alerts.specs.Forest.{Forest, bare, grow, count, listed}
-use Rattle.am_alerts.specs.Layout.{laid, planted, planted_of_laid}
-use Rattle.am_alerts.specs.RouteLayouts.{IsLaid, part}
+use Rattle.am_alerts.specs.Layout.{preorder, planted, planted_of_preorder}
+use Rattle.am_alerts.specs.RouteLayouts.{IsPreorder, part}
 use Rattle.am_alerts.specs.RoutingTree.{RoutingTree, TreeRoute, children_of, last_of, plain}
 use Rattle.am_alerts.specs.declared.route.Child.{Child}
-use Rattle.am_alerts.proofs.Layouts.{children_laid, length_laid, length_listed, opened, part-all, part-none}
+use Rattle.am_alerts.proofs.Layouts.{children_preorder, length_preorder, length_listed, opened, part-all, part-none}
 use Rattle.am_model.specs.Lists.{put_in_order, in_order}
 use Rattle.am_model.proofs.lists.Distinct.{all_from}
 use Rattle.am_model.specs.RouteKeys.{key_below, keys_below, root_key, keys_of, positions_from}
@@ -20,39 +20,39 @@ use Rattle.am_model.specs.RouteKeys.{key_below, keys_below, root_key, keys_of, p
 -- ---- a walk over the tree
 
 module _ (f : Forest TreeRoute) where
-  all-laid : part 0 (count f) (laid f) ≡ laid f
-  all-laid = ap (λ n. part 0 n (laid f)) (sym (length_laid f)) ∙ part-all (laid f)
+  all-preorder : part 0 (count f) (preorder f) ≡ preorder f
+  all-preorder = ap (λ n. part 0 n (preorder f)) (sym (length_preorder f)) ∙ part-all (preorder f)
 
-  pub whole_laid : IsLaid (part 0 (count f) (laid f))
-  whole_laid = subst (λ ts. IsLaid ts) (sym all-laid) (ap laid (planted_of_laid f))
+  pub whole_preorder : IsPreorder (part 0 (count f) (preorder f))
+  whole_preorder = subst (λ ts. IsPreorder ts) (sym all-preorder) (ap preorder (planted_of_preorder f))
 
-  pub whole_planted : planted (part 0 (count f) (laid f)) ≡ f
-  whole_planted = ap planted all-laid ∙ planted_of_laid f
+  pub whole_planted : planted (part 0 (count f) (preorder f)) ≡ f
+  whole_planted = ap planted all-preorder ∙ planted_of_preorder f
 
 -- the route at an index of the walk, with the keys below it and after it
 pub record IsKeyed (f : Forest TreeRoute) (at to end : ℕ) (x : Child) (above : List ℕ) : Type 0 where
   pub ends : end ≤ to
-  pub below : IsLaid (part (at + 1) end (laid f))
-  pub after : IsLaid (part end to (laid f))
-  pub keys : keys_below above (planted (part at to (laid f)))
-      ≡ key_below above x.matchers ∷ (keys_below (key_below above x.matchers) (planted (part (at + 1) end (laid f))) ++ keys_below above (planted (part end to (laid f))))
+  pub below : IsPreorder (part (at + 1) end (preorder f))
+  pub after : IsPreorder (part end to (preorder f))
+  pub keys : keys_below above (planted (part at to (preorder f)))
+      ≡ key_below above x.matchers ∷ (keys_below (key_below above x.matchers) (planted (part (at + 1) end (preorder f))) ++ keys_below above (planted (part end to (preorder f))))
 
 pub keyed_here : (f : Forest TreeRoute) (at to below : ℕ) (x : Child) (above : List ℕ) → at < to → to ≤ count f
-    → x ≡ get_or (map (λ r. r.child) (listed f)) at x → below ≡ get_or (map (λ t. t.1) (laid f)) at 0 → IsLaid (part at to (laid f))
+    → x ≡ get_or (map (λ r. r.child) (listed f)) at x → below ≡ get_or (map (λ t. t.1) (preorder f)) at 0 → IsPreorder (part at to (preorder f))
     → IsKeyed f at to (at + 1 + below) x above
-keyed_here f at to below x above before within here below-is is_laid =
-    let ts : List (TreeRoute × ℕ) = laid f in
+keyed_here f at to below x above before within here below-is is_preorder =
+    let ts : List (TreeRoute × ℕ) = preorder f in
     let d : TreeRoute × ℕ = (plain x, 0) in
-    let long : at < length ts = omega (arith, length_laid f) in
+    let long : at < length ts = omega (arith, length_preorder f) in
     let child : (get_or ts at d).0.child ≡ x =
-    sym (get_or-map (λ (t : TreeRoute × ℕ). t.0.child) ts at d x long) ∙ ap (λ cs. get_or cs at x) (children_laid f) ∙ sym here in
+    sym (get_or-map (λ (t : TreeRoute × ℕ). t.0.child) ts at d x long) ∙ ap (λ cs. get_or cs at x) (children_preorder f) ∙ sym here in
     let size : below ≡ (get_or ts at d).1 = below-is ∙ get_or-map (λ (t : TreeRoute × ℕ). t.1) ts at d 0 long in
-    let o = opened ts at to d before (omega (arith, length_laid f)) is_laid in
+    let o = opened ts at to d before (omega (arith, length_preorder f)) is_preorder in
     let e : at + 1 + (get_or ts at d).1 ≡ at + 1 + below = ap (λ n. at + 1 + n) (sym size) in
     record {
       ends = subst (λ n. n ≤ to) e o.ends;
-      below = subst (λ n. IsLaid (part (at + 1) n ts)) e o.below;
-      after = subst (λ n. IsLaid (part n to ts)) e o.after;
+      below = subst (λ n. IsPreorder (part (at + 1) n ts)) e o.below;
+      after = subst (λ n. IsPreorder (part n to ts)) e o.after;
       keys =
           ap (keys_below above) o.whole
           ∙ (λ i. key_below above (child i).matchers ∷ (keys_below (key_below above (child i).matchers) (planted (part (at + 1) (e i) ts)) ++ keys_below above (planted (part (e i) to ts))));
@@ -60,14 +60,14 @@ keyed_here f at to below x above before within here below-is is_laid =
 
 -- one route more
 pub walk_more : (f : Forest TreeRoute) (at to end : ℕ) (x : Child) (above : List ℕ) → IsKeyed f at to end x above
-    → (keys pushed more whole : List (List ℕ)) → keys ++ keys_below above (planted (part at to (laid f))) ≡ whole
+    → (keys pushed more whole : List (List ℕ)) → keys ++ keys_below above (planted (part at to (preorder f))) ≡ whole
     → pushed ≡ keys ++ key_below above x.matchers ∷ []
-    → more ≡ pushed ++ keys_below (key_below above x.matchers) (planted (part (at + 1) end (laid f)))
-    → more ++ keys_below above (planted (part end to (laid f))) ≡ whole
+    → more ≡ pushed ++ keys_below (key_below above x.matchers) (planted (part (at + 1) end (preorder f)))
+    → more ++ keys_below above (planted (part end to (preorder f))) ≡ whole
 walk_more f at to end x above is keys pushed more whole so_far one rest =
     let own = key_below above x.matchers in
-    let below = keys_below own (planted (part (at + 1) end (laid f))) in
-    let after = keys_below above (planted (part end to (laid f))) in
+    let below = keys_below own (planted (part (at + 1) end (preorder f))) in
+    let after = keys_below above (planted (part end to (preorder f))) in
     ap (λ ks. ks ++ after) (rest ∙ ap (λ ks. ks ++ below) one)
     ∙ append_assoc (keys ++ own ∷ []) below after
     ∙ append_assoc keys (own ∷ []) (below ++ after)
@@ -76,9 +76,9 @@ walk_more f at to end x above is keys pushed more whole so_far one rest =
 
 -- no route is left
 pub walk_all : (f : Forest TreeRoute) (at to : ℕ) (above : List ℕ) (keys whole : List (List ℕ)) → to ≤ at
-    → keys ++ keys_below above (planted (part at to (laid f))) ≡ whole → keys ≡ whole
+    → keys ++ keys_below above (planted (part at to (preorder f))) ≡ whole → keys ≡ whole
 walk_all f at to above keys whole past so_far =
-    sym (append-nil keys) ∙ sym (ap (λ ts. keys ++ keys_below above (planted ts)) (part-none (laid f) at to past)) ∙ so_far
+    sym (append-nil keys) ∙ sym (ap (λ ts. keys ++ keys_below above (planted ts)) (part-none (preorder f) at to past)) ∙ so_far
 
 length_keys_below : (above : List ℕ) (f : Forest TreeRoute) → length (keys_below above f) ≡ count f
 length_keys_below above bare = refl

@@ -12,7 +12,7 @@ use Rattle.am_model.specs.declared.record.Record.{Record}
 use Rattle.am_model.specs.declared.record.Reply.TheVariants as reply_is
 use Rattle.am_model.specs.look_back.Entry.{firing_alerts_in, resolved_alerts_in, logs}
 use Rattle.am_model.specs.Records.{entry}
-use Rattle.am_model.specs.look_back.Laws.{alerts_in, is_delivered_to, reports_delivery, LogsDelivered, was_delivered, IsOneFlushAtATime, IsNotifiedRightly, wants_resolved, IsNoticeFound, IsReplyFound}
+use Rattle.am_model.specs.look_back.Laws.{alerts_in, is_delivered_to, reports_delivery, LogsDelivered, was_delivered, IsOneFlushAtATime, NotifiesWhomNeeded, wants_resolved, IsNoticeFound, IsReplyFound}
 use Rattle.am_model.specs.look_back.Past.{past_of}
 use Rattle.am_model.specs.Replay.{IsLegal, reply, replay}
 use Rattle.am_model.proofs.lists.Distinct.{all_to}
@@ -137,8 +137,8 @@ taken_while_open law = false≢true (sym (law.none_open group_a refl))
 
 -- ---- a begin notifies exactly whom it should
 
-notified_too_soon : IsNotifiedRightly base (flush_hook 330_000 2 group_a 630_000 (a ∷ []) []) (past_of first_notice) → ⊥
+notified_too_soon : NotifiesWhomNeeded base (flush_hook 330_000 2 group_a 630_000 (a ∷ []) []) (past_of first_notice) → ⊥
 notified_too_soon law = false≢true (ap is_empty (law group_a refl))
 
-not_notified : IsNotifiedRightly base (quiet 30_000 group_a 0) (past_of (insert 0 a 1 1 1 ∷ [])) → ⊥
+not_notified : NotifiesWhomNeeded base (quiet 30_000 group_a 0) (past_of (insert 0 a 1 1 1 ∷ [])) → ⊥
 not_notified law = false≢true (sym (ap is_empty (law group_a refl)))

@@ -85,7 +85,7 @@ few_inserted config s t a known none =
       | false ↦
           elim (makes_too_many config s a) as (λ b. makes_too_many config s a ≡ b → (if b then Some TooManyGroups else None) ≡ None → length (after_insert config s t a).groups ≤ config.limits.groups) [
             | true ↦ λ e h. absurd (cc)
-            | false ↦ λ e h. let room : length s.groups + (inserted config s a).made ≤ config.limits.groups = grind (arith, nat_tests, e) in omega (arith, few, made, room)
+            | false ↦ λ e h. let space : length s.groups + (inserted config s a).made ≤ config.limits.groups = grind (arith, nat_tests, e) in omega (arith, few, made, space)
           ] refl
     ] none
 

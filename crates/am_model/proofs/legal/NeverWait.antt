@@ -1,5 +1,5 @@
--- Each open flush has a group of its own, and so has the group that a begin takes. So where as many flushes may be open as there may be
--- groups, no begin waits for a finish.
+-- Each open flush has a group of its own, and so has the group that a begin takes. So where the limit of open flushes is that of groups,
+-- no begin waits for a finish.
 use Rattle.std.proofs.Common.{◌≡◌, ℕ, ◌+◌, ◌≤◌, Bool, true, false, not, ◌&&◌, ◌||◌, Option, Some, None, List, [], ◌∷◌, length, map, refl, sym, ap, ◌∙◌, subst, arith, if◌then◌else◌}
 use Rattle.std.specs.Prelude.{All, IsTrue, filter, find, nat_le, unwrap_or}
 use Rattle.std.specs.List.{list_any, AllByRecursion, IsDistinct}

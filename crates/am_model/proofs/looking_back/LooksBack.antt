@@ -1,7 +1,7 @@
 -- What looking back says of every legal history, in one.
 use Rattle.am_model.specs.look_back.Laws.{EveryLegalHistory, LooksBack}
 use Rattle.am_model.proofs.looking_back.alerts.AlertsShown.{shown_alerts_are_found}
-use Rattle.am_model.proofs.looking_back.reasons.NotifiedRightly.{begins_notify_exactly_whom_needed, notices_list_present_alerts}
+use Rattle.am_model.proofs.looking_back.reasons.WhomNeeded.{begins_notify_exactly_whom_needed, notices_list_present_alerts}
 use Rattle.am_model.proofs.looking_back.flushes.BeginIntervals.{begins_keep_the_interval}
 use Rattle.am_model.proofs.legal.Consistent.{consistent_replay}
 use Rattle.am_model.proofs.looking_back.flushes.FlushesOnce.{flushes_end_once}

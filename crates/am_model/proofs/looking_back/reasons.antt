@@ -2,4 +2,4 @@ pub mod Chains
 pub mod Previews
 pub mod ReasonsAreExact
 pub mod ReasonsSay
-pub mod NotifiedRightly
+pub mod WhomNeeded

@@ -156,7 +156,7 @@ RowsWereDelivered config history =
 -- ---- loaded only over what is earlier
 
 -- a load is allowed, and returns what becomes of its row by the entry that follows from the past
-pub record IsLoadedRightly (config : Config) (r : Record) (past : Past) (row : RowView) : Type 0 where
+pub record IsLoadedOverEarlier (config : Config) (r : Record) (past : Past) (row : RowView) : Type 0 where
   pub allowed : may_load config (time_at (r ∷ past)) row ≡ true
   pub returned : r.reply ≡ Loaded (loaded_over (time_at (r ∷ past)) row (entry_in config row.group row.integration past))
 
@@ -164,7 +164,7 @@ pub record IsLoadedRightly (config : Config) (r : Record) (past : Past) (row : R
 -- is of the same time or a later one
 abbrev pub LoadsPutLaterRows : Config → List Record → Type 0
 LoadsPutLaterRows config history =
-    AtEach (λ r past. (row : RowView) → row_in r.call ≡ Some row → IsLoadedRightly config r past row) (past_of history)
+    AtEach (λ r past. (row : RowView) → row_in r.call ≡ Some row → IsLoadedOverEarlier config r past row) (past_of history)
 
 -- ---- a refiring alert stays
 
@@ -254,14 +254,14 @@ notified_after config name t past =
     notified_about_after config name t past (firing_in config name t past) (resolved_in config name t past)
 
 -- a begin that takes a group notifies those that it has to notify, and no other
-abbrev pub IsNotifiedRightly : Config → Record → Past → Type 0
-IsNotifiedRightly config r past =
+abbrev pub NotifiesWhomNeeded : Config → Record → Past → Type 0
+NotifiesWhomNeeded config r past =
     (name : GroupName) → takes name r.reply ≡ true
     → map (λ n. n.integration) (notices_in r.reply) ≡ notified_after config name (time_at (r ∷ past)) past
 
 -- each begin that takes a group notifies exactly those that it has to notify
 abbrev pub BeginsNotifyExactlyWhomNeeded : Config → List Record → Type 0
-BeginsNotifyExactlyWhomNeeded config history = AtEach (IsNotifiedRightly config) (past_of history)
+BeginsNotifyExactlyWhomNeeded config history = AtEach (NotifiesWhomNeeded config) (past_of history)
 
 -- ---- the reply to a begin
 

@@ -11,7 +11,7 @@ ghost use Rattle.am_plans.specs.Expected.{AreFiringIn, AreMatchersIn, AreMatcher
 ghost use Rattle.am_plans.specs.Expected.{member_if, reason_in};
 ghost use Rattle.am_plans.specs.Expected.{SaysExactly, said_or_of};
 
-use crate::expectation::span::{read_when, refuse_beside};
+use crate::expectation::span::{read_when, refuse_together};
 use am_alerts::labels::Labels;
 use am_alerts::limits::MAX_MATCHERS;
 use am_alerts::matcher::Matcher;
@@ -51,8 +51,8 @@ fn check_exactly(item: &Object<'_, '_>) -> Result<(), InputFault>
     let Some(exactly) = item.optional("exactly") else {
         return Ok(());
     };
-    refuse_beside(item, &exactly, "firing")?;
-    refuse_beside(item, &exactly, "resolved")
+    refuse_together(item, &exactly, "firing")?;
+    refuse_together(item, &exactly, "resolved")
 }
 
 /// The matchers of a member, or else those of `of` if they represent it.

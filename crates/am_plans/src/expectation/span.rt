@@ -37,14 +37,14 @@ pub(crate) fn read_span(
     let Some(within) = item.optional("within") else {
         return read_own_span(item, until, last);
     };
-    refuse_beside(item, &within, "at")?;
-    refuse_beside(item, &within, "from")?;
-    refuse_beside(item, &within, "to")?;
+    refuse_together(item, &within, "at")?;
+    refuse_together(item, &within, "from")?;
+    refuse_together(item, &within, "to")?;
     read_within(item, &within, last, plans)
 }
 
 /// Refuses a member if another is there too.
-pub(crate) fn refuse_beside(
+pub(crate) fn refuse_together(
     item: &Object<'_, '_>,
     member: &Reader<'_, '_>,
     other: &str,

@@ -1,7 +1,7 @@
 use Rattle.std.proofs.Common.{rules, ◌≡◌, ◌-◌, ◌++◌, ◌∷◌, [], length, map, set, ap, sym, ◌∙◌}
 use Rattle.std.proofs.lemmas.List.{append-nil}
 use Rattle.am_alerts.specs.Forest.{count}
-use Rattle.am_alerts.specs.Layout.{laid}
+use Rattle.am_alerts.specs.Layout.{preorder}
 use Rattle.am_alerts.specs.Nested.{forest, settled, settled_below, settled_route}
 use Rattle.am_alerts.specs.RouteLayouts.{layout_of}
 use Rattle.am_alerts.specs.declared.route_layout.RouteLayout.{RouteLayout}
@@ -30,12 +30,12 @@ push_node-returns-clause-layouts t c =
     let at : c.len-at.result ≡ length before = search rules in
     let all : c.len.result ≡ length now = search rules in
     let route : c.in_ok-route.route ≡ above = c.in_ok-route.ensures ∙ ap (λ (d : Child × Spans). d.0.route) c.in_ok-child.ensures in
-    let was : now ≡ (before ++ leaf ∷ []) ++ map layout_of (laid below) =
+    let was : now ≡ (before ++ leaf ∷ []) ++ map layout_of (preorder below) =
     c.in_ok-push_nodes.ensures.layouts
-    ∙ ap (λ ps. ps ++ map layout_of (laid (settled_below c.in_ok-route.route (forest c.args.routes.items)))) c.in_ok-push-4.ensures.items
-    ∙ ap (λ r. (before ++ leaf ∷ []) ++ map layout_of (laid (settled_below r (forest c.args.routes.items)))) route in
+    ∙ ap (λ ps. ps ++ map layout_of (preorder (settled_below c.in_ok-route.route (forest c.args.routes.items)))) c.in_ok-push-4.ensures.items
+    ∙ ap (λ r. (before ++ leaf ∷ []) ++ map layout_of (preorder (settled_below r (forest c.args.routes.items)))) route in
     ap (λ i. set now i (let p : RouteLayout = record { below = c.len.result - i - 1; muted = muted } in p)) at
     ∙ layout_counted before now (settled_route c.args.above.now c.args.rule) leaf below (c.len.result - length before - 1) muted own was
     (ap (λ n. n - length before - 1) all)
     ∙ ap (λ ts. before ++ layout_of (settled_route c.args.above.now c.args.rule, count below) ∷ map layout_of ts)
-    (sym (append-nil (laid below)))
+    (sym (append-nil (preorder below)))

@@ -1,6 +1,6 @@
 use Rattle.std.proofs.Common.{◌≡◌, ◌+◌, ◌-◌, ◌*◌, ◌≤◌, ◌++◌}
 use Rattle.am_alerts.specs.Layout.{planted}
-use Rattle.am_alerts.specs.RouteLayouts.{IsLaid, paired, part}
+use Rattle.am_alerts.specs.RouteLayouts.{IsPreorder, paired, part}
 use Rattle.am_alerts.specs.RoutingTree.{matching}
 use Rattle.am_alerts.proofs.routes.+search.Given as goal
 
@@ -15,7 +15,7 @@ abbrev pub invariant-push_matching-loop-at : goal.invariant-push_matching-loop-a
 invariant-push_matching-loop-at l = record {
   begun : l.from ≤ l.at;
   ordered : l.at ≤ l.to;
-  laid : IsLaid (part l.at l.to (paired l.children l.layouts));
+  preorder : IsPreorder (part l.at l.to (paired l.children l.layouts));
   so_far : l.found.items ++ matching (l.at + 1) (planted (part l.at l.to (paired l.children l.layouts))) l.labels
       ≡ l.initial.found.items ++ matching (l.from + 1) (planted (part l.from l.to (paired l.children l.layouts))) l.labels;
 }

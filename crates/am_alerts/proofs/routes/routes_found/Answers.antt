@@ -1,16 +1,16 @@
 use Rattle.std.proofs.Common.{rules, ◌≡◌, ◌<◌, [], arith, length, refl, subst, sym, ap, ◌∙◌}
 use Rattle.std.proofs.lemmas.List.{nil_from_length}
 use Rattle.am_alerts.specs.Layout.{planted}
-use Rattle.am_alerts.specs.RouteLayouts.{IsLaid, paired}
+use Rattle.am_alerts.specs.RouteLayouts.{IsPreorder, paired}
 use Rattle.am_alerts.specs.RoutingTree.{matching}
 use Rattle.am_alerts.proofs.Layouts.{part_paired}
 use Rattle.am_alerts.proofs.Searches.{or_self-none, or_self-some}
 use Rattle.am_alerts.proofs.routes.routes_found.Goals as goal
 use Rattle.am_alerts.proofs.routes.routes_found.Goals.{then-is_empty+in_ok-push, else-is_empty}
 
-pub push_matching-requires-clause-laid : goal.push_matching-requires-clause-laid
-push_matching-requires-clause-laid c =
-    subst (λ ts. IsLaid ts) (sym (part_paired c.args.children.now c.args.layouts.now)) c.requires.laid
+pub push_matching-requires-clause-preorder : goal.push_matching-requires-clause-preorder
+push_matching-requires-clause-preorder c =
+    subst (λ ts. IsPreorder ts) (sym (part_paired c.args.children.now c.args.layouts.now)) c.requires.preorder
 
 pub returns : goal.returns
 returns c =

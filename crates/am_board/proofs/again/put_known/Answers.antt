@@ -45,5 +45,5 @@ returns c =
       flushes = refl;
       history = c.in_ok-reserve.ensures.items;
       records = c.in_ok-reserve.ensures.len;
-      room = omega (arith, c.in_ok-reserve.ensures.ok, c.in_ok-reserve.ensures.len, c.len.ensures, s.flushes.ok.0);
+      space = omega (arith, c.in_ok-reserve.ensures.ok, c.in_ok-reserve.ensures.len, c.len.ensures, s.flushes.ok.0);
     }

@@ -10,8 +10,8 @@ use Rattle.am_board.proofs.begin.begin_planned.Goals as goal
 pub begin_flush-requires-clause-none : goal.begin_flush-requires-clause-none
 begin_flush-requires-clause-none c = subst (λ (o : Option PlannedFlush). IfSome o (λ p. vec_len p.outcomes ≡ 0)) c.in-Some.is c.requires.none
 
-pub begin_flush-requires-clause-room : goal.begin_flush-requires-clause-room
-begin_flush-requires-clause-room c = subst (λ (o : Option PlannedFlush). IfSome o (λ p. vec_len p.notices ≤ vec_capacity p.outcomes)) c.in-Some.is c.requires.room
+pub begin_flush-requires-clause-space : goal.begin_flush-requires-clause-space
+begin_flush-requires-clause-space c = subst (λ (o : Option PlannedFlush). IfSome o (λ p. vec_len p.notices ≤ vec_capacity p.outcomes)) c.in-Some.is c.requires.space
 
 pub begin_flush-requires-clause-few : goal.begin_flush-requires-clause-few
 begin_flush-requires-clause-few c = subst (λ (o : Option PlannedFlush). IfSome o (λ p. vec_len p.notices ≤ MAX_INTEGRATIONS)) c.in-Some.is c.requires.few

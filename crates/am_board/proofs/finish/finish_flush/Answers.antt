@@ -74,5 +74,5 @@ returns-clause-accepted c config good id o =
       next_number = refl;
       history = history;
       records = c.push_reserved.ensures.len;
-      room = c.push_reserved.ensures.capacity;
+      space = c.push_reserved.ensures.capacity;
     }))

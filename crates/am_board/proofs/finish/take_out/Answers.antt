@@ -12,7 +12,7 @@ use Rattle.am_model.specs.State.{GroupState, same_name, is_named, members_in}
 use Rattle.am_model.specs.declared.group.GroupName.{GroupName}
 use Rattle.am_board.specs.declared.group.Group.{Group}
 use Rattle.am_board.proofs.lemmas.insert.Found.{names_apart, same_indexes}
-use Rattle.am_board.proofs.lemmas.insert.GroupRoom.{named_at}
+use Rattle.am_board.proofs.lemmas.insert.GroupSpace.{named_at}
 use Rattle.am_board.proofs.lemmas.invariant.GroupNames.{names_set, states_set}
 use Rattle.am_board.proofs.lemmas.invariant.Marks.{marked_close, marked_missing}
 use Rattle.am_board.proofs.lemmas.finish.TakenOut.{members-found, members-missing, changed-missing, changed-found, none-leave, groups-stay}

@@ -66,7 +66,7 @@ returns-clause-forgot c =
         marked = c.requires.good.marked;
         history = c.push_reserved.ensures.items ∙ ap (λ h. h ++ entry c.args.pass (Forget c.args.now) (Forgotten (record { alerts = c.drop_idle-2.result; silences = c.drop_over.result })) ∷ []) c.in_ok-reserve.ensures.items;
         records = omega arith;
-        room = omega (arith, c.in_ok-reserve.ensures.ok, c.in_ok-reserve.ensures.len, c.push_reserved.ensures.len, c.push_reserved.ensures.capacity, c.len.ensures);
+        space = omega (arith, c.in_ok-reserve.ensures.ok, c.in_ok-reserve.ensures.len, c.push_reserved.ensures.len, c.push_reserved.ensures.capacity, c.len.ensures);
       },
     )
 

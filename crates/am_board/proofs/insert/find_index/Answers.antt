@@ -7,7 +7,7 @@ use Rattle.am_board.specs.Refinement.{state_of}
 use Rattle.am_board.proofs.lemmas.insert.Inserting.{answer_names, names_many, names_few, names_known, none_negated}
 use Rattle.am_board.proofs.insert.find_index.Goals as goal
 use Rattle.am_board.proofs.insert.find_index.Goals.{else-is_none-via-then-is_none+else-len-config, else-is_none-via-else-is_none}
-use Rattle.am_board.proofs.lemmas.invariant.Staying.{has_room}
+use Rattle.am_board.proofs.lemmas.invariant.Staying.{has_space}
 
 abbrev found : List Label → List AlertData → Option ℕ
 found labels alerts = position (λ a. same_label_set labels a.labels) alerts
@@ -22,10 +22,10 @@ returns-then-len-config c =
     record {
       index = tt;
       within = tt;
-      room = tt;
+      space = tt;
       names = tt;
       refused = answer_names c.args.config.now (vec_len c.args.state.now.history) (state_of c.args.state.now) c.args.alert.now
-          (has_room c.args.config.now c.args.state.now (c.has_room.ensures.0 c.if-not-has_room.false))
+          (has_space c.args.config.now c.args.state.now (c.has_space.ensures.0 c.if-not-has_space.false))
           (names_many c.args.config.now (state_of c.args.state.now) c.args.alert.now c.find-index.result index (none_negated c.find-index.result c.is_none.result c.is_none.ensures ∙ c.if-is_none.true) (omega arith));
     }
 
@@ -33,8 +33,8 @@ pub returns-clause-index : goal.returns-clause-index
 returns-clause-index c =
     of_labels c.args.alert.now.labels c.labels.result.now c.args.state.now.known.items _ c.labels.ensures.labels c.find-index.ensures.index
 
-pub returns-clause-room : goal.returns-clause-room
-returns-clause-room c = has_room c.args.config.now c.args.state.now (c.has_room.ensures.0 c.if-not-has_room.false)
+pub returns-clause-space : goal.returns-clause-space
+returns-clause-space c = has_space c.args.config.now c.args.state.now (c.has_space.ensures.0 c.if-not-has_space.false)
 
 pub returns-clause-names : goal.returns-clause-names
 returns-clause-names c =

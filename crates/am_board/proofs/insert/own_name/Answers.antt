@@ -2,7 +2,7 @@ use Rattle.std.proofs.Common.{◌≡◌, ◌∙◌, sym, ap, subst}
 use Rattle.std.specs.Prelude.{IfOk}
 use Rattle.am_board.specs.declared.group.Group.{Group}
 use Rattle.am_model.specs.declared.group.GroupName.{GroupName}
-use Rattle.am_board.proofs.lemmas.insert.GroupRoom.{named_at}
+use Rattle.am_board.proofs.lemmas.insert.GroupSpace.{named_at}
 use Rattle.am_board.proofs.insert.own_name.Goals as goal
 
 pub returns-in-Some : goal.returns-in-Some

@@ -41,7 +41,7 @@ returns-then-len-made c =
     let s : kept.State = c.args.state.now in
     let is = c.requires.found in
     let made = made_of config s c.args.alert c.args.found c.as_slice.result.now c.count_missing-made.result is c.as_slice.ensures.value c.count_missing-made.ensures in
-    (answer_groups config (vec_len s.history) (state_of s) c.args.alert is.room is.few (makes_many config s c.args.alert c.count_missing-made.result made (omega (arith, c.if-len-made.true, c.len.ensures.len))), stays_itself config s c.requires.good)
+    (answer_groups config (vec_len s.history) (state_of s) c.args.alert is.space is.few (makes_many config s c.args.alert c.count_missing-made.result made (omega (arith, c.if-len-made.true, c.len.ensures.len))), stays_itself config s c.requires.good)
 
 pub reserve_insert-requires-clause-distinct : goal.reserve_insert-requires-clause-distinct
 reserve_insert-requires-clause-distinct c = names_apart c.args.state.now.groups.items c.requires.good.consistent.groups
@@ -90,9 +90,9 @@ returns c =
     let logged : All (IsPrepared config new.log) reserved.flushes.items = subst (λ log. All (IsPrepared config log) reserved.flushes.items) (sym c.put_prepared.ensures.log) still.prepared in
     let flushes : deque_len new.flushes ≡ deque_len reserved.flushes = ap deque_len c.put_prepared.ensures.flushes in
     let records : vec_len new.history ≡ vec_len reserved.history = ap (λ (rs : Vec Record Global). vec_len rs) c.put_prepared.ensures.history in
-    let room : vec_capacity new.history ≡ vec_capacity reserved.history = ap (λ (rs : Vec Record Global). vec_capacity rs) c.put_prepared.ensures.history in
+    let space : vec_capacity new.history ≡ vec_capacity reserved.history = ap (λ (rs : Vec Record Global). vec_capacity rs) c.put_prepared.ensures.history in
     let added : Record = entry c.args.pass (call.Insert c.args.now alert) (reply.Inserted (record { stamp = s.inserts + 1; groups = c.len-2.result; made = c.count_missing-made.result })) in (
-      no_cause config (vec_len s.history) (state_of s) alert is.room is.few (makes_few config s alert c.count_missing-made.result made (omega (arith, c.if-len-made.false, c.len.ensures.len))),
+      no_cause config (vec_len s.history) (state_of s) alert is.space is.few (makes_few config s alert c.count_missing-made.result made (omega (arith, c.if-len-made.false, c.len.ensures.len))),
       λ id. record {
         returned = ap (λ (returned : Inserted). Some (reply.Inserted returned)) (inserted_is config (state_of s) alert c.len-2.result c.count_missing-made.result groups made);
         state = agrees_same _ _ (insert_leaves config s reserved new c.time-t.result c.args.now alert c.in_ok-copy.copy placements (c.put_prepared.ensures.state config) kept c.in_ok-copy.ensures c.time-t.ensures c.requires.good.consistent.clock placed names);
@@ -101,6 +101,6 @@ returns c =
         marked = subst (λ (os : List OpenFlush). AreMarked (map flush_state os) new.groups.items) (ap deque_items (sym c.put_prepared.ensures.flushes)) (λ name. c.put_prepared.ensures.marks name ∙ still.marked name);
         history = c.push_reserved.ensures.items ∙ ap (λ (rs : List Record). rs ++ added ∷ []) (ap (λ (rs : Vec Record Global). rs.items) c.put_prepared.ensures.history ∙ kept.history);
         records = omega (arith, c.push_reserved.ensures.len, records, kept.records);
-        room = omega (arith, c.push_reserved.ensures.len, c.push_reserved.ensures.capacity, records, room, flushes, ready.records);
+        space = omega (arith, c.push_reserved.ensures.len, c.push_reserved.ensures.capacity, records, space, flushes, ready.records);
       },
     )

@@ -5,12 +5,12 @@ use Rattle.am_model.specs.declared.group.GroupName.{GroupName}
 use Rattle.am_model.specs.Insert.{wait_of, new_group, group_with}
 use Rattle.am_board.specs.Refinement.{group_state}
 use Rattle.am_board.specs.declared.group.Group.{Group}
-use Rattle.am_board.specs.Group.{names_of, HasRoom}
+use Rattle.am_board.specs.Group.{names_of, HasSpace}
 use Rattle.am_board.specs.Inserting.{index_in}
-use Rattle.am_board.proofs.lemmas.invariant.GroupNames.{names_set, names-push, room_other, room_push}
+use Rattle.am_board.proofs.lemmas.invariant.GroupNames.{names_set, names-push, space_other, space_push}
 use Rattle.std.specs.Prelude.{IfSome}
 use Rattle.am_board.proofs.lemmas.insert.Found.{found_within}
-use Rattle.am_board.proofs.lemmas.insert.GroupRoom.{named_at}
+use Rattle.am_board.proofs.lemmas.insert.GroupSpace.{named_at}
 use Rattle.am_board.proofs.lemmas.insert.Placing.{put_group_at, put_group_new, new_group_is}
 use Rattle.am_board.proofs.insert.put_placement.Goals as goal
 use Rattle.am_board.proofs.insert.put_placement.Goals.{In-Some}
@@ -30,11 +30,11 @@ named c d = named_at c.args.placement.name c.args.groups.now.items c.in-Some.i d
 pub insert-requires-clause-index : goal.insert-requires-clause-index
 insert-requires-clause-index c = inside ((goal.at.insert-requires-clause-index c).In-Some)
 
-pub insert-requires-clause-room : goal.insert-requires-clause-room
-insert-requires-clause-room c d = let at = (goal.at.insert-requires-clause-room c).In-Some in c.requires.room c.in-Some.i d (inside at) (named at d)
+pub insert-requires-clause-space : goal.insert-requires-clause-space
+insert-requires-clause-space c d = let at = (goal.at.insert-requires-clause-space c).In-Some in c.requires.space c.in-Some.i d (inside at) (named at d)
 
 pub returns-in-Some-clause-spare : goal.returns-in-Some-clause-spare
-returns-in-Some-clause-spare c = omega (arith, c.insert.ensures.room)
+returns-in-Some-clause-spare c = omega (arith, c.insert.ensures.space)
 
 pub returns-in-Some-clause-names : goal.returns-in-Some-clause-names
 returns-in-Some-clause-names c =
@@ -52,12 +52,12 @@ differ : (a b : GroupName) → (a.route == b.route) ≡ false → b ≡ a → �
 differ a b apart same = true≢false (sym (nat_eq_equiv.refl a.route) ∙ ap (λ (n : GroupName). a.route == n.route) (sym same) ∙ apart)
 
 pub returns-in-Some-clause-others : goal.returns-in-Some-clause-others
-returns-in-Some-clause-others c name apart room =
+returns-in-Some-clause-others c name apart space =
     let group = c.insert.ensures in
     let spot = (goal.at.returns-in-Some-clause-others c).In-Some in
     let of_name : group.to.name ≡ c.args.placement.name = group.name ∙ ap (λ (g : Group). g.name) group.was ∙ named spot group.from in
-    subst (HasRoom 1 name) (sym group.items)
-    (room_other 1 name c.args.groups.now.items c.in-Some.i group.to (inside spot) (λ same. differ name c.args.placement.name apart (sym of_name ∙ same)) room)
+    subst (HasSpace 1 name) (sym group.items)
+    (space_other 1 name c.args.groups.now.items c.in-Some.i group.to (inside spot) (λ same. differ name c.args.placement.name apart (sym of_name ∙ same)) space)
 
 pub returns-in-Some-clause-state : goal.returns-in-Some-clause-state
 returns-in-Some-clause-state c config m early is =
@@ -86,9 +86,9 @@ returns-in-None-clause-marks c name =
     ap (λ gs. is_marked (marks_of gs) name) c.add.ensures.items ∙ marked_push c.args.groups.now.items c.insert-in-None.new.self c.insert-in-None.ensures.opened name
 
 pub returns-in-None-clause-others : goal.returns-in-None-clause-others
-returns-in-None-clause-others c name apart room =
-    subst (HasRoom 1 name) (sym c.add.ensures.items)
-    (room_push 1 name c.args.groups.now.items c.insert-in-None.new.self (λ same. differ name c.args.placement.name apart (sym c.insert-in-None.ensures.name ∙ same)) room)
+returns-in-None-clause-others c name apart space =
+    subst (HasSpace 1 name) (sym c.add.ensures.items)
+    (space_push 1 name c.args.groups.now.items c.insert-in-None.new.self (λ same. differ name c.args.placement.name apart (sym c.insert-in-None.ensures.name ∙ same)) space)
 
 pub returns-in-None-clause-state : goal.returns-in-None-clause-state
 returns-in-None-clause-state c config m early is =

@@ -5,14 +5,14 @@ use Rattle.std.proofs.lemmas.List.Elements.{All-pop}
 use Rattle.std.proofs.lemmas.List.Sorted.{All-permutation}
 use Rattle.std.proofs.lemmas.Cmp.{nat_eq_equiv}
 use Rattle.std.proofs.lemmas.Map.Keys.{IsDistinct-IsPermutation}
-use Rattle.am_board.proofs.lemmas.insert.Found.{found_rest, room_rest}
+use Rattle.am_board.proofs.lemmas.insert.Found.{found_rest, space_rest}
 use Rattle.am_model.proofs.lists.Distinct.{IsDistinct-last}
 use Rattle.am_alerts.specs.RoutingTree.{last_of}
 use Rattle.am_board.specs.declared.insert.Placement.{Placement}
-use Rattle.am_board.specs.Group.{names_of, HasRoom}
+use Rattle.am_board.specs.Group.{names_of, HasSpace}
 use Rattle.am_model.specs.Insert.{put_into_group}
 use Rattle.am_board.specs.Refinement.{group_state}
-use Rattle.am_board.specs.Inserting.{IsEmptyWithRoom, IsFound, AreApart, target_of, IsPlacementOf}
+use Rattle.am_board.specs.Inserting.{IsEmptyWithSpace, IsFound, AreApart, target_of, IsPlacementOf}
 use Rattle.am_board.proofs.lemmas.invariant.GroupNames.{routed_added}
 use Rattle.am_board.proofs.insert.put_placements.Goals as goal
 
@@ -24,8 +24,8 @@ loop-placement-init c =
     let count : vec_len c.reverse.new.self ≡ vec_len c.args.placements = c.reverse.ensures.len in
     record {
       spare = omega (arith, c.requires.spare, count);
-      room = moved (λ p. HasRoom 1 p.name c.args.groups.now.items) given turned c.reverse.ensures.permutation c.requires.room;
-      ready = moved IsEmptyWithRoom given turned c.reverse.ensures.permutation c.requires.ready;
+      space = moved (λ p. HasSpace 1 p.name c.args.groups.now.items) given turned c.reverse.ensures.permutation c.requires.space;
+      ready = moved IsEmptyWithSpace given turned c.reverse.ensures.permutation c.requires.ready;
       found = moved (λ p. IsFound c.args.groups.now.items (target_of p)) given turned c.reverse.ensures.permutation c.requires.found;
       apart = IsDistinct-IsPermutation (λ p q. p.name.route == q.name.route) (λ p q. nat_eq_equiv.symm p.name.route q.name.route) given turned c.reverse.ensures.permutation c.requires.apart;
       routed = λ tree groups placements. (groups, moved (λ p. p.name.route ≤ last_of tree) given turned c.reverse.ensures.permutation placements);
@@ -36,13 +36,13 @@ loop-placement-init c =
       );
     }
 
-pub put_placement-requires-clause-room : goal.put_placement-requires-clause-room
-put_placement-requires-clause-room c =
-    (All-pop (λ (p : Placement). HasRoom 1 p.name c.loop-placement.groups.items) c.loop-placement.placements.items c.pop.new.self.items (Some c.in-Some.placement) c.in-Some.ensures.items c.loop-placement.invariant.room).1
+pub put_placement-requires-clause-space : goal.put_placement-requires-clause-space
+put_placement-requires-clause-space c =
+    (All-pop (λ (p : Placement). HasSpace 1 p.name c.loop-placement.groups.items) c.loop-placement.placements.items c.pop.new.self.items (Some c.in-Some.placement) c.in-Some.ensures.items c.loop-placement.invariant.space).1
 
 pub put_placement-requires-clause-ready : goal.put_placement-requires-clause-ready
 put_placement-requires-clause-ready c =
-    (All-pop IsEmptyWithRoom c.loop-placement.placements.items c.pop.new.self.items (Some c.in-Some.placement) c.in-Some.ensures.items c.loop-placement.invariant.ready).1
+    (All-pop IsEmptyWithSpace c.loop-placement.placements.items c.pop.new.self.items (Some c.in-Some.placement) c.in-Some.ensures.items c.loop-placement.invariant.ready).1
 
 pub put_placement-requires-clause-found : goal.put_placement-requires-clause-found
 put_placement-requires-clause-found c =
@@ -55,15 +55,15 @@ loop-placement-preserved c =
     let x : Placement = c.in-Some.placement in
     let popped : c.loop-placement.placements.items ≡ rest ++ x ∷ [] = c.in-Some.ensures.items in
     let counted : vec_len c.loop-placement.placements ≡ suc n = omega (arith, c.in-Some.ensures.len) in
-    let rooms = All-pop (λ (p : Placement). HasRoom 1 p.name c.loop-placement.groups.items) c.loop-placement.placements.items rest (Some x) popped c.loop-placement.invariant.room in
-    let readies = All-pop IsEmptyWithRoom c.loop-placement.placements.items rest (Some x) popped c.loop-placement.invariant.ready in
+    let spaces = All-pop (λ (p : Placement). HasSpace 1 p.name c.loop-placement.groups.items) c.loop-placement.placements.items rest (Some x) popped c.loop-placement.invariant.space in
+    let readies = All-pop IsEmptyWithSpace c.loop-placement.placements.items rest (Some x) popped c.loop-placement.invariant.ready in
     let founds = All-pop (λ (p : Placement). IsFound c.loop-placement.groups.items (target_of p)) c.loop-placement.placements.items rest (Some x) popped c.loop-placement.invariant.found in
     let last = IsDistinct-last (λ (p q : Placement). p.name.route == q.name.route) rest x (subst AreApart popped c.loop-placement.invariant.apart) in
     record {
       found = found_rest x.name c.loop-placement.groups.items c.put_placement.new.groups.items c.put_placement.ensures.names rest last.1 founds.0;
       apart = last.0;
       spare = omega (arith, c.put_placement.ensures.spare, c.loop-placement.invariant.spare, counted);
-      room = room_rest x.name c.loop-placement.groups.items c.put_placement.new.groups.items c.put_placement.ensures.others rest last.1 rooms.0;
+      space = space_rest x.name c.loop-placement.groups.items c.put_placement.new.groups.items c.put_placement.ensures.others rest last.1 spaces.0;
       ready = readies.0;
       routed = λ tree groups placements.
           let before = c.loop-placement.invariant.routed tree groups placements in

@@ -5,7 +5,7 @@ use Rattle.am_alerts.specs.declared.limits.TheConstants.{MAX_TIME}
 use Rattle.am_board.specs.Group.{names_of, AreRouted}
 use Rattle.am_model.specs.Insert.{put_into_group}
 use Rattle.am_board.specs.Refinement.{group_state}
-use Rattle.am_board.specs.Inserting.{IsEmptyWithRoom, HaveRoom, AreFound, AreApart, AreRoutedPlacements, IsPlacementOf}
+use Rattle.am_board.specs.Inserting.{IsEmptyWithSpace, HaveSpace, AreFound, AreApart, AreRoutedPlacements, IsPlacementOf}
 use Rattle.am_model.specs.State.{MemberState}
 use Rattle.am_model.specs.declared.config.Config.{Config}
 use Rattle.am_board.proofs.insert.put_placements.Given as goal
@@ -15,9 +15,9 @@ use Rattle.am_model.specs.declared.group.GroupName.{GroupName}
 -- what is left to put has its capacity, the marks stay, and with what is left the groups are those asked for
 abbrev pub invariant-loop-placement : goal.invariant-loop-placement
 invariant-loop-placement l = record {
-  spare : vec_len l.placements ≤ l.groups.room;
-  room : HaveRoom l.groups.items l.placements.items;
-  ready : All IsEmptyWithRoom l.placements.items;
+  spare : vec_len l.placements ≤ l.groups.space;
+  space : HaveSpace l.groups.items l.placements.items;
+  ready : All IsEmptyWithSpace l.placements.items;
   found : AreFound l.groups.items l.placements.items;
   apart : AreApart l.placements.items;
   routed : (tree : RoutingTree) → AreRouted tree (names_of l.fn.groups.items) → AreRoutedPlacements tree l.fn.placements.items → AreRouted tree (names_of l.groups.items) × AreRoutedPlacements tree l.placements.items;

@@ -54,7 +54,7 @@ put_found-inserted-requires c =
     record {
       good = c.requires.good;
       found = record {
-        room = c.requires.room;
+        space = c.requires.space;
         few = c.requires.names;
         index = c.requires.index;
         within = c.requires.within;

@@ -4,7 +4,7 @@ use Rattle.std.proofs.lemmas.List.{get_or_default}
 use Rattle.am_board.specs.declared.group.Group.{Group}
 use Rattle.am_board.specs.declared.insert.Placement.{Placement}
 use Rattle.std.specs.List.{IsDistinct}
-use Rattle.am_board.specs.Group.{names_of, HasRoom}
+use Rattle.am_board.specs.Group.{names_of, HasSpace}
 use Rattle.am_board.specs.Inserting.{index_in, AreFound}
 use Rattle.am_board.proofs.lemmas.insert.Found.{still_found, found_within}
 use Rattle.am_model.specs.State.{same_name}
@@ -31,16 +31,16 @@ loop-placement-preserved c =
       marks = c.in_ok-reserve_found.ensures.marks ∙ c.loop-placement.invariant.marks;
       states = c.in_ok-reserve_found.ensures.states ∙ c.loop-placement.invariant.states;
       spare = c.in_ok-reserve_found.ensures.spare ∙ c.loop-placement.invariant.spare;
-      room = λ k d less.
-          elim (eqb k c.loop-placement.placement-index) as (λ b. eqb k c.loop-placement.placement-index ≡ b → HasRoom 1 (get_or c.args.placements.now k d).name new) [
+      space = λ k d less.
+          elim (eqb k c.loop-placement.placement-index) as (λ b. eqb k c.loop-placement.placement-index ≡ b → HasSpace 1 (get_or c.args.placements.now k d).name new) [
             | true ↦ λ e.
                 let at : c.placement-item.result.name ≡ (get_or c.args.placements.now k d).name =
                 ap (λ (p : Placement). p.name) c.placement-item.is ∙ ap (λ (p : Placement). p.name) (get_or_default c.args.placements.now c.loop-placement.placement-index c.placement-item.result d (omega arith)) ∙ ap (λ j. (get_or c.args.placements.now j d).name) (sym (eqb-true k c.loop-placement.placement-index e)) in
                 let found = at_hand c.args.placements.now c.args.groups.now.items c.loop-placement.groups.items c.loop-placement.placement-index c.placement-item.result c.loop-placement.invariant.names c.requires.found (omega arith) c.placement-item.is in
-                subst (λ n. HasRoom 1 n new) at (c.in_ok-reserve_found.ensures.room c.placement-item.result.name found)
+                subst (λ n. HasSpace 1 n new) at (c.in_ok-reserve_found.ensures.space c.placement-item.result.name found)
             | false ↦ λ e.
                 let apart : k ≢ c.loop-placement.placement-index = eqb-false k c.loop-placement.placement-index e in
-                let before = c.loop-placement.invariant.room k d (omega arith) in
+                let before = c.loop-placement.invariant.space k d (omega arith) in
                 c.in_ok-reserve_found.ensures.others 1 (get_or c.args.placements.now k d).name before
           ] refl;
     }

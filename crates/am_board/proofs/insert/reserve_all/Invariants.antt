@@ -1,5 +1,5 @@
 use Rattle.std.proofs.Common.{◌≡◌, ◌<◌, ℕ, map, get_or}
-use Rattle.am_board.specs.Group.{names_of, HasRoom}
+use Rattle.am_board.specs.Group.{names_of, HasSpace}
 use Rattle.am_board.specs.Refinement.{group_state}
 use Rattle.am_board.specs.declared.insert.Placement.{Placement}
 use Rattle.am_board.proofs.insert.reserve_all.Given as goal
@@ -11,6 +11,6 @@ invariant-loop-placement l = record {
   names : names_of l.groups.items ≡ names_of l.fn.groups.items;
   marks : marks_of l.groups.items ≡ marks_of l.fn.groups.items;
   states : map group_state l.groups.items ≡ map group_state l.fn.groups.items;
-  spare : l.groups.room ≡ l.fn.groups.room;
-  room : (k : ℕ) (d : Placement) → k < l.placement-index → HasRoom 1 (get_or l.placements k d).name l.groups.items;
+  spare : l.groups.space ≡ l.fn.groups.space;
+  space : (k : ℕ) (d : Placement) → k < l.placement-index → HasSpace 1 (get_or l.placements k d).name l.groups.items;
 }

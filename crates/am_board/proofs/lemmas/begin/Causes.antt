@@ -45,7 +45,7 @@ returned config id pass now old new cause (Err fault) none end = (subst (λ o. I
 
 -- ---- the causes, where the history has capacity
 
-module _ (config : Config) (s : kept.State) (now : ℕ) (t : ℕ) (at : t ≡ time (state_of s) now) (room : vec_len s.history + deque_len s.flushes + 2 ≤ config.limits.history) where
+module _ (config : Config) (s : kept.State) (now : ℕ) (t : ℕ) (at : t ≡ time (state_of s) now) (space : vec_len s.history + deque_len s.flushes + 2 ≤ config.limits.history) where
   opened : length (map flush_state s.flushes.items) ≡ deque_len s.flushes
   opened = length-map s.flushes.items flush_state ∙ sym s.flushes.ok.0
 
@@ -146,8 +146,8 @@ module _ (config : Config) (id : ℕ) (s : kept.State) (chosen : ChosenGroup) (w
   pub planned_none : IfSome o (λ p. vec_len p.outcomes ≡ 0)
   planned_none = has (λ p. vec_len p.outcomes ≡ 0) (λ p is. is.none)
 
-  pub planned_room : IfSome o (λ p. vec_len p.notices ≤ vec_capacity p.outcomes)
-  planned_room = has (λ p. vec_len p.notices ≤ vec_capacity p.outcomes) (λ p is. is.room)
+  pub planned_space : IfSome o (λ p. vec_len p.notices ≤ vec_capacity p.outcomes)
+  planned_space = has (λ p. vec_len p.notices ≤ vec_capacity p.outcomes) (λ p is. is.space)
 
   pub planned_few : HaveFewIntegrations config → IfSome o (λ p. vec_len p.notices ≤ MAX_INTEGRATIONS)
   planned_few few = has (λ p. vec_len p.notices ≤ MAX_INTEGRATIONS) few_notices
@@ -171,10 +171,10 @@ module _ (config : Config) (id : ℕ) (s : kept.State) (chosen : ChosenGroup) (g
   opens_taken : opens_by config (state_of s) chosen.t (taken (state_of s) chosen.t) ≡ notifies_some (notified_of config (state_of s) chosen.t (group_state g))
   opens_taken = ap (λ o. opens_by config (state_of s) chosen.t o) takes.first
 
-  module _ (room : vec_len s.history + deque_len s.flushes + 2 ≤ config.limits.history) where
+  module _ (space : vec_len s.history + deque_len s.flushes + 2 ≤ config.limits.history) where
     -- nobody is notified: only memory can be wanting
     cause-quiet : notified_of config (state_of s) chosen.t (group_state g) ≡ [] → begin_cause config (vec_len s.history) (state_of s) (time (state_of s) chosen.now) ≡ None
-    cause-quiet none = cause-closed config s chosen.now chosen.t takes.time room (opens_taken ∙ ap notifies_some none)
+    cause-quiet none = cause-closed config s chosen.now chosen.t takes.time space (opens_taken ∙ ap notifies_some none)
 
     -- why it is refused before anything is put
     pub planned_err : (fault : Fault)
@@ -182,9 +182,9 @@ module _ (config : Config) (id : ℕ) (s : kept.State) (chosen : ChosenGroup) (g
         → IsAnswer (begin_cause config (vec_len s.history) (state_of s) (time (state_of s) chosen.now)) fault
     planned_err fault plan =
         elim (planned (Err fault) plan) [
-          | inl memory ↦ subst (λ f. IsAnswer (begin_cause config (vec_len s.history) (state_of s) (time (state_of s) chosen.now)) f) (sym memory) (answer-memory config s chosen.now chosen.t takes.time room)
+          | inl memory ↦ subst (λ f. IsAnswer (begin_cause config (vec_len s.history) (state_of s) (time (state_of s) chosen.now)) f) (sym memory) (answer-memory config s chosen.now chosen.t takes.time space)
           | inr full ↦
-              let many = cause-many config s chosen.now chosen.t takes.time room full.2 (opens_taken ∙ notifies_some-true (notified_of config (state_of s) chosen.t (group_state g)) full.1) in
+              let many = cause-many config s chosen.now chosen.t takes.time space full.2 (opens_taken ∙ notifies_some-true (notified_of config (state_of s) chosen.t (group_state g)) full.1) in
               subst (λ o. IsAnswer o fault) (sym many) (inl full.0)
         ]
 
@@ -193,7 +193,7 @@ module _ (config : Config) (id : ℕ) (s : kept.State) (chosen : ChosenGroup) (g
         → ((d : Group) → IsPlan config id (deque_len s.flushes) (state_of s) chosen.t (group_state (slice_index_or s.groups.items chosen.index d)) (Ok o))
         → begin_cause config (vec_len s.history) (state_of s) (time (state_of s) chosen.now) ≡ None
     cause_planned None plan = cause-quiet (planned (Ok None) plan)
-    cause_planned (Some flush) plan = cause-few config s chosen.now chosen.t takes.time room (planned (Ok (Some flush)) plan).1
+    cause_planned (Some flush) plan = cause-few config s chosen.now chosen.t takes.time space (planned (Ok (Some flush)) plan).1
 
     -- the begin ends as its plan says
     pub ended : (o : Option PlannedFlush)

@@ -10,7 +10,7 @@ use Rattle.am_board.specs.Due.{key_of, IsCurrent}
 use Rattle.am_board.specs.Group.{names_of}
 use Rattle.am_board.specs.declared.due.DueKey.{DueKey}
 use Rattle.am_board.specs.declared.group.Group.{Group}
-use Rattle.am_board.proofs.lemmas.insert.GroupRoom.{named_at}
+use Rattle.am_board.proofs.lemmas.insert.GroupSpace.{named_at}
 use Rattle.am_board.proofs.lemmas.invariant.DueKeys.{fails_at, only_index}
 
 module _ (gs : List Group) (key : DueKey) where

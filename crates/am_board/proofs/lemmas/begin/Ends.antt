@@ -119,7 +119,7 @@ module _ (config : Config) (id : ℕ) (old : kept.State) (chosen : ChosenGroup) 
       → vec_len new.history ≡ vec_len old.history + 1
       → vec_len new.history + deque_len old.flushes ≤ vec_capacity new.history
       → AppliesCall config id (entry chosen.pass (Begin chosen.now) (Quiet name removed)) old new
-  accepts_quiet h name recorded removed new none left named recorded_named gone put marks is history records room =
+  accepts_quiet h name recorded removed new none left named recorded_named gone put marks is history records space =
       let named_as_before : h.name ≡ g.name = ap (λ (x : GroupState). x.name) left in
       let groups = ap (map group_state) put ∙ groups_after (λ x. without_resolved chosen.t (begun_group config chosen.t x)) h left in
       let log : new.log ≡ old.log = ap (λ (s : kept.State). s.log) is in
@@ -139,7 +139,7 @@ module _ (config : Config) (id : ℕ) (old : kept.State) (chosen : ChosenGroup) 
         marked = λ n. ap (λ ms. is_marked ms n) marks ∙ (good.marked n ∙ sym (ap (λ (s : kept.State). is_flushing (map flush_state s.flushes.items) n) is));
         history = history ∙ (λ i. old.history.items ++ entry chosen.pass (Begin chosen.now) (Quiet ((recorded_named ∙ sym named) i) removed) ∷ []);
         records = records;
-        room = subst (λ n. vec_len new.history + n ≤ vec_capacity new.history) (sym (ap (λ (s : kept.State). deque_len s.flushes) is)) room;
+        space = subst (λ n. vec_len new.history + n ≤ vec_capacity new.history) (sym (ap (λ (s : kept.State). deque_len s.flushes) is)) space;
       }
 
   -- a flush is opened: the keys of those that it notifies are known
@@ -158,7 +158,7 @@ module _ (config : Config) (id : ℕ) (old : kept.State) (chosen : ChosenGroup) 
       → vec_len new.history ≡ vec_len old.history + 1
       → vec_len new.history + deque_len new.flushes ≤ vec_capacity new.history
       → AppliesCall config id (entry chosen.pass (Begin chosen.now) (flush_reply o.number o.group o.deadline o.notices.items)) old new
-  accepts_flush h o new some planned marked open_now put is rows keeps notified flushes history records room =
+  accepts_flush h o new some planned marked open_now put is rows keeps notified flushes history records space =
       let all_notified = notified_of config (state_of old) chosen.t (group_state g) in
       let named_as_before : h.name ≡ g.name = ap (λ (x : GroupState). x.name) marked in
       let groups = ap (map group_state) put ∙ groups_after (begun_group config chosen.t) h marked in
@@ -197,5 +197,5 @@ module _ (config : Config) (id : ℕ) (old : kept.State) (chosen : ChosenGroup) 
             history
             ∙ (λ i. old.history.items ++ entry chosen.pass (Begin chosen.now) (Flush ((planned.recorded_group ∙ sym planned.group) i) (planned.recorded i)) ∷ []);
         records = records;
-        room = room;
+        space = space;
       }

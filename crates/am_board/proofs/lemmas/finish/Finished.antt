@@ -47,7 +47,7 @@ pub record IsFinished (config : Config) (old new : kept.State) (o : OpenFlush) (
   pub next_number : new.next_number ≡ old.next_number
   pub history : new.history.items ≡ old.history.items ++ r ∷ []
   pub records : vec_len new.history ≡ vec_len old.history + 1
-  pub room : vec_capacity new.history ≡ vec_capacity old.history
+  pub space : vec_capacity new.history ≡ vec_capacity old.history
 
 module _ (config : Config) (id : ℕ) (old new : kept.State) (f : ℕ) (o : OpenFlush) (within : f < length old.flushes.items) (is : o ≡ get_or old.flushes.items f o) (good : StateInvariant config old) (pass now : ℕ) (outcomes : List (ℕ × Outcome)) (result : Finished) where
   abbrev r : Record
@@ -94,5 +94,5 @@ module _ (config : Config) (id : ℕ) (old new : kept.State) (f : ℕ) (o : Open
             ∙ sym (ap (λ fs. is_flushing (map flush_state fs) n) done.flushes ∙ flushing_removed old.flushes.items f o within is good.consistent.flushes n));
         history = done.history;
         records = done.records;
-        room = omega (arith, good.room, done.less, done.records, done.room);
+        space = omega (arith, good.space, done.less, done.records, done.space);
       }

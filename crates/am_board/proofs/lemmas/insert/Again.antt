@@ -27,7 +27,7 @@ use Rattle.am_board.specs.declared.again.Spot.{Spot}
 use Rattle.am_board.specs.declared.group.Group.{Group}
 use Rattle.am_board.specs.declared.group.Member.{Member}
 use Rattle.am_board.proofs.lemmas.insert.Found.{found_within, same_indexes}
-use Rattle.am_board.proofs.lemmas.insert.GroupRoom.{named_at}
+use Rattle.am_board.proofs.lemmas.insert.GroupSpace.{named_at}
 use Rattle.am_board.proofs.lemmas.insert.Inserting.{missing_is}
 use Rattle.am_board.proofs.lemmas.insert.Placing.{put_group_at}
 use Rattle.am_board.proofs.lemmas.invariant.GroupNames.{names_set}

@@ -12,8 +12,8 @@ use Rattle.am_alerts.specs.RoutingTree.{routes_of}
 use Rattle.am_alerts.specs.declared.labels.Label.{Label}
 use Rattle.am_board.specs.declared.group.Group.{Group}
 use Rattle.am_board.specs.declared.insert.Placement.{Placement}
-use Rattle.am_board.specs.Group.{names_of, AddsAtMost, HasRoom}
-use Rattle.am_board.specs.Inserting.{index_in, IsFound, AreFound, AreApart, HaveRoom, target_of}
+use Rattle.am_board.specs.Group.{names_of, AddsAtMost, HasSpace}
+use Rattle.am_board.specs.Inserting.{index_in, IsFound, AreFound, AreApart, HaveSpace, target_of}
 use Rattle.am_board.specs.Refinement.{group_state}
 use Rattle.am_model.specs.declared.config.Config.{Config}
 use Rattle.am_model.specs.declared.group.GroupName.{GroupName}
@@ -57,12 +57,12 @@ found_rest x old new added rest others found =
     (all-both (λ p. (p.name.route == x.route) ≡ false) Was Is (λ p other at. at ∙ sym (found_more x old new added p.name other)) rest others (all_to Was rest found))
 
 -- the capacity in groups of other routes stays
-pub room_rest : (x : GroupName) (old new : List Group) → ((name : GroupName) → (name.route == x.route) ≡ false → HasRoom 1 name old → HasRoom 1 name new) → (rest : List Placement) → AllByRecursion (λ p. (p.name.route == x.route) ≡ false) rest → HaveRoom old rest → HaveRoom new rest
-room_rest x old new kept rest others had =
-    let Was : Placement → Type 0 = λ p. HasRoom 1 p.name old in
-    let Is : Placement → Type 0 = λ p. HasRoom 1 p.name new in
+pub space_rest : (x : GroupName) (old new : List Group) → ((name : GroupName) → (name.route == x.route) ≡ false → HasSpace 1 name old → HasSpace 1 name new) → (rest : List Placement) → AllByRecursion (λ p. (p.name.route == x.route) ≡ false) rest → HaveSpace old rest → HaveSpace new rest
+space_rest x old new kept rest others had =
+    let Was : Placement → Type 0 = λ p. HasSpace 1 p.name old in
+    let Is : Placement → Type 0 = λ p. HasSpace 1 p.name new in
     all_from Is rest
-    (all-both (λ p. (p.name.route == x.route) ≡ false) Was Is (λ p other room. kept p.name other room) rest others (all_to Was rest had))
+    (all-both (λ p. (p.name.route == x.route) ≡ false) Was Is (λ p other space. kept p.name other space) rest others (all_to Was rest had))
 
 -- the placements of an alert are of different routes
 routes-named : (config : Config) (labels : List Label) (rs : List ℕ) → map (λ n. n.route) (map (name_in config labels) rs) ≡ rs

@@ -20,7 +20,7 @@ use Rattle.am_model.specs.Insert.{names_for, same_alert, inserted, after_insert}
 use Rattle.am_board.specs.Group.{AreRouted}
 use Rattle.am_board.specs.Marks.{is_marked}
 use Rattle.am_board.specs.Refinement.{state_of, flush_state, group_state, IsPrepared}
-use Rattle.am_board.specs.Inserting.{IsReservedState, IsPlacementOf, AreFound, IsEmptyWithRoom, IsFound, IsToPut, index_in, target_of, stamped_alert}
+use Rattle.am_board.specs.Inserting.{IsReservedState, IsPlacementOf, AreFound, IsEmptyWithSpace, IsFound, IsToPut, index_in, target_of, stamped_alert}
 use Rattle.am_alerts.specs.RoutingTree.{RoutingTree}
 use Rattle.am_model.specs.State.{State, is_flushing, MemberState, time, has_group, is_named, same_name}
 use Rattle.am_board.specs.Step.{StateInvariant, LeavesUnchanged, IsAnswer}
@@ -107,7 +107,7 @@ module _ (tree : RoutingTree) (gs : List Group) (m : MemberState) (ps : List Pla
   pub are_found : AreFound gs ps
   are_found i d within = (are i d within).0
 
-  pub are_empty : All IsEmptyWithRoom ps
+  pub are_empty : All IsEmptyWithSpace ps
   are_empty i d within = (are i d within).1
 
   pub are_placed : All (IsPlacementOf tree m) ps
@@ -124,7 +124,7 @@ stays_reserved config old new good kept =
       marked = λ name. ap (λ ms. is_marked ms name) kept.marks ∙ (good.marked name ∙ ap (λ (os : List OpenFlush). is_flushing (map flush_state os) name) (ap deque_items (sym kept.flushes)));
       history = kept.history;
       records = kept.records;
-      room = omega (arith, good.room, kept.records, kept.capacity, ap deque_len kept.flushes);
+      space = omega (arith, good.space, kept.records, kept.capacity, ap deque_len kept.flushes);
     }
 
 -- the same, as the code counts in what it lent

@@ -48,7 +48,7 @@ again_leaves config s new t a clock inserts known groups silences log flushes nu
 pub applies_again : (config : Config) (old mid : kept.State) (pass now : ℕ) (alert : AlertData) (returned : Inserted) (pushed : Vec Record Global) → StateInvariant config old → IsPutAgain config now alert returned old mid
     → pushed.items ≡ mid.history.items ++ entry pass (call.Insert now alert) (replies.Inserted returned) ∷ [] → vec_len pushed ≡ vec_len mid.history + 1 → vec_capacity pushed ≡ vec_capacity mid.history
     → (id : ℕ) → AppliesCall config id (entry pass (call.Insert now alert) (replies.Inserted returned)) old (record mid { history = pushed })
-applies_again config old mid pass now alert returned pushed good put items counted room id =
+applies_again config old mid pass now alert returned pushed good put items counted space id =
     let r : Record = entry pass (call.Insert now alert) (replies.Inserted returned) in
     let logged : All (IsPrepared config mid.log) old.flushes.items = subst (λ log. All (IsPrepared config log) old.flushes.items) (sym put.log) good.prepared in
     record {
@@ -59,7 +59,7 @@ applies_again config old mid pass now alert returned pushed good put items count
       marked = λ name. ap (λ ms. is_marked ms name) put.marks ∙ (good.marked name ∙ ap (λ (os : List OpenFlush). is_flushing (map flush_state os) name) (ap deque_items (sym put.flushes)));
       history = items ∙ ap (λ (rs : List Record). rs ++ r ∷ []) put.history;
       records = omega (arith, counted, put.records);
-      room = omega (arith, counted, room, put.room);
+      space = omega (arith, counted, space, put.space);
     }
 
 -- ---- from a state that holds what another held
@@ -75,7 +75,7 @@ module _ (config : Config) (old mid : kept.State) (held : IsReservedState old mi
         routed = still.routed;
         prepared = still.prepared;
         marked = still.marked;
-        room = still.room;
+        space = still.space;
         few = good.few;
         retention = good.retention;
       }
@@ -89,7 +89,7 @@ module _ (config : Config) (old mid : kept.State) (held : IsReservedState old mi
     marked = applied.marked;
     history = applied.history ∙ ap (λ (rs : List Record). rs ++ r ∷ []) held.history;
     records = omega (arith, applied.records, held.records);
-    room = applied.room;
+    space = applied.space;
   }
 
   pub leaves_reserved : (new : kept.State) → LeavesUnchanged config mid new → LeavesUnchanged config old new
@@ -100,7 +100,7 @@ module _ (config : Config) (old mid : kept.State) (held : IsReservedState old mi
     marked = left.marked;
     history = left.history ∙ held.history;
     records = left.records ∙ held.records;
-    room = left.room;
+    space = left.space;
   }
 
   pub cause_reserved : (alert : AlertData) → insert_cause config (vec_len mid.history) (state_of mid) alert ≡ insert_cause config (vec_len old.history) (state_of old) alert

@@ -59,9 +59,9 @@ abbrev pub IsWithin : Config → State → kept.State → Type 0
 IsWithin config after s = IsFew config after × (deque_len s.flushes ≤ config.limits.flushes) × (vec_len s.history + deque_len s.flushes ≤ config.limits.history)
 
 -- a history that isn't full has capacity for so many records
-pub room_of : (config : Config) (records : ℕ) (s : State) (more : ℕ) {X : Type 0} (full other : Option X) → (if is_full config records s more then full else other) ≡ None → (full ≡ None → ⊥)
+pub space_of : (config : Config) (records : ℕ) (s : State) (more : ℕ) {X : Type 0} (full other : Option X) → (if is_full config records s more then full else other) ≡ None → (full ≡ None → ⊥)
     → (records + length s.flushes + more ≤ config.limits.history) × (other ≡ None)
-room_of config records s more full other none apart =
+space_of config records s more full other none apart =
     elim (is_full config records s more) as (λ b. is_full config records s more ≡ b → (if b then full else other) ≡ None → (records + length s.flushes + more ≤ config.limits.history) × (other ≡ None)) [
       | true ↦ λ e h. absurd (apart h)
       | false ↦ λ e h. (grind (arith, nat_tests, e), h)
@@ -125,25 +125,25 @@ fresh_too A P F Q (Err fault) h = tt
 -- ---- notes
 
 -- a note of an asked integration is accepted only where the history has capacity
-notified_room : (config : Config) (records : ℕ) (s : State) (outcome : Option Outcome) (o : Option NotifiedState) → notified_cause config records s outcome o ≡ None → records + length s.flushes + 1 ≤ config.limits.history
-notified_room config records s outcome None e = absurd (cc)
-notified_room config records s outcome (Some a) none =
+notified_space : (config : Config) (records : ℕ) (s : State) (outcome : Option Outcome) (o : Option NotifiedState) → notified_cause config records s outcome o ≡ None → records + length s.flushes + 1 ≤ config.limits.history
+notified_space config records s outcome None e = absurd (cc)
+notified_space config records s outcome (Some a) none =
     elim (is_ready outcome a) as (λ b. (if not b then Some note.NotReady else (if a.noted then Some note.Already else (if is_full config records s 1 then Some note.HistoryFull else None))) ≡ None → records + length s.flushes + 1 ≤ config.limits.history) [
       | false ↦ λ e. absurd (cc)
       | true ↦ λ e.
           elim (a.noted) as (λ b. (if b then Some note.Already else (if is_full config records s 1 then Some note.HistoryFull else None)) ≡ None → records + length s.flushes + 1 ≤ config.limits.history) [
             | true ↦ λ e. absurd (cc)
-            | false ↦ λ e. (room_of config records s 1 (Some note.HistoryFull) None e (λ h. absurd (cc))).0
+            | false ↦ λ e. (space_of config records s 1 (Some note.HistoryFull) None e (λ h. absurd (cc))).0
           ] e
     ] none
 
-notice_room : (config : Config) (records : ℕ) (s : State) (ticket : TicketData) (n : Option NoticeData) (f : FlushState) → notice_cause config records s ticket n f ≡ None → records + length s.flushes + 1 ≤ config.limits.history
-notice_room config records s ticket None f e = absurd (cc)
-notice_room config records s ticket (Some n) f e = notified_room config records s (outcome_of ticket.outcomes n.integration) (notified_by f n.integration) e
+notice_space : (config : Config) (records : ℕ) (s : State) (ticket : TicketData) (n : Option NoticeData) (f : FlushState) → notice_cause config records s ticket n f ≡ None → records + length s.flushes + 1 ≤ config.limits.history
+notice_space config records s ticket None f e = absurd (cc)
+notice_space config records s ticket (Some n) f e = notified_space config records s (outcome_of ticket.outcomes n.integration) (notified_by f n.integration) e
 
-note_room : (config : Config) (records : ℕ) (s : State) (ticket : TicketData) (index : ℕ) (o : Option FlushState) → flush_cause config records s ticket index o ≡ None → records + length s.flushes + 1 ≤ config.limits.history
-note_room config records s ticket index None e = absurd (cc)
-note_room config records s ticket index (Some f) e = notice_room config records s ticket (slice_get ticket.notices index) f e
+note_space : (config : Config) (records : ℕ) (s : State) (ticket : TicketData) (index : ℕ) (o : Option FlushState) → flush_cause config records s ticket index o ≡ None → records + length s.flushes + 1 ≤ config.limits.history
+note_space config records s ticket index None e = absurd (cc)
+note_space config records s ticket index (Some f) e = notice_space config records s ticket (slice_get ticket.notices index) f e
 
 -- a note leaves as many flushes open
 length-noted : (config : Config) (s : State) (t integration : ℕ) (outcome : Option Outcome) (o : Option FlushState) → length (after_note_of config s t integration outcome o).flushes ≡ length s.flushes
@@ -174,7 +174,7 @@ module _ (b : Inside) (sound : IsSound b) (now : BoardData) (view_is : seen b b.
 
   note_within : (r : Record) → IsNoteOf pass at ticket index r → AppliesCall b.config b.id r b.state new
       → vec_len b.state.history + length (state_of b.state).flushes + 1 ≤ b.config.limits.history → IsWithin b.config (after b.config (state_of b.state) r) new
-  note_within r is accepts room =
+  note_within r is accepts space =
       let s : State = state_of b.state in
       let noting : Call = Note at ticket.number is.0.integration (outcome_of ticket.outcomes is.0.integration) in
       let same : length (after_call b.config s noting).flushes ≡ length s.flushes = length-noted b.config s (time s at) is.0.integration (outcome_of ticket.outcomes is.0.integration) (flush_numbered s.flushes ticket.number) in
@@ -182,13 +182,13 @@ module _ (b : Inside) (sound : IsSound b) (now : BoardData) (view_is : seen b b.
       let called : length (after_call b.config s r.call).flushes ≡ length (after_call b.config s noting).flushes = ap (λ (x : Record). length (after_call b.config s x.call).flushes) is.2 in
       let before = opened_now b.state in
       let few : IsFew b.config (after_call b.config s r.call) = few_after b sound r.call (ap (λ (x : Record). IsInsert x.call) is.2) (ap (λ (x : Record). IsSilence x.call) is.2) in
-      (few, omega (arith, opened, called, same, before, sound.opened), omega (arith, opened, called, same, room, accepts.records))
+      (few, omega (arith, opened, called, same, before, sound.opened), omega (arith, opened, called, same, space, accepts.records))
 
   pub sound_noted : {T E : Type 0} (Q : E → Type 0) (result : Result T E) → MatchResult result (λ _. IsNoted) (λ fault. Q fault × LeavesUnchanged b.config b.state new) → IsSound (record b { state = new })
   sound_noted Q (Ok x) h =
       let accepts = h.1.2 b.id in
-      let room = note_room b.config (vec_len b.state.history) (state_of b.state) ticket index (flush_numbered (state_of b.state).flushes ticket.number) h.0 in
-      let limits : IsWithin b.config (after b.config (state_of b.state) h.1.0) new = note_within h.1.0 h.1.1 accepts room in
+      let space = note_space b.config (vec_len b.state.history) (state_of b.state) ticket index (flush_numbered (state_of b.state).flushes ticket.number) h.0 in
+      let limits : IsWithin b.config (after b.config (state_of b.state) h.1.0) new = note_within h.1.0 h.1.1 accepts space in
       sound_then b sound h.1.0 new accepts (ap (λ (x : Record). IsForget x.call) h.1.1.2) limits.0 limits.1 limits.2
   sound_noted Q (Err fault) h = sound_still b sound new h.1
 

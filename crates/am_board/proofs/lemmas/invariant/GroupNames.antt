@@ -9,7 +9,7 @@ use Rattle.am_model.specs.declared.group.GroupName.{GroupName}
 use Rattle.std.proofs.lemmas.List.Elements.{All-append, All-cons, All-nil}
 use Rattle.am_alerts.specs.RoutingTree.{RoutingTree, last_of}
 use Rattle.am_board.specs.Refinement.{group_state}
-use Rattle.am_board.specs.Group.{names_of, label_sets, AreRouted, AddsAtMost, HasRoom, Fits}
+use Rattle.am_board.specs.Group.{names_of, label_sets, AreRouted, AddsAtMost, HasSpace, Fits}
 
 -- one group is replaced by one of its name
 pub names_set : (gs : List Group) (i : ℕ) (g d : Group) → g.name ≡ (get_or gs i d).name → names_of (set gs i g) ≡ names_of gs
@@ -37,8 +37,8 @@ routed_added tree old name new routed here added =
     ]
 
 -- a group of another name is replaced by one of its name
-pub room_other : (n : ℕ) (name : GroupName) (gs : List Group) (i : ℕ) (g : Group) → i < length gs → (g.name ≡ name → ⊥) → HasRoom n name gs → HasRoom n name (set gs i g)
-room_other n name gs i g within other room k d h same =
+pub space_other : (n : ℕ) (name : GroupName) (gs : List Group) (i : ℕ) (g : Group) → i < length gs → (g.name ≡ name → ⊥) → HasSpace n name gs → HasSpace n name (set gs i g)
+space_other n name gs i g within other space k d h same =
     let there : k < length gs = omega (arith, h, length-set gs i g) in
     elim (eqb k i) as (λ b. eqb k i ≡ b → Fits n (get_or (set gs i g) k d)) [
       | true ↦ λ e.
@@ -47,14 +47,14 @@ room_other n name gs i g within other room k d h same =
       | false ↦ λ e.
           let apart : k ≢ i = eqb-false k i e in
           let at : get_or (set gs i g) k d ≡ get_or gs k d = get_or-set_other gs i k g d apart in
-          subst (Fits n) (sym at) (room k d there (ap (λ x. x.name) (sym at) ∙ same))
+          subst (Fits n) (sym at) (space k d there (ap (λ x. x.name) (sym at) ∙ same))
     ] refl
 
 -- a group of another name is added
-pub room_push : (n : ℕ) (name : GroupName) (gs : List Group) (g : Group) → (g.name ≡ name → ⊥) → HasRoom n name gs → HasRoom n name (gs ++ g ∷ [])
-room_push n name gs g other room =
+pub space_push : (n : ℕ) (name : GroupName) (gs : List Group) (g : Group) → (g.name ≡ name → ⊥) → HasSpace n name gs → HasSpace n name (gs ++ g ∷ [])
+space_push n name gs g other space =
     let P : Group → Type 0 = λ x. x.name ≡ name → Fits n x in
-    All-append P gs (g ∷ []) room (All-cons P g [] (λ same. absurd (other same)) (All-nil P))
+    All-append P gs (g ∷ []) space (All-cons P g [] (λ same. absurd (other same)) (All-nil P))
 
 -- a whole list, lent as a slice and given back
 pub whole_again : {X : Type 0} (n : ℕ) (xs ys : List X) → length xs ≡ n → take n (xs ++ ys) ≡ xs

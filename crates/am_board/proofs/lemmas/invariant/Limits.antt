@@ -42,7 +42,7 @@ use Rattle.am_board.proofs.lemmas.invariant.Agreeing.{insert_cause-agrees, silen
 use Rattle.am_model.proofs.legal.FewGroups.{few_inserted}
 use Rattle.am_model.proofs.legal.FewKnown.{fits-upsert, neither_cause}
 use Rattle.am_model.proofs.legal.NeverWait.{flushes_never_wait}
-use Rattle.am_board.proofs.lemmas.invariant.Calls.{IsWithin, opened_then, room_of, seen}
+use Rattle.am_board.proofs.lemmas.invariant.Calls.{IsWithin, opened_then, space_of, seen}
 use Rattle.am_board.proofs.lemmas.invariant.Sound.{IsFew, few_after, opened_now, kept_counted, consistent_now}
 
 -- a call that opens no flush passes no limit, where the history has capacity for one record more
@@ -51,10 +51,10 @@ keeps_within : (b : Inside) (sound : IsSound b) (pass : ℕ) (call : Call) (repl
     → vec_len b.state.history + length (state_of b.state).flushes + 1 ≤ b.config.limits.history
     → IsFew b.config (after_call b.config (state_of b.state) call)
     → IsWithin b.config (after_call b.config (state_of b.state) call) new
-keeps_within b sound pass call reply new accepts few room still =
+keeps_within b sound pass call reply new accepts few space still =
     let opened = opened_then b.config b.id (entry pass call reply) b.state new accepts in
     let before = opened_now b.state in
-    (still, omega (arith, opened, before, few, sound.opened), omega (arith, opened, few, room, accepts.records))
+    (still, omega (arith, opened, before, few, sound.opened), omega (arith, opened, few, space, accepts.records))
 
 -- where neither is a cause, the second isn't
 pub second_cause : {X : Type 0} (cause other : Option X) → option_or cause other ≡ None → other ≡ None
@@ -66,7 +66,7 @@ module _ (b : Inside) (sound : IsSound b) (pass now : ℕ) (new : kept.State) wh
       → AppliesCall b.config b.id (entry pass (Insert now alert) (replies.Inserted x)) b.state new → IsWithin b.config (after_call b.config (state_of b.state) (Insert now alert)) new
   insert_within alert x none accepts =
       let s : State = state_of b.state in
-      let parts = room_of b.config (vec_len b.state.history) s 1 (Some HistoryFull) _ none (λ h. absurd (cc)) in
+      let parts = space_of b.config (vec_len b.state.history) s 1 (Some HistoryFull) _ none (λ h. absurd (cc)) in
       let names = neither_cause (is_alert_too_many b.config s alert) TooManyAlerts _ parts.1 in
       keeps_within b sound pass (Insert now alert) (replies.Inserted x) new accepts (omega arith) parts.0
       (fits-upsert same_alert alert s.known b.config.limits.alerts sound.names names.0, few_inserted b.config s (time s now) alert (is_alert_too_many b.config s alert) parts.1, sound.silences)
@@ -74,7 +74,7 @@ module _ (b : Inside) (sound : IsSound b) (pass now : ℕ) (new : kept.State) wh
   pub silence_within : (silence : SilenceData) (x : Silenced) → silence_cause b.config (vec_len b.state.history) (state_of b.state) silence ≡ None
       → AppliesCall b.config b.id (entry pass (call_of_silence now silence) (replies.Silenced x)) b.state new → IsWithin b.config (after_call b.config (state_of b.state) (call_of_silence now silence)) new
   silence_within silence x none accepts =
-      let parts = room_of b.config (vec_len b.state.history) (state_of b.state) 1 (Some HistoryFull) _ none (λ h. absurd (cc)) in
+      let parts = space_of b.config (vec_len b.state.history) (state_of b.state) 1 (Some HistoryFull) _ none (λ h. absurd (cc)) in
       let few = neither_cause (is_silence_too_many b.config (state_of b.state) silence) TooManySilences None parts.1 in
       keeps_within b sound pass (call_of_silence now silence) (replies.Silenced x) new accepts (omega arith)
       parts.0
@@ -84,21 +84,21 @@ module _ (b : Inside) (sound : IsSound b) (pass now : ℕ) (new : kept.State) wh
       → AppliesCall b.config b.id (entry pass (Maintain now) (replies.Maintained x)) b.state new → IsWithin b.config (after_call b.config (state_of b.state) (Maintain now)) new
   maintain_within x none accepts =
       keeps_within b sound pass (Maintain now) (replies.Maintained x) new accepts (omega arith)
-      (room_of b.config (vec_len b.state.history) (state_of b.state) 1 (Some HistoryFull) None none (λ h. absurd (cc))).0
+      (space_of b.config (vec_len b.state.history) (state_of b.state) 1 (Some HistoryFull) None none (λ h. absurd (cc))).0
       (few_after b sound (Maintain now) refl refl)
 
   pub removal_within : (x : EmptyGroupsRemoved) → removal_cause b.config (vec_len b.state.history) (state_of b.state) ≡ None
       → AppliesCall b.config b.id (entry pass (RemoveEmptyGroups now) (replies.EmptyGroupsRemoved x)) b.state new → IsWithin b.config (after_call b.config (state_of b.state) (RemoveEmptyGroups now)) new
   removal_within x none accepts =
       keeps_within b sound pass (RemoveEmptyGroups now) (replies.EmptyGroupsRemoved x) new accepts (omega arith)
-      (room_of b.config (vec_len b.state.history) (state_of b.state) 1 (Some HistoryFull) None none (λ h. absurd (cc))).0
+      (space_of b.config (vec_len b.state.history) (state_of b.state) 1 (Some HistoryFull) None none (λ h. absurd (cc))).0
       (few_after b sound (RemoveEmptyGroups now) refl refl)
 
   pub forget_within : (x : Forgotten) → forget_cause b.config (vec_len b.state.history) (state_of b.state) ≡ None
       → AppliesCall b.config b.id (entry pass (Forget now) (replies.Forgotten x)) b.state new → IsWithin b.config (after_call b.config (state_of b.state) (Forget now)) new
   forget_within x none accepts =
       keeps_within b sound pass (Forget now) (replies.Forgotten x) new accepts (omega arith)
-      (room_of b.config (vec_len b.state.history) (state_of b.state) 1 (Some HistoryFull) None none (λ h. absurd (cc))).0
+      (space_of b.config (vec_len b.state.history) (state_of b.state) 1 (Some HistoryFull) None none (λ h. absurd (cc))).0
       (few_after b sound (Forget now) refl refl)
 
   pub load_within : (row : RowView) (x : Loaded) → load_cause b.config (vec_len b.state.history) (state_of b.state) (time (state_of b.state) now) row ≡ None
@@ -107,7 +107,7 @@ module _ (b : Inside) (sound : IsSound b) (pass now : ℕ) (new : kept.State) wh
       let s : State = state_of b.state in
       let full : Option LoadFault = if is_full b.config (vec_len b.state.history) s 1 then Some load.HistoryFull else None in
       keeps_within b sound pass (Load now row) (replies.Loaded x) new accepts (omega arith)
-      (room_of b.config (vec_len b.state.history) s 1 (Some load.HistoryFull) None (second_cause (row_cause b.config (time s now) row) full none) (λ h. absurd (cc))).0
+      (space_of b.config (vec_len b.state.history) s 1 (Some load.HistoryFull) None (second_cause (row_cause b.config (time s now) row) full none) (λ h. absurd (cc))).0
       (few_after b sound (Load now row) refl refl)
 
 -- ---- a begin opens a flush only where one more can be open
@@ -135,7 +135,7 @@ pub begin_within : (b : Inside) (sound : IsSound b) (pass now : ℕ) (new : kept
 begin_within b sound pass now new x none accepts =
     let s : State = state_of b.state in
     let t : ℕ = time s now in
-    let parts = room_of b.config (vec_len b.state.history) s 2 (Some HistoryFull) _ none (λ h. absurd (cc)) in
+    let parts = space_of b.config (vec_len b.state.history) s 2 (Some HistoryFull) _ none (λ h. absurd (cc)) in
     let before = opened_now b.state in
     let few : length s.flushes ≤ b.config.limits.flushes = omega (arith, before, sound.opened) in
     let fits = fits_taking b.config s t (taken s t) few parts.1 in
@@ -196,7 +196,7 @@ module _ (b : Inside) (sound : IsSound b) (now : BoardData) (view_is : seen b b.
       subst (λ (d : BoardData). silence_cause b.config (vec_len b.state.history) (state_of b.state) silence ≡ silence_cause d.config (records_at d) (state_at d) silence) view_is
       (silence_cause-agrees (state_of b.state) replayed sound.agrees b.config (vec_len b.state.history) silence ∙ ap (λ n. silence_cause b.config n replayed silence) (kept_counted b sound))
 
-  -- where as many flushes may be open as there may be groups, no begin waits for a finish
+  -- where the limit of open flushes is that of groups, no begin waits for a finish
   pub begin_unhindered : {T : Type 0} (at : ℕ) (result : Result T Fault) → IsCaused (begin_cause now.config (records_at now) (state_at now) (time (state_at now) at)) result
       → now.config.limits.groups ≤ now.config.limits.flushes → IfErr result (λ fault. fault ≢ TooManyOpen)
   begin_unhindered at (Ok x) caused most = tt

@@ -8,7 +8,7 @@ use Rattle.am_model.specs.declared.group.GroupName.{GroupName}
 use Rattle.am_model.proofs.lists.Alone.{find-no_position, none-find}
 use Rattle.am_model.proofs.states.Alike.{same_name_equiv}
 use Rattle.am_board.specs.Group.{names_of}
-use Rattle.am_board.specs.Marks.{mark_of, marks_of, is_marked, AreMarked, TellOpen}
+use Rattle.am_board.specs.Marks.{mark_of, marks_of, is_marked, AreMarked, HaveOpenFlags}
 use Rattle.am_board.specs.Refinement.{group_state}
 use Rattle.am_board.specs.declared.group.Group.{Group}
 
@@ -156,8 +156,8 @@ own_mark (x ∷ gs) distinct (suc j) d within =
     ∙ sym (ap (λ b. b || is_marked (marks_of gs) n) (and_none x.is_open (same_name n x.name) other))
 
 -- each group says whether a flush of it is open
-pub tell_open : (flushes : List FlushState) (gs : List Group) → IsDistinct same_name (names_of gs) → AreMarked flushes gs → TellOpen flushes gs
-tell_open flushes gs distinct marked j d within = own_mark gs distinct j d within ∙ marked (get_or gs j d).name
+pub have_open_flags : (flushes : List FlushState) (gs : List Group) → IsDistinct same_name (names_of gs) → AreMarked flushes gs → HaveOpenFlags flushes gs
+have_open_flags flushes gs distinct marked j d within = own_mark gs distinct j d within ∙ marked (get_or gs j d).name
 
 -- ---- groups without alerts go, none of which has an open flush
 

@@ -102,7 +102,7 @@ module _ (b : Inside) (sound : IsSound b) where
         routed = sound.routed;
         prepared = sound.prepared;
         marked = sound.marked;
-        room = sound.room;
+        space = sound.space;
       }
 
   -- the alerts over all groups are few, and so are the inserts
@@ -157,7 +157,7 @@ module _ (b : Inside) (sound : IsSound b) where
           silences = (fewer few).2;
           opened = opened;
           kept = kept;
-          room = accepts.room;
+          space = accepts.space;
           routed = accepts.routed;
           prepared = accepts.prepared;
           marked = accepts.marked;
@@ -197,7 +197,7 @@ module _ (b : Inside) (sound : IsSound b) where
           silences = subst (λ (s : State). length s.silences ≤ b.config.limits.silences) (sym stays.state) sound.silences;
           opened = omega (arith, same_opened, sound.opened);
           kept = omega (arith, same_opened, stays.records, sound.kept);
-          room = stays.room;
+          space = stays.space;
           routed = stays.routed;
           prepared = stays.prepared;
           marked = stays.marked;
@@ -222,7 +222,7 @@ sound_learnt b sources destinations learnt kept sound =
       silences = sound.silences;
       opened = sound.opened;
       kept = sound.kept;
-      room = sound.room;
+      space = sound.space;
       routed = sound.routed;
       prepared = sound.prepared;
       marked = sound.marked;
@@ -249,7 +249,7 @@ new_sound b learnt names configured few limits new none nothing =
       silences = subst (λ (x : State). length x.silences ≤ config.limits.silences) (sym new.state) (omega arith);
       opened = omega (arith, new.unflushed);
       kept = omega (arith, new.unflushed, new.records);
-      room = omega (arith, new.unflushed, new.records);
+      space = omega (arith, new.unflushed, new.records);
       routed = subst (λ (gs : List Group). AreRouted config.routes (names_of gs)) (sym new.groups) (All-nil (λ (n : GroupName). n.route ≤ last_of config.routes));
       prepared = subst (All (IsPrepared config s.log)) (sym new.flushes) (All-nil (IsPrepared config s.log));
       marked = λ name. ap (λ (gs : List Group). is_marked (marks_of gs) name) new.groups ∙ sym (ap (λ (fs : List OpenFlush). is_flushing (map flush_state fs) name) new.flushes);

@@ -31,14 +31,14 @@ module _ (config : Config) (s : kept.State) (more : ℕ) (counted : deque_len s.
       grind (arith, nat_tests)
 
 -- a history has capacity
-pub has_room : (config : Config) (s : kept.State) → vec_len s.history + deque_len s.flushes + 1 ≤ config.limits.history → is_full config (vec_len s.history) (state_of s) 1 ≡ false
-has_room config s room =
+pub has_space : (config : Config) (s : kept.State) → vec_len s.history + deque_len s.flushes + 1 ≤ config.limits.history → is_full config (vec_len s.history) (state_of s) 1 ≡ false
+has_space config s space =
     let count : length (map flush_state s.flushes.items) ≡ deque_len s.flushes = length-map s.flushes.items flush_state ∙ sym s.flushes.ok.0 in
     ap (λ n. nat_lt config.limits.history (vec_len s.history + n + 1)) count ∙ grind (arith, nat_tests)
 
 -- nothing changed
 pub stays_itself : (config : Config) (s : kept.State) → StateInvariant config s → LeavesUnchanged config s s
-stays_itself config s good = record { state = refl; routed = good.routed; prepared = good.prepared; marked = good.marked; history = refl; records = refl; room = good.room }
+stays_itself config s good = record { state = refl; routed = good.routed; prepared = good.prepared; marked = good.marked; history = refl; records = refl; space = good.space }
 
 -- states that are one agree
 pub agrees_same : (a b : State) → a ≡ b → EqualUpToRowOrder a b

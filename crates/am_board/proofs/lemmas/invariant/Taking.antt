@@ -50,7 +50,7 @@ module _ (b : Inside) (sound : IsSound b) (now : BoardData) (view_is : seen b b.
 
     pub sound_taken : (handed : ℕ) → handed ≡ b.handed + vec_len b.state.history → handed ≤ MAX_HANDED → vec_len kept ≡ 0 → deque_len b.state.flushes ≤ vec_capacity kept
         → IsSound (record b { state = record b.state { history = kept }; handed = handed; past = past })
-    sound_taken handed counted few empty room =
+    sound_taken handed counted few empty space =
         record {
           limits = sound.limits;
           configured = sound.configured;
@@ -64,7 +64,7 @@ module _ (b : Inside) (sound : IsSound b) (now : BoardData) (view_is : seen b b.
           silences = sound.silences;
           opened = sound.opened;
           kept = omega (arith, empty, sound.kept);
-          room = omega (arith, empty, room);
+          space = omega (arith, empty, space);
           routed = sound.routed;
           prepared = sound.prepared;
           marked = sound.marked;

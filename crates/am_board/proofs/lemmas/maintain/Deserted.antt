@@ -19,7 +19,7 @@ use Rattle.am_board.specs.Step.{StateInvariant}
 use Rattle.am_board.specs.declared.group.Group.{Group}
 use Rattle.am_board.specs.declared.state.State as kept
 use Rattle.am_board.proofs.lemmas.insert.Found.{names_apart}
-use Rattle.am_board.proofs.lemmas.invariant.Marks.{not_both, tell_open}
+use Rattle.am_board.proofs.lemmas.invariant.Marks.{not_both, have_open_flags}
 
 -- an open flush is of the name
 of_name : (n : GroupName) (fs : List FlushState) → is_flushing fs n ≡ true → (P : FlushState → Type 0) → AllByRecursion P fs → (f : FlushState) × (P f × (same_name n f.group ≡ true))
@@ -41,7 +41,7 @@ deserted_closed config s good = all_to (λ (g : Group). has_no_alerts (group_sta
         let g : Group = get_or gs j d in
         not_both g.is_open
         (λ open_now.
-        let flushing : is_flushing fs g.name ≡ true = sym (tell_open fs gs (names_apart gs good.consistent.groups) good.marked j d within) ∙ open_now in
+        let flushing : is_flushing fs g.name ≡ true = sym (have_open_flags fs gs (names_apart gs good.consistent.groups) good.marked j d within) ∙ open_now in
         let one = of_name g.name fs flushing (IsHeld (state_of s)) (all_to (IsHeld (state_of s)) fs good.consistent.held) in
         let f : FlushState = one.0 in
         let there : get_or states j (group_state g) ≡ group_state g = get_or-map group_state gs j d (group_state g) within in

@@ -117,7 +117,7 @@ pub record IsNoted (old new : kept.State) (o onew : OpenFlush) (f a now : ℕ) (
   pub next_number : new.next_number ≡ old.next_number
   pub history : new.history.items ≡ old.history.items ++ r ∷ []
   pub records : vec_len new.history ≡ vec_len old.history + 1
-  pub room : vec_len new.history + deque_len new.flushes ≤ vec_capacity new.history
+  pub space : vec_len new.history + deque_len new.flushes ≤ vec_capacity new.history
 
 -- the integration at an index of a flush, where no two are one
 module _ (o : OpenFlush) (integration a : ℕ) (d : Notified) (at : position (λ x. x.key.integration == integration) o.notified.items ≡ Some a) (once : IsDistinct same_notified (map notified_state_of o.notified.items)) where
@@ -227,7 +227,7 @@ module _ (config : Config) (id : ℕ) (old new : kept.State) (ticket : TicketDat
             ∙ (good.marked name ∙ sym (ap (λ fs. is_flushing (map flush_state fs) name) done.flushes ∙ flushing_set old.flushes.items n.flush onew o is done.noted.group name));
         history = done.history;
         records = done.records;
-        room = done.room;
+        space = done.space;
       }
 
 -- ---- answers

@@ -48,6 +48,6 @@ returns c =
             ∙ ap (λ h. h ++ entry c.args.pass (Load c.args.now c.in_ok-row.row) (replies.Loaded c.in_ok-loaded.loaded) ∷ []) c.in_ok-reserve.ensures.items
             ∙ ap (λ r. old.history.items ++ entry c.args.pass (Load c.args.now r) (replies.Loaded c.in_ok-loaded.loaded) ∷ []) c.in_ok-row.ensures;
         records = omega arith;
-        room = omega (arith, c.in_ok-reserve.ensures.ok, c.in_ok-reserve.ensures.len, c.push_reserved.ensures.len, c.push_reserved.ensures.capacity, c.len.ensures);
+        space = omega (arith, c.in_ok-reserve.ensures.ok, c.in_ok-reserve.ensures.len, c.push_reserved.ensures.len, c.push_reserved.ensures.capacity, c.len.ensures);
       },
     )

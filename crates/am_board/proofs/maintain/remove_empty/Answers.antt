@@ -36,6 +36,6 @@ returns c =
             ∙ (marked_without old.groups.items (deserted_closed c.args.config.now old c.requires.good) name ∙ c.requires.good.marked name);
         history = c.push_reserved.ensures.items ∙ ap (λ h. h ++ entry c.args.pass (RemoveEmptyGroups c.args.now) (EmptyGroupsRemoved (record { groups = c.drop_empty-groups.result })) ∷ []) c.in_ok-reserve.ensures.items;
         records = omega arith;
-        room = omega (arith, c.in_ok-reserve.ensures.ok, c.in_ok-reserve.ensures.len, c.push_reserved.ensures.len, c.push_reserved.ensures.capacity, c.len.ensures);
+        space = omega (arith, c.in_ok-reserve.ensures.ok, c.in_ok-reserve.ensures.len, c.push_reserved.ensures.len, c.push_reserved.ensures.capacity, c.len.ensures);
       },
     )

@@ -18,7 +18,7 @@ use Rattle.am_board.specs.declared.state.State as kept
 use Rattle.am_board.proofs.lemmas.note.Noted.{element, full-of, cause-left, note-accepted, answers, refused, the_notice, on-ok}
 use Rattle.am_board.proofs.note.note_success.Goals as goal
 use Rattle.am_board.proofs.note.note_success.Goals.{In_ok-found}
-use Rattle.am_board.proofs.lemmas.invariant.Staying.{stays_itself, has_room}
+use Rattle.am_board.proofs.lemmas.invariant.Staying.{stays_itself, has_space}
 
 -- what was found is among the flushes of the state
 found-in : (c : In_ok-found) → IsNoteTarget c.args.state.now.flushes.items c.args.ticket.now c.args.index c.in_ok-found.found
@@ -38,15 +38,15 @@ returns-in_err-found c =
     refused c.from_residual.result _ (flush_cause c.args.config.now (vec_len c.args.state.now.history) (state_of c.args.state.now) c.args.ticket.now c.args.index (flush_numbered (map flush_state c.args.state.now.flushes.items) c.args.ticket.now.number)) (LeavesUnchanged c.args.config.now c.args.state.now c.args.state.now) c.from_residual.ensures.0 cause
     (stays_itself c.args.config.now c.args.state.now c.requires.good)
 
-pub returns-then-not-has_room : goal.returns-then-not-has_room
-returns-then-not-has_room c =
-    let full = full-of c.args.config.now c.args.state.now (λ room. cc (c.has_room.ensures.1 room)) in
-    (answers _ note.HistoryFull (left (goal.at.returns-then-not-has_room c).In_ok-found ∙ ap (λ b. if b then Some note.HistoryFull else None) full), stays_itself c.args.config.now c.args.state.now c.requires.good)
+pub returns-then-not-has_space : goal.returns-then-not-has_space
+returns-then-not-has_space c =
+    let full = full-of c.args.config.now c.args.state.now (λ space. cc (c.has_space.ensures.1 space)) in
+    (answers _ note.HistoryFull (left (goal.at.returns-then-not-has_space c).In_ok-found ∙ ap (λ b. if b then Some note.HistoryFull else None) full), stays_itself c.args.config.now c.args.state.now c.requires.good)
 
 pub returns-then-is_err : goal.returns-then-is_err
 returns-then-is_err c =
-    let room : vec_len c.args.state.now.history + deque_len c.args.state.now.flushes + 1 ≤ c.args.config.now.limits.history = c.has_room.ensures.0 c.if-not-has_room.false in
-    let none = left (goal.at.returns-then-is_err c).In_ok-found ∙ ap (λ b. if b then Some note.HistoryFull else None) (has_room c.args.config.now c.args.state.now room) in (
+    let space : vec_len c.args.state.now.history + deque_len c.args.state.now.flushes + 1 ≤ c.args.config.now.limits.history = c.has_space.ensures.0 c.if-not-has_space.false in
+    let none = left (goal.at.returns-then-is_err c).In_ok-found ∙ ap (λ b. if b then Some note.HistoryFull else None) (has_space c.args.config.now c.args.state.now space) in (
       subst (λ o. IsNoteAnswer o note.NoMemory) (sym none) refl,
       record {
         state = refl;
@@ -55,7 +55,7 @@ returns-then-is_err c =
         marked = c.requires.good.marked;
         history = c.reserve.ensures.items;
         records = c.reserve.ensures.len;
-        room = omega (arith, c.requires.good.room, c.reserve.ensures.len, c.reserve.ensures.capacity);
+        space = omega (arith, c.requires.good.space, c.reserve.ensures.len, c.reserve.ensures.capacity);
       },
     )
 
@@ -63,8 +63,8 @@ pub returns : goal.returns
 returns c =
     let old = c.args.state.now in
     let found = found-in (goal.at.returns c).In_ok-found in
-    let room : vec_len c.args.state.now.history + deque_len c.args.state.now.flushes + 1 ≤ c.args.config.now.limits.history = c.has_room.ensures.0 c.if-not-has_room.false in
-    let none = left (goal.at.returns c).In_ok-found ∙ ap (λ b. if b then Some note.HistoryFull else None) (has_room c.args.config.now c.args.state.now room) in
+    let space : vec_len c.args.state.now.history + deque_len c.args.state.now.flushes + 1 ≤ c.args.config.now.limits.history = c.has_space.ensures.0 c.if-not-has_space.false in
+    let none = left (goal.at.returns c).In_ok-found ∙ ap (λ b. if b then Some note.HistoryFull else None) (has_space c.args.config.now c.args.state.now space) in
     let new : kept.State = record {
       clock = c.time-t.result;
       inserts = old.inserts;
@@ -105,7 +105,7 @@ returns c =
               next_number = refl;
               history = history;
               records = omega (arith, c.push_reserved.ensures.len, c.reserve.ensures.len);
-              room = omega (arith, c.push_reserved.ensures.len, c.push_reserved.ensures.capacity, roomy);
+              space = omega (arith, c.push_reserved.ensures.len, c.push_reserved.ensures.capacity, roomy);
             }),
       ),
     )

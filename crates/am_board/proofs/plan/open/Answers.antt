@@ -32,5 +32,5 @@ returns c =
       recorded = c.in_ok-recorded.ensures ∙ ap (λ ns. record { number = s.next_number; deadline = c.saturating_add-deadline.result; notices = ns }) c.as_slice.ensures.value;
       outcomes = c.in_ok-with_capacity.ensures.items;
       none = c.in_ok-with_capacity.ensures.len;
-      room = omega (arith, c.in_ok-with_capacity.ensures.capacity, c.len.ensures);
+      space = omega (arith, c.in_ok-with_capacity.ensures.capacity, c.len.ensures);
     }

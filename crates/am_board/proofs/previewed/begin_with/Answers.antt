@@ -8,15 +8,15 @@ use Rattle.am_board.specs.Beginning.{IsChosen}
 use Rattle.am_board.specs.Refinement.{group_state, state_of}
 use Rattle.am_board.specs.declared.begin.Begun.{Begun}
 use Rattle.am_board.specs.declared.group.Group.{Group}
-use Rattle.am_board.proofs.lemmas.begin.Causes.{IsReturned, ended, planned_few, planned_none, planned_room}
+use Rattle.am_board.proofs.lemmas.begin.Causes.{IsReturned, ended, planned_few, planned_none, planned_space}
 use Rattle.am_board.proofs.previewed.begin_with.Goals as goal
 use Rattle.am_board.proofs.previewed.begin_with.Goals.{After-begin_planned}
 
 pub begin_planned-requires-clause-none : goal.begin_planned-requires-clause-none
 begin_planned-requires-clause-none c = planned_none c.args.config.now c.args.id c.args.state.now c.args.chosen c.requires.index c.args.planned (λ d. (c.requires.found d).1)
 
-pub begin_planned-requires-clause-room : goal.begin_planned-requires-clause-room
-begin_planned-requires-clause-room c = planned_room c.args.config.now c.args.id c.args.state.now c.args.chosen c.requires.index c.args.planned (λ d. (c.requires.found d).1)
+pub begin_planned-requires-clause-space : goal.begin_planned-requires-clause-space
+begin_planned-requires-clause-space c = planned_space c.args.config.now c.args.id c.args.state.now c.args.chosen c.requires.index c.args.planned (λ d. (c.requires.found d).1)
 
 pub begin_planned-requires-clause-few : goal.begin_planned-requires-clause-few
 begin_planned-requires-clause-few c = planned_few c.args.config.now c.args.id c.args.state.now c.args.chosen c.requires.index c.args.planned (λ d. (c.requires.found d).1) c.requires.good.few
@@ -26,7 +26,7 @@ takes_so : (c : After-begin_planned) (g : Group) → IsChosen c.args.config.now 
     → IsReturned c.args.config.now c.args.id c.args.chosen.pass c.args.chosen.now c.args.state.now c.begin_planned.new.state
     (begin_cause c.args.config.now (vec_len c.args.state.now.history) (state_of c.args.state.now) (time (state_of c.args.state.now) c.args.chosen.now)) c.begin_planned.result
 takes_so c g takes =
-    ended c.args.config.now c.args.id c.args.state.now c.args.chosen g takes c.requires.room c.args.planned (λ d. (c.requires.found d).1) c.begin_planned.new.state c.begin_planned.result
+    ended c.args.config.now c.args.id c.args.state.now c.args.chosen g takes c.requires.space c.args.planned (λ d. (c.requires.found d).1) c.begin_planned.new.state c.begin_planned.result
     (λ plan. c.begin_planned.ensures c.args.config.now g c.requires.good takes plan)
 
 -- the preview that is returned

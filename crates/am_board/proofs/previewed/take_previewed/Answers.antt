@@ -94,9 +94,9 @@ returns c =
     subst (λ n. IsPreviewed config c.args.id n c.args.now s new c.begin_with.result) takes.pass
     (subst (λ n. IsPreviewed config c.args.id chosen.pass n s new c.begin_with.result) takes.now (ends takes.chosen))
 
-pub begin_with-requires-clause-room : goal.begin_with-requires-clause-room
-begin_with-requires-clause-room c =
-    subst (λ (x : State). vec_len x.history + deque_len x.flushes + 2 ≤ c.args.config.now.limits.history) (sym c.prepare.ensures) (c.has_room.ensures.0 c.if-not-has_room.false)
+pub begin_with-requires-clause-space : goal.begin_with-requires-clause-space
+begin_with-requires-clause-space c =
+    subst (λ (x : State). vec_len x.history + deque_len x.flushes + 2 ≤ c.args.config.now.limits.history) (sym c.prepare.ensures) (c.has_space.ensures.0 c.if-not-has_space.false)
 
 pub returns-in-Ok : goal.returns-in-Ok
 returns-in-Ok c =
@@ -105,7 +105,7 @@ returns-in-Ok c =
     let st = state_of s in
     let t = c.time-t.result in
     let none : taken st t ≡ None = subst (λ n. taken st n ≡ None) (sym c.time-t.ensures) c.in_default.ensures in
-    let cause = cause-closed config s c.args.now t c.time-t.ensures (c.has_room.ensures.0 c.if-not-has_room.false) (ap (λ o. opens_by config st t o) none) in
+    let cause = cause-closed config s c.args.now t c.time-t.ensures (c.has_space.ensures.0 c.if-not-has_space.false) (ap (λ o. opens_by config st t o) none) in
     let all = returned config c.args.id c.args.pass c.args.now s c.begin_nothing.new.state (begin_cause config (vec_len s.history) st (time st c.args.now)) c.begin_nothing.result cause
     (c.begin_nothing.ensures config c.args.id c.requires.good c.time-t.ensures none) in
     let is = subst (λ (r : Result Begun Fault). IsReturned config c.args.id c.args.pass c.args.now s c.begin_nothing.new.state (begin_cause config (vec_len s.history) st (time st c.args.now)) r) c.in-Ok.is all in
@@ -118,7 +118,7 @@ returns-in-Err c =
     let st = state_of s in
     let t = c.time-t.result in
     let none : taken st t ≡ None = subst (λ n. taken st n ≡ None) (sym c.time-t.ensures) c.in_default.ensures in
-    let cause = cause-closed config s c.args.now t c.time-t.ensures (c.has_room.ensures.0 c.if-not-has_room.false) (ap (λ o. opens_by config st t o) none) in
+    let cause = cause-closed config s c.args.now t c.time-t.ensures (c.has_space.ensures.0 c.if-not-has_space.false) (ap (λ o. opens_by config st t o) none) in
     let all = returned config c.args.id c.args.pass c.args.now s c.begin_nothing.new.state (begin_cause config (vec_len s.history) st (time st c.args.now)) c.begin_nothing.result cause
     (c.begin_nothing.ensures config c.args.id c.requires.good c.time-t.ensures none) in
     subst (λ (r : Result Begun Fault). IsReturned config c.args.id c.args.pass c.args.now s c.begin_nothing.new.state (begin_cause config (vec_len s.history) st (time st c.args.now)) r) c.in-Err.is all
@@ -143,6 +143,6 @@ returns-in_err-found c =
     (c.at-group.ensures ∙ sym (get_or_default new.groups.items chosen.index d c.at-group.result.now within)) c.in_err-found.ensures in
     rw (p.1, p.2) (
       subst (λ n. IsAnswer (begin_cause config (vec_len s.history) (state_of s) (time (state_of s) n)) fault) takes.now
-          (planned_err config c.args.id s chosen takes.group takes.chosen (c.has_room.ensures.0 c.if-not-has_room.false) fault (subst (Plans config c.args.id chosen fault) c.prepare.ensures worked)),
+          (planned_err config c.args.id s chosen takes.group takes.chosen (c.has_space.ensures.0 c.if-not-has_space.false) fault (subst (Plans config c.args.id chosen fault) c.prepare.ensures worked)),
       subst (LeavesUnchanged config s) (sym c.prepare.ensures) (stays_itself config s c.requires.good),
     )

@@ -44,22 +44,22 @@ pub returns-then-len-config : goal.returns-then-len-config
 returns-then-len-config c silence h =
     let silences = c.args.state.now.silences.items in
     let counted : deque_len c.args.state.now.flushes ≡ length c.args.state.now.flushes.items = omega arith in
-    let room = not_full c.args.config.now c.args.state.now 1 counted (omega arith) in
+    let space = not_full c.args.config.now c.args.state.now 1 counted (omega arith) in
     let many : nat_le c.args.config.now.limits.silences (length silences) ≡ true = at_least _ _ (omega (arith, c.len.ensures)) in
     let found = found_as c.args.id c.find-index.result silences silence c.find-index.ensures.index h in
     let none : list_any (same_silence silence) silences ≡ false =
     sym (ap is_some found ∙ is_some-position (same_silence silence) silences) ∙ c.is_none.ensures ∙ ap not c.if-is_none.true in
-    refused (is_full c.args.config.now (vec_len c.args.state.now.history) (state_of c.args.state.now) 1) (nat_le c.args.config.now.limits.silences (length silences)) (list_any (same_silence silence) silences) (position (same_silence silence) silences) room many none
+    refused (is_full c.args.config.now (vec_len c.args.state.now.history) (state_of c.args.state.now) 1) (nat_le c.args.config.now.limits.silences (length silences)) (list_any (same_silence silence) silences) (position (same_silence silence) silences) space many none
 
 pub returns : goal.returns
 returns c silence h =
     let silences = c.args.state.now.silences.items in
     let counted : deque_len c.args.state.now.flushes ≡ length c.args.state.now.flushes.items = omega arith in
-    let room = not_full c.args.config.now c.args.state.now 1 counted (omega arith) in
+    let space = not_full c.args.config.now c.args.state.now 1 counted (omega arith) in
     let found = found_as c.args.id c.find-index.result silences silence c.find-index.ensures.index h in
     let fact : list_any (same_silence silence) silences ≡ not c.is_none.result =
     sym (ap is_some found ∙ is_some-position (same_silence silence) silences) ∙ c.is_none.ensures in
-    ap Ok found ∙ admitted (is_full c.args.config.now (vec_len c.args.state.now.history) (state_of c.args.state.now) 1) (nat_le c.args.config.now.limits.silences (length silences)) (list_any (same_silence silence) silences) (position (same_silence silence) silences) room
+    ap Ok found ∙ admitted (is_full c.args.config.now (vec_len c.args.state.now.history) (state_of c.args.state.now) 1) (nat_le c.args.config.now.limits.silences (length silences)) (list_any (same_silence silence) silences) (position (same_silence silence) silences) space
     (elim c.else-is_none.branch [
       | else-is_none-via-then-is_none+else-len-config w ↦
           ap (λ b. b && not (list_any (same_silence silence) silences)) (below c.args.config.now.limits.silences (length silences) (omega (arith, w.len.ensures)))

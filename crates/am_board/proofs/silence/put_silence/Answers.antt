@@ -37,6 +37,6 @@ returns c =
         marked = c.requires.good.marked;
         history = c.push_reserved.ensures.items ∙ (λ i. c.in_ok-reserve.ensures.items i ++ entry c.args.pass (Silence c.args.now (c.id-2.ensures i) (matchers i) (c.start.ensures.start i) (c.end.ensures.end i)) (Silenced (record { replaced = c.is_some.result })) ∷ []);
         records = omega arith;
-        room = omega (arith, c.in_ok-reserve.ensures.ok, c.in_ok-reserve.ensures.len, c.push_reserved.ensures.len, c.push_reserved.ensures.capacity, c.len.ensures);
+        space = omega (arith, c.in_ok-reserve.ensures.ok, c.in_ok-reserve.ensures.len, c.push_reserved.ensures.len, c.push_reserved.ensures.capacity, c.len.ensures);
       },
     )

@@ -17,7 +17,7 @@ both : (a b : Bool) → a ≡ true → b ≡ true → (a && b) ≡ true
 both true b is also = also
 both false b is also = absurd (cc)
 
--- a configuration that may be had, and is no larger than the mode allows
+-- an allowed configuration that is no larger than the mode allows
 pub returns-in-Ok-clause-decoded : goal.returns-in-Ok-clause-decoded
 returns-in-Ok-clause-decoded c =
     let config : Config = c.in_ok-config.config in

@@ -10,7 +10,7 @@ use Rattle.am_model.specs.look_back.Reasons.{reason_in}
 use Rattle.am_model.specs.Begin.{taken}
 use Rattle.am_model.specs.Replay.{replay}
 use Rattle.am_model.specs.State.{GroupState, State, time}
-use Rattle.am_model.proofs.looking_back.reasons.NotifiedRightly.{reasons-found}
+use Rattle.am_model.proofs.looking_back.reasons.WhomNeeded.{reasons-found}
 use Rattle.am_model.proofs.looking_back.alerts.FoundAlerts.{steady_past, finds_past}
 use Rattle.am_model.proofs.looking_back.rows.FoundRows.{finds_rows_past}
 use Rattle.am_model.proofs.looking_back.Pasts.{state_after, IsLegalPast, legal_past, replay_is_past}

@@ -24,11 +24,11 @@ use Rattle.am_model.specs.Begin.{alert_cmp, label_sets, log_row}
 use Rattle.am_model.specs.Lists.{in_order, unless, without}
 use Rattle.am_model.specs.Configured.{rules_of, route_of, route_muted, integrations_of, integrations_named}
 use Rattle.am_model.specs.look_back.Entry.{known_in, silences_in, present_in, without_end, firing_in, resolved_in, entry_in}
-use Rattle.am_model.specs.look_back.Laws.{EveryLegalHistory, notified_after, IsNotifiedRightly}
+use Rattle.am_model.specs.look_back.Laws.{EveryLegalHistory, notified_after, NotifiesWhomNeeded}
 use Rattle.am_model.specs.look_back.Past.{AtEach, past_of, time_at, notices_in}
 use Rattle.am_model.specs.look_back.Reasons.{notifies, reason_by, reason_of_update, reason_about, reason_where, reason_in, is_notified_in, NotifiesForReasons, BeginsHaveReasons, NotYetEnds}
 use Rattle.am_model.proofs.looking_back.reasons.Chains.{reason_by-chain, reason_chain}
-use Rattle.am_model.proofs.looking_back.reasons.NotifiedRightly.{begins_notify_exactly_whom_needed}
+use Rattle.am_model.proofs.looking_back.reasons.WhomNeeded.{begins_notify_exactly_whom_needed}
 use Rattle.am_model.proofs.lists.Distinct.{all_from, all-weaker, all-both}
 use Rattle.am_model.proofs.lists.Sets.{any-map}
 
@@ -157,7 +157,7 @@ module _ {X : Type 0} (test : ℕ × X → Bool) where
 
 -- ---- each begin
 
-one_record : (config : Config) (r : Record) (past : List Record) → IsNotifiedRightly config r past → NotifiesForReasons config r past
+one_record : (config : Config) (r : Record) (past : List Record) → NotifiesWhomNeeded config r past → NotifiesForReasons config r past
 one_record config r past notified =
     let t = time_at (r ∷ past) in
     record {
@@ -172,7 +172,7 @@ one_record config r past notified =
       only = λ name taken. notified name taken ∙ notified-reasons config name t past;
     }
 
-pub reasons_each : (config : Config) (past : List Record) → AtEach (IsNotifiedRightly config) past → AtEach (NotifiesForReasons config) past
+pub reasons_each : (config : Config) (past : List Record) → AtEach (NotifiesWhomNeeded config) past → AtEach (NotifiesForReasons config) past
 reasons_each config [] each = tt
 reasons_each config (r ∷ past) each = (one_record config r past each.0, reasons_each config past each.1)
 

@@ -1,5 +1,5 @@
 use Rattle.std.proofs.Common.{rules, ◌≡◌, ◌∙◌, ◌+◌, ◌-◌, ◌<◌, ◌≤◌, ◌++◌, ◌∷◌, [], ℕ, get_or, length, map, ap, sym, arith}
-use Rattle.am_alerts.specs.Layout.{laid, planted}
+use Rattle.am_alerts.specs.Layout.{preorder, planted}
 use Rattle.am_alerts.specs.RouteLayouts.{part}
 use Rattle.am_alerts.specs.declared.route.Child.{Child}
 use Rattle.am_model.specs.RouteKeys.{key_below, keys_below}
@@ -23,11 +23,11 @@ push_keys-requires t c =
     let is : IsKeyed f at to (at + 1 + c.below.result) x c.args.above.now =
     keyed_here f at to c.below.result x c.args.above.now c.loop-at-test.true c.loop-at.invariant.within
     (c.index-children-at.is ∙ ap (λ cs. get_or cs at x) c.children-children.ensures.children)
-    (c.below.ensures ∙ ap (λ n. get_or (map (λ t. t.1) (laid f)) n 0) (before at)) c.loop-at.invariant.is_laid in
-    let room : at + 1 + c.below.result ≤ to = is.ends in
+    (c.below.ensures ∙ ap (λ n. get_or (map (λ t. t.1) (preorder f)) n 0) (before at)) c.loop-at.invariant.is_preorder in
+    let space : at + 1 + c.below.result ≤ to = is.ends in
     let begun : c.args.from ≤ at = c.loop-at.invariant.begun in
     let within : at < to = c.loop-at-test.true in
-    (search rules, (omega arith, (omega (arith, room, c.loop-at.invariant.within), is.below)))
+    (search rules, (omega arith, (omega (arith, space, c.loop-at.invariant.within), is.below)))
 
 pub loop-at-preserved : goal.loop-at-preserved
 loop-at-preserved t c =
@@ -40,21 +40,21 @@ loop-at-preserved t c =
     let is : IsKeyed f at to end x above =
     keyed_here f at to c.below.result x above c.loop-at-test.true c.loop-at.invariant.within
     (c.index-children-at.is ∙ ap (λ cs. get_or cs at x) c.children-children.ensures.children)
-    (c.below.ensures ∙ ap (λ n. get_or (map (λ t. t.1) (laid f)) n 0) (before at)) c.loop-at.invariant.is_laid in
+    (c.below.ensures ∙ ap (λ n. get_or (map (λ t. t.1) (preorder f)) n 0) (before at)) c.loop-at.invariant.is_preorder in
     let keys = c.loop-at.keys.items in
     let pushed = c.push.new.self.items in
     let key : c.in_ok-key.key ≡ key_below above x.matchers =
     c.in_ok-key.ensures ∙ ap (key_below above) c.as_slice.ensures ∙ ap (λ (y : Child). key_below above y.matchers) (sym c.index-children-at.is) in
     let one : pushed ≡ keys ++ key_below above x.matchers ∷ [] =
     c.in_ok-push.ensures.items ∙ ap (λ k. keys ++ k ∷ []) (c.in_ok-copy.ensures ∙ key) in
-    let rest : c.push_keys.new.keys.items ≡ pushed ++ keys_below (key_below above x.matchers) (planted (part (at + 1) end (laid f))) =
-    c.in_ok-push_keys.ensures ∙ ap (λ k. pushed ++ keys_below k (planted (part (at + 1) end (laid f)))) (c.as_str.ensures ∙ key) in
+    let rest : c.push_keys.new.keys.items ≡ pushed ++ keys_below (key_below above x.matchers) (planted (part (at + 1) end (preorder f))) =
+    c.in_ok-push_keys.ensures ∙ ap (λ k. pushed ++ keys_below k (planted (part (at + 1) end (preorder f)))) (c.as_str.ensures ∙ key) in
     let begun : c.args.from ≤ at = c.loop-at.invariant.begun in
     record {
       begun = omega (arith, begun);
       ordered = is.ends;
       within = c.loop-at.invariant.within;
-      is_laid = is.after;
+      is_preorder = is.after;
       so_far = walk_more f at to end x above is keys pushed c.push_keys.new.keys.items _ c.loop-at.invariant.so_far one rest;
     }
 

@@ -1,5 +1,5 @@
-use Rattle.am_pool.proofs.Dealings.{puts, has_room}
+use Rattle.am_pool.proofs.Dealings.{puts, has_space}
 use Rattle.am_pool.proofs.queue.put.Goals as goal
 
 pub push_as-requires-clause-rule : goal.push_as-requires-clause-rule
-push_as-requires-clause-rule g c = (puts _ _ _ _ c.requires.whole.0 c.requires.whole.1, has_room _ _ c.requires.whole.0)
+push_as-requires-clause-rule g c = (puts _ _ _ _ c.requires.whole.0 c.requires.whole.1, has_space _ _ c.requires.whole.0)

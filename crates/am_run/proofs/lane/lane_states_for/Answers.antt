@@ -16,5 +16,5 @@ loop-alloc-preserved g c =
       count = omega arith;
       well = subst (λ (xs : List (LaneState g.row.N.Denot)). NoneRefused xs) (sym c.push_reserved.ensures.items)
           (none_more c.loop-alloc.lane_states.items c.new.result i.well c.new.ensures.refused);
-      room = omega arith;
+      space = omega arith;
     }

@@ -8,7 +8,7 @@ invariant-loop-alloc g l = record {
   passes : map (λ s. s.pass) l.lane_states.items ++ l.passes.items ≡ l.fn.passes.items;
   count : vec_len l.lane_states + vec_len l.passes ≡ vec_len l.fn.passes;
   well : NoneRefused l.lane_states.items;
-  room : vec_len l.lane_states + vec_len l.passes ≤ vec_capacity l.lane_states;
+  space : vec_len l.lane_states + vec_len l.passes ≤ vec_capacity l.lane_states;
 }
 
 abbrev pub decreases-loop-alloc : goal.decreases-loop-alloc

@@ -15,7 +15,7 @@ use Rattle.am_run.specs.Interleaving.{CalledBetween, Meets, MeetsAll, RanConcurr
 use Rattle.am_run.specs.Lanes.{call_at}
 use Rattle.am_run.specs.LaneStates.{MadeCalls, MadeLanes}
 use Rattle.am_run.specs.Steps.{MadeRecords, Notes}
-use Rattle.am_run.specs.Turns.{AreNotesWithRoom}
+use Rattle.am_run.specs.Turns.{AreNotesUnlessFull}
 use Rattle.am_scenario.specs.declared.scenario.Lane.{Lane}
 use Rattle.am_run.proofs.lemmas.lanes.Calls.{more_made}
 use Rattle.am_run.proofs.lemmas.phases.Steps.{looked_records, more_records, no_records}
@@ -159,8 +159,8 @@ ran_between p q r ks ls ms ns first same last =
     }
 
 -- lanes that were run between two meetings
-pub ran_beside : (at : ℕ) (xs : List Lane) (p q r : Seen) (ks ls ms ns : List Seen) → MeetsAll p q ks ls → MadeLanes at xs ls ms → MeetsAll q r ms ns → RanConcurrently p r ks ns
-ran_beside at xs p q r ks ls ms ns first made last = ran_between p q r ks ls ms ns first (lanes_numbers at xs ls ms made) last
+pub ran_concurrent : (at : ℕ) (xs : List Lane) (p q r : Seen) (ks ls ms ns : List Seen) → MeetsAll p q ks ls → MadeLanes at xs ls ms → MeetsAll q r ms ns → RanConcurrently p r ks ns
+ran_concurrent at xs p q r ks ls ms ns first made last = ran_between p q r ks ls ms ns first (lanes_numbers at xs ls ms made) last
 
 -- notes that were made after a meeting
 pub quiet_first : (t : Terms) (calls : List Call) (p q r : Seen) → MadeRecords [] p q → Notes t calls q r → Notes t calls p r
@@ -170,6 +170,6 @@ quiet_first t calls p q r quiet notes =
       records = notes.records;
       made = more_records [] notes.records p q r quiet notes.made;
       noted =
-          subst (λ (xs : List Record). AreNotesWithRoom t p.number r.log xs calls notes.records) same
-          (subst (λ (n : ℕ). AreNotesWithRoom t n r.log (own n q.log) calls notes.records) quiet.0 notes.noted);
+          subst (λ (xs : List Record). AreNotesUnlessFull t p.number r.log xs calls notes.records) same
+          (subst (λ (n : ℕ). AreNotesUnlessFull t n r.log (own n q.log) calls notes.records) quiet.0 notes.noted);
     }

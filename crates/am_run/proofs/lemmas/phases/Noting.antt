@@ -27,7 +27,7 @@ use Rattle.am_desk.proofs.Prefixes.{prefix_self, prefix_trans}
 use Rattle.am_retry.specs.declared.outcome.Outcome.{Outcome}
 use Rattle.am_pool.specs.Sendings.{end_on, note_at}
 use Rattle.am_run.specs.Steps.{Notes, is_recorded_success, note_of, notes_of, notes_of_all}
-use Rattle.am_run.specs.Turns.{AreNotesWithRoom, FailsHistoryFull, AtSomePrefix, report_on}
+use Rattle.am_run.specs.Turns.{AreNotesUnlessFull, FailsHistoryFull, AtSomePrefix, report_on}
 use Rattle.am_run.proofs.lemmas.phases.Steps.{looked_records, more_records, no_records, one_record}
 
 -- what was once so was so, seen from later
@@ -38,14 +38,14 @@ once_longer pass history later records Holds longer once = (once.0, prefix_trans
 -- the first of these calls is noted, and the others are
 abbrev IsNoted : Terms → ℕ → List Record → List Record → Call → List Call → List Record → Type 0
 IsNoted t pass history before c cs notes =
-    (r : Record) × (rs : List Record) × (notes ≡ r ∷ rs) × (r.call ≡ c) × AreNotesWithRoom t pass history (before ++ r ∷ []) cs rs
+    (r : Record) × (rs : List Record) × (notes ≡ r ∷ rs) × (r.call ≡ c) × AreNotesUnlessFull t pass history (before ++ r ∷ []) cs rs
 
 -- there was no capacity for the first of these notes, and the others are noted
 abbrev IsLeft : Terms → ℕ → List Record → List Record → List Call → List Record → Type 0
-IsLeft t pass history before cs notes = AtSomePrefix pass history before (FailsHistoryFull t) × AreNotesWithRoom t pass history before cs notes
+IsLeft t pass history before cs notes = AtSomePrefix pass history before (FailsHistoryFull t) × AreNotesUnlessFull t pass history before cs notes
 
 pub noted_longer : (t : Terms) (pass : ℕ) (history later before : List Record) (calls : List Call) (notes : List Record) → IsPrefix history later
-    → AreNotesWithRoom t pass history before calls notes → AreNotesWithRoom t pass later before calls notes
+    → AreNotesUnlessFull t pass history before calls notes → AreNotesUnlessFull t pass later before calls notes
 noted_longer t pass history later before [] notes longer noted = noted
 noted_longer t pass history later before (c ∷ cs) notes longer noted =
     ⊎_elim
@@ -56,11 +56,11 @@ noted_longer t pass history later before (c ∷ cs) notes longer noted =
     noted
 
 -- these notes, and then those
-pub noted_more : (t : Terms) (pass : ℕ) (history before : List Record) (cs ds : List Call) (rs ss : List Record) → AreNotesWithRoom t pass history before cs rs
-    → AreNotesWithRoom t pass history (before ++ rs) ds ss → AreNotesWithRoom t pass history before (cs ++ ds) (rs ++ ss)
+pub noted_more : (t : Terms) (pass : ℕ) (history before : List Record) (cs ds : List Call) (rs ss : List Record) → AreNotesUnlessFull t pass history before cs rs
+    → AreNotesUnlessFull t pass history (before ++ rs) ds ss → AreNotesUnlessFull t pass history before (cs ++ ds) (rs ++ ss)
 noted_more t pass history before [] ds rs ss first after =
-    subst (λ (xs : List Record). AreNotesWithRoom t pass history before ds (xs ++ ss)) (sym first)
-    (subst (λ (xs : List Record). AreNotesWithRoom t pass history xs ds ss) (ap (λ (xs : List Record). before ++ xs) first ∙ append-nil before) after)
+    subst (λ (xs : List Record). AreNotesUnlessFull t pass history before ds (xs ++ ss)) (sym first)
+    (subst (λ (xs : List Record). AreNotesUnlessFull t pass history xs ds ss) (ap (λ (xs : List Record). before ++ xs) first ∙ append-nil before) after)
 noted_more t pass history before (c ∷ cs) ds rs ss first after =
     ⊎_elim
     (λ (one : IsNoted t pass history before c cs rs).
@@ -70,7 +70,7 @@ noted_more t pass history before (c ∷ cs) ds rs ss first after =
       ap (λ (xs : List Record). xs ++ ss) one.2,
       one.3,
       noted_more t pass history (before ++ one.0 ∷ []) cs ds one.1 ss one.4
-          (subst (λ (xs : List Record). AreNotesWithRoom t pass history xs ds ss)
+          (subst (λ (xs : List Record). AreNotesUnlessFull t pass history xs ds ss)
           (ap (λ (xs : List Record). before ++ xs) one.2 ∙ sym (append_assoc before (one.0 ∷ []) one.1)) after),
     ))
     (λ (left : IsLeft t pass history before cs rs). inr (left.0, noted_more t pass history before cs ds rs ss left.1 after))
@@ -89,8 +89,8 @@ notes_more t cs ds p q r first after =
       noted =
           noted_more t p.number r.log before cs ds first.records after.records
           (noted_longer t p.number q.log r.log before cs first.records after.made.2 first.noted)
-          (subst (λ (xs : List Record). AreNotesWithRoom t p.number r.log xs ds after.records) first.made.1
-          (subst (λ (n : ℕ). AreNotesWithRoom t n r.log (own n q.log) ds after.records) first.made.0 after.noted));
+          (subst (λ (xs : List Record). AreNotesUnlessFull t p.number r.log xs ds after.records) first.made.1
+          (subst (λ (n : ℕ). AreNotesUnlessFull t n r.log (own n q.log) ds after.records) first.made.0 after.noted));
     }
 
 -- an accepted note
@@ -130,8 +130,8 @@ full_ours true cause e = e
 full_ours false cause e = absurd (cc)
 
 -- a note that was refused for it had no capacity
-pub had_no_room : (t : Terms) (ticket : TicketData) (index : ℕ) (h : List Record) → cause_of_note t ticket index h ≡ Some note.HistoryFull → FailsHistoryFull t h
-had_no_room t ticket index h why =
+pub had_no_space : (t : Terms) (ticket : TicketData) (index : ℕ) (h : List Record) → cause_of_note t ticket index h ≡ Some note.HistoryFull → FailsHistoryFull t h
+had_no_space t ticket index h why =
     let f = flush_numbered (replay t.config h).flushes ticket.number in
     full_flush t.config (length h) (replay t.config h) ticket index f (full_ours _ (flush_cause t.config (length h) (replay t.config h) ticket index f) why)
 
@@ -141,7 +141,7 @@ note_left t p q ticket index c looks why =
     record {
       records = [];
       made = looked_records t p q looks;
-      noted = inr ((q.log, prefix_self q.log, looks.own, had_no_room t ticket index q.log why), refl);
+      noted = inr ((q.log, prefix_self q.log, looks.own, had_no_space t ticket index q.log why), refl);
     }
 
 -- the notes of one notice more

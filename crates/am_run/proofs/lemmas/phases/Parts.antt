@@ -150,39 +150,39 @@ abbrev Adds : List Record → Seen → Seen → Type 0
 Adds ys l m = own l.number m.log ≡ own l.number l.log ++ own l.number ys
 
 -- its calls are those that it made
-one_beside : (n : ℕ) (ys : List Record) (l m : Seen) (calls : List Call) → l.number ≡ n → MadeCalls calls l m → Adds ys l m → calls_by n ys ≡ calls
-one_beside n ys l m calls is made adds =
+one_concurrent : (n : ℕ) (ys : List Record) (l m : Seen) (calls : List Call) → l.number ≡ n → MadeCalls calls l m → Adds ys l m → calls_by n ys ≡ calls
+one_concurrent n ys l m calls is made adds =
     let f = λ (r : Record). r.call in
     let k = l.number in
     subst (λ (j : ℕ). calls_by j ys ≡ calls) is
     (append_cancel_left (calls_by k l.log) (calls_by k ys) calls (sym (map-append f (own k l.log) (own k ys)) ∙ (sym (ap (map f) adds) ∙ made.1)))
 
 -- the calls of the lanes in a list that has all that their passes made in a phase, and nothing of other passes
-lanes_beside : (n i : ℕ) (phase : Phase) (phases : List Phase) (ys : List Record) (lanes : List Lane) (ls ms : List Seen)
+lanes_concurrent : (n i : ℕ) (phase : Phase) (phases : List Phase) (ys : List Record) (lanes : List Lane) (ls ms : List Seen)
     → ((k : ℕ) → slice_get phase.lanes.items (n + k) ≡ slice_get lanes k) → HaveMade n phases ls → MadeLanes phase.at lanes ls ms → AllZip (Adds ys) ls ms
     → ((k : ℕ) → n + length ls < k → own k ys ≡ []) → n ≤ i → calls_by (i + 1) ys ≡ phase_calls i phase
-lanes_beside n i phase phases ys [] [] ms there have since adds others le =
+lanes_concurrent n i phase phases ys [] [] ms there have since adds others le =
     let none : phase_calls i phase ≡ [] = ap (calls_at phase.at) (ap (slice_get phase.lanes.items) (omega (arith, le)) ∙ there (i - n)) in
     ap (map (λ (r : Record). r.call)) (others (i + 1) (omega (arith, le))) ∙ sym none
-lanes_beside n i phase phases ys [] (l ∷ ls) [] there have since adds others le = absurd adds
-lanes_beside n i phase phases ys [] (l ∷ ls) (m ∷ ms) there have since adds others le =
+lanes_concurrent n i phase phases ys [] (l ∷ ls) [] there have since adds others le = absurd adds
+lanes_concurrent n i phase phases ys [] (l ∷ ls) (m ∷ ms) there have since adds others le =
     let Here = λ (j : ℕ). calls_by (j + 1) ys ≡ phase_calls j phase in
     let none : phase_calls n phase ≡ [] = ap (calls_at phase.at) (ap (slice_get phase.lanes.items) (omega arith) ∙ there 0) in
-    let here : Here n = one_beside (n + 1) ys l m [] have.0 since.0 adds.0 ∙ sym none in
+    let here : Here n = one_concurrent (n + 1) ys l m [] have.0 since.0 adds.0 ∙ sym none in
     dite (ℕ_discrete i n) (λ (e : i ≡ n). subst Here (sym e) here)
     (λ (ne : i ≢ n).
-    lanes_beside (n + 1) i phase phases ys [] ls ms (λ k. ap (slice_get phase.lanes.items) (omega arith) ∙ there (suc k)) have.2 since.1 adds.1
+    lanes_concurrent (n + 1) i phase phases ys [] ls ms (λ k. ap (slice_get phase.lanes.items) (omega arith) ∙ there (suc k)) have.2 since.1 adds.1
     (λ k more. others k (omega (arith, more))) (omega (arith, le, ne)))
-lanes_beside n i phase phases ys (x ∷ xs) [] ms there have since adds others le = absurd since
-lanes_beside n i phase phases ys (x ∷ xs) (l ∷ ls) [] there have since adds others le = absurd since
-lanes_beside n i phase phases ys (x ∷ xs) (l ∷ ls) (m ∷ ms) there have since adds others le =
+lanes_concurrent n i phase phases ys (x ∷ xs) [] ms there have since adds others le = absurd since
+lanes_concurrent n i phase phases ys (x ∷ xs) (l ∷ ls) [] there have since adds others le = absurd since
+lanes_concurrent n i phase phases ys (x ∷ xs) (l ∷ ls) (m ∷ ms) there have since adds others le =
     let Here = λ (j : ℕ). calls_by (j + 1) ys ≡ phase_calls j phase in
     let calls = calls_at phase.at (slice_get (x ∷ xs) 0) in
     let some : phase_calls n phase ≡ calls = ap (calls_at phase.at) (ap (slice_get phase.lanes.items) (omega arith) ∙ there 0) in
-    let here : Here n = one_beside (n + 1) ys l m calls have.0 since.0 adds.0 ∙ sym some in
+    let here : Here n = one_concurrent (n + 1) ys l m calls have.0 since.0 adds.0 ∙ sym some in
     dite (ℕ_discrete i n) (λ (e : i ≡ n). subst Here (sym e) here)
     (λ (ne : i ≢ n).
-    lanes_beside (n + 1) i phase phases ys xs ls ms (λ k. ap (slice_get phase.lanes.items) (omega arith) ∙ there (suc k)) have.2 since.1 adds.1
+    lanes_concurrent (n + 1) i phase phases ys xs ls ms (λ k. ap (slice_get phase.lanes.items) (omega arith) ∙ there (suc k)) have.2 since.1 adds.1
     (λ k more. others k (omega (arith, more))) (omega (arith, le, ne)))
 
 in_order : (ps bs ys ns fs : List Record) → ps ++ bs ++ ys ++ (ns ++ fs) ≡ ps ++ (bs ++ ys ++ ns ++ fs)
@@ -205,7 +205,7 @@ passes_over Answers desk phases phase p s ls ms reports since o =
     zip_weaker (CalledBetween t.begun.log t.joined.log) (PassOver p.log t.begun.log t.joined.log s.log)
     (λ (l : Seen). IsPrefix (own l.number l.log) (own l.number p.log)) (λ (m : Seen). IsPrefix (own m.number s.log) (own m.number m.log)) ls ms
     (λ l m had no_more between. pass_over p.log t.begun.log t.joined.log s.log l m t.begins.2 t.ends.2 had no_more between)
-    o.had.sees o.no_more.each t.beside.each
+    o.had.sees o.no_more.each t.concurrent.each
 
 -- passes that aren't there have no record in what comes first
 pub others_before : (k : ℕ) (ls ms : List Seen) (xs ys : List Record) → length ls ≡ length ms → IsPrefix xs ys → ((j : ℕ) → length ms < j → own j ys ≡ []) → length ls < k → own k xs ≡ []
@@ -213,9 +213,9 @@ others_before k ls ms xs ys same begins others more = none_before k xs ys begins
 
 -- the part of a phase that is over, and how the list goes on with it
 record PartMade (desk : Terms) (phase : Phase) (turn : MainSteps) (before since : List Record) : Type 0 where
-  beside : List Record
-  is : AreRecordsOfPhase desk before phase (record { turn = turn; beside = beside })
-  made : since ≡ before ++ all_in (record { turn = turn; beside = beside })
+  concurrent : List Record
+  is : AreRecordsOfPhase desk before phase (record { turn = turn; concurrent = concurrent })
+  made : since ≡ before ++ all_in (record { turn = turn; concurrent = concurrent })
 
 part_made : (Answers : Tried → Type 0) (desk : Terms) (phases : List Phase) (phase : Phase) (p s : Seen) (ls ms : List Seen) (reports since : List Report)
     → (o : PartOver Answers desk phases phase p s ls ms reports since) → PartMade desk phase o.took.took.turn p.log s.log
@@ -228,8 +228,8 @@ part_made Answers desk phases phase p s ls ms reports since o =
     let Over = PassOver p.log begun joined s.log in
     let same = zip_length Over ls ms over in
     let zero : t.begun.number ≡ 0 = t.begins.0 ∙ o.had.main.0 in
-    let still : t.joined.number ≡ 0 = t.beside.quiet.0 ∙ zero in
-    let to_end : IsPrefix begun s.log = prefix_trans begun joined s.log t.beside.quiet.2 t.ends.2 in
+    let still : t.joined.number ≡ 0 = t.concurrent.quiet.0 ∙ zero in
+    let to_end : IsPrefix begun s.log = prefix_trans begun joined s.log t.concurrent.quiet.2 t.ends.2 in
     let all : IsPrefix p.log s.log = prefix_trans p.log begun s.log t.begins.2 to_end in
     let begins : begun ≡ p.log ++ turn.begins =
     continues p.log begun turn.begins t.begins.2
@@ -239,9 +239,9 @@ part_made Answers desk phases phase p s ls ms reports since o =
     others_before k ls ms begun s.log same to_end o.no_more.others past ∙ sym (others_before k ls ms p.log s.log same all o.no_more.others past)))
     (subst (λ (n : ℕ). own n begun ≡ own n p.log ++ turn.begins) o.had.main.0 t.begins.1)
     in
-    let rest = t.beside.quiet.2.0 in
-    let between : begun ++ rest ≡ joined = t.beside.quiet.2.1 in
-    let quiet : own 0 joined ≡ own 0 begun = subst (λ (n : ℕ). own n joined ≡ own n begun) zero (t.beside.quiet.1 ∙ append-nil (own t.begun.number begun)) in
+    let rest = t.concurrent.quiet.2.0 in
+    let between : begun ++ rest ≡ joined = t.concurrent.quiet.2.1 in
+    let quiet : own 0 joined ≡ own 0 begun = subst (λ (n : ℕ). own n joined ≡ own n begun) zero (t.concurrent.quiet.1 ∙ append-nil (own t.begun.number begun)) in
     let ends : s.log ≡ joined ++ (turn.notes ++ turn.finishes) =
     continues joined s.log (turn.notes ++ turn.finishes) t.ends.2
     (of_each (λ (k : ℕ). own k s.log ≡ own k joined) 0 phases ls o.have
@@ -264,7 +264,7 @@ part_made Answers desk phases phase p s ls ms reports since o =
     in
     let mine : own 0 s.log ≡ own 0 p.log ++ records_in turn = subst (λ (n : ℕ). own n s.log ≡ own n p.log ++ records_in turn) o.had.main.0 t.took.made.1 in
     record {
-      beside = rest;
+      concurrent = rest;
       is =
           record {
             main =
@@ -272,7 +272,7 @@ part_made Answers desk phases phase p s ls ms reports since o =
                 (subst (λ (rs : List Record). All (λ (r : Record). r.pass ≡ 0) rs) mine (own_passes 0 s.log));
             ended = λ requested. subst (λ (rs : List Record). BeginsExhausted desk phase.at rs turn.begins) begins (t.ended requested);
             others = own_rest 0 begun rest joined between quiet;
-            lanes = λ i. lanes_beside 0 i phase phases rest phase.lanes.items ls ms (λ k. ap (slice_get phase.lanes.items) (omega arith)) o.have o.lanes adds none (omega arith);
+            lanes = λ i. lanes_concurrent 0 i phase phases rest phase.lanes.items ls ms (λ k. ap (slice_get phase.lanes.items) (omega arith)) o.have o.lanes adds none (omega arith);
           };
       made =
           ends
@@ -318,17 +318,17 @@ part_more Answers desk phases phase p s ls ms reports since have lanes had t =
     let turn = t.took.turn in
     let begun = t.begun.log in
     let joined = t.joined.log in
-    let to_end : IsPrefix begun s.log = prefix_trans begun joined s.log t.beside.quiet.2 t.ends.2 in
+    let to_end : IsPrefix begun s.log = prefix_trans begun joined s.log t.concurrent.quiet.2 t.ends.2 in
     let all : IsPrefix p.log s.log = prefix_trans p.log begun s.log t.begins.2 to_end in
     record {
       main = turn_more Answers desk phases phase p s reports since had.main t.took;
       sees =
           zip_seconds (CalledBetween begun joined) (λ (m : Seen). IsPrefix (own m.number m.log) (own m.number s.log)) ls ms
-          (λ l m x. prefix_trans (own m.number m.log) (own m.number joined) (own m.number s.log) x.ends (own_prefix m.number joined s.log t.ends.2)) t.beside.each;
+          (λ l m x. prefix_trans (own m.number m.log) (own m.number joined) (own m.number s.log) x.ends (own_prefix m.number joined s.log t.ends.2)) t.concurrent.each;
       parts = λ no_more.
-          let before = had.parts (no_more_before p s ls ms begun joined t.begins.2 all t.beside.each no_more) in
+          let before = had.parts (no_more_before p s ls ms begun joined t.begins.2 all t.concurrent.each no_more) in
           let one = part_made Answers desk phases phase p s ls ms reports since (record { have = have; lanes = lanes; had = had; took = t; no_more = no_more }) in
-          let part : PhaseRecords = record { turn = turn; beside = one.beside } in
+          let part : PhaseRecords = record { turn = turn; concurrent = one.concurrent } in
           record {
             parts = before.parts ++ part ∷ [];
             turned =

@@ -16,7 +16,7 @@ use Rattle.am_desk.specs.Calls.{Called, cause_of_begin}
 use Rattle.am_desk.specs.History.{own}
 use Rattle.am_desk.specs.Known.{Observes, Seen}
 use Rattle.am_desk.specs.declared.word.Terms.{Terms}
-use Rattle.am_board.proofs.lemmas.invariant.Calls.{room_of}
+use Rattle.am_board.proofs.lemmas.invariant.Calls.{space_of}
 use Rattle.am_desk.proofs.Prefixes.{prefix_length, prefix_self, prefix_snoc, prefix_trans}
 use Rattle.am_run.specs.Steps.{Begins, FinishesOne, Grows, IsUnrecorded, MadeRecords, opened_of}
 use Rattle.am_run.specs.Turns.{BeginsExhausted, EndsWithNothingDue, FoundDue, FailsTooManyOpen, Opened, opened_by, opened_in}
@@ -55,9 +55,9 @@ pub one_finish : (t : Terms) (p q : Seen) (Allowed : List Record → Type 0) (no
 one_finish t p q Allowed now ticket returned called = (entry p.number (call.Finish now ticket.number ticket.outcomes) returned, one_record t p q Allowed _ called, refl)
 
 -- begins that were made before these, which all found a group due
-rightly_more : (t : Terms) (at : ℕ) (front xs ys : List Record) → All FoundDue xs → BeginsExhausted t at front ys
+exhausted_more : (t : Terms) (at : ℕ) (front xs ys : List Record) → All FoundDue xs → BeginsExhausted t at front ys
     → BeginsExhausted t at front (xs ++ ys)
-rightly_more t at front xs ys found then =
+exhausted_more t at front xs ys found then =
     ⊎_elim
     (λ (nothing : EndsWithNothingDue ys).
     inl (
@@ -77,9 +77,9 @@ not_requested flush unset set = true≢false (sym set ∙ unset)
 -- an accepted begin leaves a record, for which there was capacity
 pub begin_grows : (t : Terms) (at : ℕ) (p q : Seen) (r : Record) → Called t p (λ h. cause_of_begin t at h ≡ None) r q → Grows t p q
 begin_grows t at p q r c =
-    let room = (room_of t.config (length c.found) (replay t.config c.found) 2 (Some fault.HistoryFull) _ c.allowed (λ h. absurd (cc))).0 in
+    let space = (space_of t.config (length c.found) (replay t.config c.found) 2 (Some fault.HistoryFull) _ c.allowed (λ h. absurd (cc))).0 in
     let longer : length q.log ≡ length c.found + 1 = ap (λ (s : Seen). length s.log) c.sees ∙ length_push c.found r in
-    (omega (arith, prefix_length p.log c.found c.begins, longer), omega (arith, room, longer))
+    (omega (arith, prefix_length p.log c.found c.begins, longer), omega (arith, space, longer))
 
 -- no flush was asked for, and nothing was done
 pub begins_none : (t : Terms) (flush : Bool) (at : ℕ) (p q : Seen) (ts us : List TicketData) → flush ≡ false → us ≡ ts → MadeRecords [] p q → Begins t flush false at p q ts us
@@ -178,7 +178,7 @@ begins_more t more at p q r ts us vs first then =
       made = more_records first.begins then.begins p q r first.made then.made;
       begun = All-append (λ (x : Record). (true ≡ true) × (x.call ≡ call.Begin at)) first.begins then.begins first.begun then.begun;
       found = λ m. All-append FoundDue first.begins then.begins (first.found refl) (then.found m);
-      ended = λ requested end. rightly_more t at r.log first.begins then.begins (first.found refl) (then.ended requested end);
+      ended = λ requested end. exhausted_more t at r.log first.begins then.begins (first.found refl) (then.ended requested end);
       opened =
           then.opened
           ∙ (ap (λ (os : List Opened). os ++ opened_by then.begins) first.opened

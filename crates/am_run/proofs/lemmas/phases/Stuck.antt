@@ -200,8 +200,8 @@ abbrev Within : List Record → Seen → Seen → Type 0
 Within rest l m = IsPrefix (own l.number l.log ++ own l.number rest) (own l.number m.log)
 
 -- their calls are the first of its lane
-first_beside : (n : ℕ) (rest : List Record) (l m : Seen) (calls done : List Call) → l.number ≡ n → IsPrefix done calls → MadeCalls done l m → Within rest l m → IsPrefix (calls_by n rest) calls
-first_beside n rest l m calls done is first made within =
+first_concurrent : (n : ℕ) (rest : List Record) (l m : Seen) (calls done : List Call) → l.number ≡ n → IsPrefix done calls → MadeCalls done l m → Within rest l m → IsPrefix (calls_by n rest) calls
+first_concurrent n rest l m calls done is first made within =
     let f = λ (r : Record). r.call in
     let k = l.number in
     let all : IsPrefix (calls_by k l.log ++ calls_by k rest) (calls_by k l.log ++ done) =
@@ -211,17 +211,17 @@ first_beside n rest l m calls done is first made within =
     subst (λ (j : ℕ). IsPrefix (calls_by j rest) calls) is
     (prefix_trans (calls_by k rest) done calls (prefix_cancel (calls_by k l.log) (calls_by k rest) done all) first)
 
-firsts_beside : (n i : ℕ) (at : ℕ) (lanes : List Lane) (phases : List Phase) (rest : List Record) (ls ms : List Seen) → HaveMade n phases ls → MadeFirst at lanes n ls ms → AllZip (Within rest) ls ms
+firsts_concurrent : (n i : ℕ) (at : ℕ) (lanes : List Lane) (phases : List Phase) (rest : List Record) (ls ms : List Seen) → HaveMade n phases ls → MadeFirst at lanes n ls ms → AllZip (Within rest) ls ms
     → ((k : ℕ) → n + length ls < k → own k rest ≡ []) → n ≤ i → IsPrefix (calls_by (i + 1) rest) (calls_at at (slice_get lanes i))
-firsts_beside n i at lanes phases rest [] ms have first within others le =
+firsts_concurrent n i at lanes phases rest [] ms have first within others le =
     subst (λ (rs : List Record). IsPrefix (map (λ (r : Record). r.call) rs) (calls_at at (slice_get lanes i))) (sym (others (i + 1) (omega (arith, le))))
     (prefix_nil (calls_at at (slice_get lanes i)))
-firsts_beside n i at lanes phases rest (l ∷ ls) [] have first within others le = absurd within
-firsts_beside n i at lanes phases rest (l ∷ ls) (m ∷ ms) have first within others le =
+firsts_concurrent n i at lanes phases rest (l ∷ ls) [] have first within others le = absurd within
+firsts_concurrent n i at lanes phases rest (l ∷ ls) (m ∷ ms) have first within others le =
     let Here = λ (j : ℕ). IsPrefix (calls_by (j + 1) rest) (calls_at at (slice_get lanes j)) in
-    let here : Here n = first_beside (n + 1) rest l m (calls_at at (slice_get lanes n)) first.0.0 have.0 first.0.1 first.0.2 within.0 in
+    let here : Here n = first_concurrent (n + 1) rest l m (calls_at at (slice_get lanes n)) first.0.0 have.0 first.0.1 first.0.2 within.0 in
     dite (ℕ_discrete i n) (λ (e : i ≡ n). subst Here (sym e) here)
-    (λ (ne : i ≢ n). firsts_beside (n + 1) i at lanes phases rest ls ms have.2 first.1 within.1 (λ k more. others k (omega (arith, more))) (omega (arith, le, ne)))
+    (λ (ne : i ≢ n). firsts_concurrent (n + 1) i at lanes phases rest ls ms have.2 first.1 within.1 (λ k more. others k (omega (arith, more))) (omega (arith, le, ne)))
 
 -- what a list goes on with has the records of a pass that the pass made since
 within_one : (begun rest h joined : List Record) (l m : Seen) → begun ++ rest ≡ h → IsPrefix h joined → (own l.number begun ≡ own l.number l.log) → m.number ≡ l.number
@@ -302,9 +302,9 @@ stuck_at_call Answers t phases q ms history passes o b =
             begins = b.begins;
             main = begins_of phase b.begins (begins_main s.before s.p s.ls b.begun b.begins past) b.requested;
             ended = λ requested. subst (λ (rs : List Record). BeginsExhausted t at rs b.begins) is (b.ended requested);
-            beside = rest;
+            concurrent = rest;
             others = own_rest 0 begun rest h whole main_h;
-            lanes = λ i. firsts_beside 0 i at lanes s.before rest s.ls ms s.have stop.made within none (omega arith);
+            lanes = λ i. firsts_concurrent 0 i at lanes s.before rest s.ls ms s.have stop.made within none (omega arith);
             legal = subst (λ (rs : List Record). IsLegal t.config t.id rs) (sym all) x.legal;
             lane = one.lane;
             call = x.call;

@@ -21,7 +21,7 @@ use Rattle.am_pool.specs.declared.courier.Tried.{Tried}
 use Rattle.am_run.specs.Interleaving.{RanBefore, RunsPhase}
 use Rattle.am_pool.specs.Sendings.{IsSentFrom, end_on}
 use Rattle.am_run.specs.Steps.{Begins, Finishes, AfterMainSteps, IsUnrecorded, MadeRecords, Sends, RunsMainSteps, finish_with, is_recorded_success, note_of, notes_of, notes_of_all, opened_of, recorded_all}
-use Rattle.am_run.specs.Turns.{AreNotesWithRoom, AreTurnsFrom, AreAllMainStepsOf, AreMainStepsOf, Opened, MainSteps, all_notes_due, finish_of, is_success, last_end, note_on, notes_due, opened_by, outcome_in, outcomes_reported, records_in, report_on, reports_on, to_send}
+use Rattle.am_run.specs.Turns.{AreNotesUnlessFull, AreTurnsFrom, AreAllMainStepsOf, AreMainStepsOf, Opened, MainSteps, all_notes_due, finish_of, is_success, last_end, note_on, notes_due, opened_by, outcome_in, outcomes_reported, records_in, report_on, reports_on, to_send}
 use Rattle.am_scenario.specs.declared.scenario.Phase.{Phase}
 use Rattle.am_run.proofs.lemmas.phases.Noting.{noted_longer}
 use Rattle.am_run.proofs.lemmas.phases.Steps.{more_records}
@@ -159,9 +159,9 @@ turn_taken Answers t phase p q r s ts us had reports since begins sends finishes
     let before = own p.number p.log in
     let fresh : All IsUnrecorded ts = begins.unrecorded (All-nil IsUnrecorded) in
     let opened : map opened_of ts ≡ opened_by begins.begins = begins.opened in
-    let noted : AreNotesWithRoom t p.number r.log (before ++ begins.begins) (notes_of_all phase.at reports us) notes.records =
-    subst (λ (xs : List Record). AreNotesWithRoom t p.number r.log xs (notes_of_all phase.at reports us) notes.records) begins.made.1
-    (subst (λ (n : ℕ). AreNotesWithRoom t n r.log (own n q.log) (notes_of_all phase.at reports us) notes.records) begins.made.0 notes.noted)
+    let noted : AreNotesUnlessFull t p.number r.log (before ++ begins.begins) (notes_of_all phase.at reports us) notes.records =
+    subst (λ (xs : List Record). AreNotesUnlessFull t p.number r.log xs (notes_of_all phase.at reports us) notes.records) begins.made.1
+    (subst (λ (n : ℕ). AreNotesUnlessFull t n r.log (own n q.log) (notes_of_all phase.at reports us) notes.records) begins.made.0 notes.noted)
     in
     let due : notes_of_all phase.at reports us ≡ all_notes_due phase.at reports (opened_by begins.begins) =
     notes_each phase.at reports ts us sends.recorded fresh ∙ ap (all_notes_due phase.at reports) opened
@@ -177,7 +177,7 @@ turn_taken Answers t phase p q r s ts us had reports since begins sends finishes
             sent = subst (λ (os : List Opened). AllZip (IsSentFrom Answers phase.at) (to_send os) reports) opened sends.sent;
             noted =
                 noted_longer t p.number r.log s.log (before ++ begins.begins) (all_notes_due phase.at reports (opened_by begins.begins)) notes.records later
-                (subst (λ (cs : List Call). AreNotesWithRoom t p.number r.log (before ++ begins.begins) cs notes.records) due noted);
+                (subst (λ (cs : List Call). AreNotesUnlessFull t p.number r.log (before ++ begins.begins) cs notes.records) due noted);
             finished =
                 finishes.calls
                 ∙ (ap (map (finish_with phase.at reports)) sends.recorded
@@ -209,7 +209,7 @@ part_taken Answers t phase p q r s ls ms ts us had reports since begins sends fi
       joined = first.joined;
       begins = begins.made;
       ended = λ requested. begins.ended requested refl;
-      beside = first.ran;
+      concurrent = first.ran;
       ends =
           more_records notes.records finishes.finishes first.joined r s (notes_after q first.joined r notes.records first.ran.quiet first.begins notes.made)
           finishes.made;

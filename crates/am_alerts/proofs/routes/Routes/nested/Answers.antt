@@ -1,7 +1,7 @@
 use Rattle.std.proofs.Common.{rules, ◌≡◌, ◌&&◌, ◌∙◌, inr, ap, sym, refl, length, map, None, Some}
 use Rattle.std.specs.Prelude.{nat_le}
 use Rattle.am_alerts.specs.Forest.{height, listed}
-use Rattle.am_alerts.specs.Layout.{laid}
+use Rattle.am_alerts.specs.Layout.{preorder}
 use Rattle.am_alerts.specs.Nested.{forest, nested_of, settled_below}
 use Rattle.am_alerts.specs.RouteLayouts.{layout_of}
 use Rattle.am_alerts.specs.RoutingTree.{fault_where, tree_fault}
@@ -16,7 +16,7 @@ invariant_of-result c =
     let ps = c.push_nodes.new.layouts.items in
     let children : cs ≡ map (λ r. r.child) (listed (settled_below c.args.root rules_below)) =
     rw c.new-children.ensures.items at c.in_ok-push_nodes.ensures.children in
-    let layouts : ps ≡ map layout_of (laid (settled_below c.args.root rules_below)) =
+    let layouts : ps ≡ map layout_of (preorder (settled_below c.args.root rules_below)) =
     rw c.new-layouts.ensures.items at c.in_ok-push_nodes.ensures.layouts in
     let size : c.len.result ≡ length cs = search rules in
     let low : c.is_low-low.result ≡ nat_le (height rules_below) MAX_DEPTH = rw c.as_slice.ensures.value at c.is_low-low.ensures in
@@ -33,7 +33,7 @@ returns-in-None-clause-value c =
     let ps = c.push_nodes.new.layouts.items in
     let children : cs ≡ map (λ r. r.child) (listed (settled_below c.args.root rules_below)) =
     rw c.new-children.ensures.items at c.in_ok-push_nodes.ensures.children in
-    let layouts : ps ≡ map layout_of (laid (settled_below c.args.root rules_below)) =
+    let layouts : ps ≡ map layout_of (preorder (settled_below c.args.root rules_below)) =
     rw c.new-layouts.ensures.items at c.in_ok-push_nodes.ensures.layouts in
     rw (c.from.ensures, c.from-in-None.ensures) (tree_from_nested c.args.root rules_below cs ps children layouts)
 
@@ -44,7 +44,7 @@ returns-in-Some-clause-refused c =
     let ps = c.push_nodes.new.layouts.items in
     let children : cs ≡ map (λ r. r.child) (listed (settled_below c.args.root rules_below)) =
     rw c.new-children.ensures.items at c.in_ok-push_nodes.ensures.children in
-    let layouts : ps ≡ map layout_of (laid (settled_below c.args.root rules_below)) =
+    let layouts : ps ≡ map layout_of (preorder (settled_below c.args.root rules_below)) =
     rw c.new-layouts.ensures.items at c.in_ok-push_nodes.ensures.layouts in
     let size : c.len.result ≡ length cs = search rules in
     let low : c.is_low-low.result ≡ nat_le (height rules_below) MAX_DEPTH = rw c.as_slice.ensures.value at c.is_low-low.ensures in

@@ -15,9 +15,9 @@ invariant_of-self c =
     let fresh = c.in_ok-fresh.ensures in
     let none = ap (λ (v : Vec Record Global). v.items) c.replace-taken.ensures.after ∙ fresh.items in
     let empty = ap (λ (v : Vec Record Global). vec_len v) c.replace-taken.ensures.after ∙ fresh.len in
-    let room = ap (λ (v : Vec Record Global). vec_capacity v) c.replace-taken.ensures.after in
+    let space = ap (λ (v : Vec Record Global). vec_capacity v) c.replace-taken.ensures.after in
     let past = c.add_all.ensures ∙ ap (λ (rs : List Record). b.past.items ++ rs) (c.as_slice.ensures.value ∙ ap (λ (v : Vec Record Global). v.items) c.replace-taken.ensures.value) in
-    sound_taken b c.self.invariant c.args.self.now c.self.view_is c.replace-taken.new.dest c.add_all.new.self none past _ (omega arith) (omega (arith, c.if-handed-gt-MAX_HANDED.false)) empty (omega (arith, room, fresh.capacity))
+    sound_taken b c.self.invariant c.args.self.now c.self.view_is c.replace-taken.new.dest c.add_all.new.self none past _ (omega arith) (omega (arith, c.if-handed-gt-MAX_HANDED.false)) empty (omega (arith, space, fresh.capacity))
 
 pub returns-clause-records : goal.returns-clause-records
 returns-clause-records c =

@@ -1,7 +1,7 @@
 use Rattle.std.proofs.Common.{◌≡◌, true, true≢false, ap}
 use Rattle.indexmap.specs.IndexMap.{spare}
 use Rattle.am_board.specs.declared.group.Group.{Group}
-use Rattle.am_board.proofs.lemmas.insert.GroupRoom.{changes_at}
+use Rattle.am_board.proofs.lemmas.insert.GroupSpace.{changes_at}
 use Rattle.am_board.proofs.lemmas.invariant.DueKeys.{tied_change}
 use Rattle.am_board.specs.Empty.{is_bare}
 use Rattle.am_board.proofs.lemmas.maintain.Empties.{counted_same}

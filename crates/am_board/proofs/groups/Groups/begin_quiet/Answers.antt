@@ -3,7 +3,7 @@ use Rattle.indexmap.specs.IndexMap.{spare}
 use Rattle.am_board.specs.Refinement.{group_state}
 use Rattle.am_model.specs.State.{GroupState}
 use Rattle.am_board.specs.declared.group.Group.{Group}
-use Rattle.am_board.proofs.lemmas.insert.GroupRoom.{changes_at, lent_as}
+use Rattle.am_board.proofs.lemmas.insert.GroupSpace.{changes_at, lent_as}
 use Rattle.am_board.proofs.lemmas.invariant.DueKeys.{had_at, tied_change}
 use Rattle.am_model.specs.Begin.{count_resolved, without_resolved}
 use Rattle.am_board.proofs.lemmas.maintain.Empties.{bare-state, counted_change, counted_has, counted_fewer}

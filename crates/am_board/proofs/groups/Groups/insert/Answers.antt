@@ -1,6 +1,6 @@
 use Rattle.std.proofs.Common.{refl, sym, ◌∙◌, ◌+◌, cond, ap, arith}
 use Rattle.indexmap.specs.IndexMap.{spare}
-use Rattle.am_board.proofs.lemmas.insert.GroupRoom.{changes_at}
+use Rattle.am_board.proofs.lemmas.insert.GroupSpace.{changes_at}
 use Rattle.am_board.proofs.lemmas.invariant.DueKeys.{had_at, tied_change}
 use Rattle.am_board.specs.Group.{Gets}
 use Rattle.am_board.specs.Refinement.{member_state}
@@ -29,4 +29,4 @@ recounted-self-inside-requires-clause-fewer c e = counted_has c.self.inside.empt
 pub returns : goal.returns
 returns c =
     changes_at c.self.inside.groups.entries (spare c.self.inside.groups) c.args.self.now c.self.view_is c.args.i c.index_mut-group.result.now c.index_mut-group.ensures.value
-    (Gets (member_state c.args.member) c.args.wait c.args.t) c.insert.new.self (c.insert.ensures.name) (record { is_open = c.insert.ensures.opened; room = c.insert.ensures.room; state = c.insert.ensures.state })
+    (Gets (member_state c.args.member) c.args.wait c.args.t) c.insert.new.self (c.insert.ensures.name) (record { is_open = c.insert.ensures.opened; space = c.insert.ensures.space; state = c.insert.ensures.state })

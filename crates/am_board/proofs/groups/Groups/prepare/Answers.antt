@@ -2,7 +2,7 @@ use Rattle.std.proofs.Common.{ap}
 use Rattle.indexmap.specs.IndexMap.{spare}
 use Rattle.am_board.specs.declared.group.Group.{Group}
 use Rattle.am_board.proofs.lemmas.begin.PlannedFlushes.{members-apart}
-use Rattle.am_board.proofs.lemmas.insert.GroupRoom.{lent_at, same_at}
+use Rattle.am_board.proofs.lemmas.insert.GroupSpace.{lent_at, same_at}
 use Rattle.am_board.proofs.lemmas.invariant.DueKeys.{tied_same}
 use Rattle.am_board.specs.Empty.{is_bare}
 use Rattle.am_board.proofs.lemmas.maintain.Empties.{counted_same}

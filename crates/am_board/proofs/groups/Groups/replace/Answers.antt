@@ -1,7 +1,7 @@
 use Rattle.std.proofs.Common.{refl, sym, ap, ◌∙◌, map, arith}
 use Rattle.std.specs.Map.{values_of}
 use Rattle.indexmap.specs.IndexMap.{spare}
-use Rattle.am_board.proofs.lemmas.insert.GroupRoom.{changes_at}
+use Rattle.am_board.proofs.lemmas.insert.GroupSpace.{changes_at}
 use Rattle.am_board.proofs.lemmas.invariant.DueKeys.{had_at, tied_change}
 use Rattle.am_board.proofs.lemmas.invariant.GroupNames.{labels_set}
 use Rattle.am_board.proofs.lemmas.invariant.Keyed.{value_at, values-set}
@@ -27,7 +27,7 @@ pub returns-clause-group : goal.returns-clause-group
 returns-clause-group c =
     changes_at c.self.inside.groups.entries (spare c.self.inside.groups) c.args.self.now c.self.view_is c.args.spot.group c.index_mut-group.result.now c.index_mut-group.ensures.value
     (Gets (stamped_alert c.args.alert c.args.stamp) c.args.wait c.args.t) c.replace.new.self c.replace.ensures.name
-    (record { is_open = c.replace.ensures.opened; room = omega (arith, c.replace.ensures.room); state = c.replace.ensures.state })
+    (record { is_open = c.replace.ensures.opened; space = omega (arith, c.replace.ensures.space); state = c.replace.ensures.state })
 
 pub returns-clause-labels : goal.returns-clause-labels
 returns-clause-labels c =

@@ -2,7 +2,7 @@ use Rattle.std.proofs.Common.{ap, sym, subst}
 use Rattle.indexmap.specs.IndexMap.{spare}
 use Rattle.am_model.specs.State.{GroupState}
 use Rattle.am_board.specs.declared.group.Group.{Group}
-use Rattle.am_board.proofs.lemmas.insert.GroupRoom.{changes_at, written_at}
+use Rattle.am_board.proofs.lemmas.insert.GroupSpace.{changes_at, written_at}
 use Rattle.am_board.proofs.lemmas.invariant.DueKeys.{tied_same}
 use Rattle.am_board.specs.Group.{Fits, IsReserved}
 use Rattle.std.proofs.lemmas.Result.{on_ok_weaker}
@@ -21,7 +21,7 @@ returns-clause-kept c =
     changes_at c.self.inside.groups.entries (spare c.self.inside.groups) c.args.self.now c.self.view_is c.args.i c.index_mut.result.now c.index_mut.ensures.value
     IsReserved c.reserve_members.new.group (c.reserve_members.ensures.kept.name) (c.reserve_members.ensures.kept)
 
-pub returns-clause-room : goal.returns-clause-room
-returns-clause-room c =
+pub returns-clause-space : goal.returns-clause-space
+returns-clause-space c =
     let there = λ (d : Group). written_at c.self.inside.groups.entries (spare c.self.inside.groups) c.args.self.now c.self.view_is c.args.i c.index_mut.result.now c.index_mut.ensures.value c.reserve_members.new.group d in
-    on_ok_weaker c.reserve_members.result (λ fits d. subst (Fits c.args.more) (sym (there d)) fits) c.reserve_members.ensures.room
+    on_ok_weaker c.reserve_members.result (λ fits d. subst (Fits c.args.more) (sym (there d)) fits) c.reserve_members.ensures.space

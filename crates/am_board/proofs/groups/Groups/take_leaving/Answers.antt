@@ -3,7 +3,7 @@ use Rattle.indexmap.specs.IndexMap.{spare}
 use Rattle.am_board.specs.Refinement.{group_state, member_state, stamped}
 use Rattle.am_model.specs.State.{GroupState}
 use Rattle.am_board.specs.declared.group.Group.{Group}
-use Rattle.am_board.proofs.lemmas.insert.GroupRoom.{changes_at, lent_as}
+use Rattle.am_board.proofs.lemmas.insert.GroupSpace.{changes_at, lent_as}
 use Rattle.am_board.proofs.lemmas.invariant.DueKeys.{tied_same}
 use Rattle.std.specs.Prelude.{count_by}
 use Rattle.am_model.specs.Finish.{is_leaving}

@@ -13,7 +13,7 @@ use Rattle.am_board.specs.DueOrder.{has_key, key_cmp}
 use Rattle.am_board.specs.Group.{names_of}
 use Rattle.am_board.specs.GroupList.{name_of}
 use Rattle.am_board.specs.Keyed.{AreKeyed}
-use Rattle.am_board.specs.Marks.{TellOpen}
+use Rattle.am_board.specs.Marks.{HaveOpenFlags}
 use Rattle.am_board.specs.Refinement.{group_state}
 use Rattle.am_board.specs.declared.due.DueKey.{DueKey}
 use Rattle.am_board.specs.declared.due.DueSet.{DueSet}
@@ -30,7 +30,7 @@ abbrev all_keys : DueSet → List DueKey
 all_keys set = (set.ring ++ set.tree.keys) ++ set.heap
 
 -- each group that can be taken has its key there
-all_have : (set : DueSet) (gs : List Group) (fs : List FlushState) (t : ℕ) → IsTrue set.whole → AreDue set gs → TellOpen fs gs
+all_have : (set : DueSet) (gs : List Group) (fs : List FlushState) (t : ℕ) → IsTrue set.whole → AreDue set gs → HaveOpenFlags fs gs
     → (j : ℕ) (d : Group) → j < length gs → may_take fs t (group_state (get_or gs j d)) ≡ true → has_key (all_keys set) (key_of (get_or gs j d)) ≡ true
 all_have set gs fs t whole due marked j d within may =
     let g : Group = get_or gs j d in

@@ -1,7 +1,7 @@
 use Rattle.std.proofs.Common.{◌≡◌, List, sym, ap, ◌∙◌}
 use Rattle.std.specs.Map.{values_of}
 use Rattle.am_model.specs.State.{FlushState, is_flushing}
-use Rattle.am_board.specs.Marks.{TellOpen}
+use Rattle.am_board.specs.Marks.{HaveOpenFlags}
 use Rattle.am_board.specs.declared.due.DueKey.{DueKey}
 use Rattle.am_board.specs.declared.group.Group.{Group}
 use Rattle.am_board.proofs.lemmas.invariant.Keyed.{value_at}
@@ -9,7 +9,7 @@ use Rattle.am_board.proofs.groups.first.free_index.Goals as goal
 use Rattle.am_board.proofs.groups.first.free_index.Goals.{After-index}
 
 -- the group at the index says whether a flush of the key's group is open
-said : (c : After-index) (fs : List FlushState) → TellOpen fs (values_of c.args.groups.now.entries) → is_flushing fs c.args.key.now.name ≡ c.index.result.now.is_open
+said : (c : After-index) (fs : List FlushState) → HaveOpenFlags fs (values_of c.args.groups.now.entries) → is_flushing fs c.args.key.now.name ≡ c.index.result.now.is_open
 said c fs returned =
     let gs = values_of c.args.groups.now.entries in
     let index = c.in_ok-index.index in

@@ -13,14 +13,14 @@ alone : (members : Members) (value : Data) → Some value ≡ get_member (codes 
 alone members value is decoded =
     found Unit (λ v. HasNone (codes "firing") members × HasNone (codes "resolved") members) value (get_member (codes "exactly") members) is decoded
 
-pub returns-in_err-refuse_beside-clause-refused : goal.returns-in_err-refuse_beside-clause-refused
-returns-in_err-refuse_beside-clause-refused c =
+pub returns-in_err-refuse_together-clause-refused : goal.returns-in_err-refuse_together-clause-refused
+returns-in_err-refuse_together-clause-refused c =
     let members = members_view c.args.item.now.members in
     failed (SaysExactly members → ⊥) c.from_residual.result
-    (λ decoded. c.in_err-refuse_beside.ensures.there (alone members (view c.in-Some.exactly.value) c.in-Some.ensures.value decoded).0)
+    (λ decoded. c.in_err-refuse_together.ensures.there (alone members (view c.in-Some.exactly.value) c.in-Some.ensures.value decoded).0)
 
 pub returns-clause-refused : goal.returns-clause-refused
 returns-clause-refused c =
     let members = members_view c.args.item.now.members in
     fails_less (get_member (codes "resolved") members ≢ None) (SaysExactly members → ⊥)
-    (λ there decoded. there (alone members (view c.in-Some.exactly.value) c.in-Some.ensures.value decoded).1) c.refuse_beside-2.result c.refuse_beside-2.ensures.there
+    (λ there decoded. there (alone members (view c.in-Some.exactly.value) c.in-Some.ensures.value decoded).1) c.refuse_together-2.result c.refuse_together-2.ensures.there

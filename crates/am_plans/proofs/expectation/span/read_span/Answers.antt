@@ -4,7 +4,7 @@ use Rattle.serde_json.specs.View.{members_view, view}
 use Rattle.am_cli.proofs.Decoding.{handed_on, narrowed}
 use Rattle.am_cli.specs.Decoding.{HasNone}
 use Rattle.am_plans.proofs.Decodings.{found_none}
-use Rattle.am_plans.proofs.ExpectedSpans.{DecodesSpan, DecodesWithin, beside_within}
+use Rattle.am_plans.proofs.ExpectedSpans.{DecodesSpan, DecodesWithin, together_with_within}
 use Rattle.am_plans.specs.Expected.{IsOwnSpan, IsSpanWithin}
 use Rattle.am_plans.proofs.expectation.span.read_span.Goals as goal
 
@@ -18,29 +18,29 @@ returns-in_default-clause-refused c =
     (get_member (codes "within") members) c.in_default.ensures.value decoded.0)
     c.read_own_span.result c.read_own_span.ensures.refused
 
-pub returns-in_err-refuse_beside-clause-refused : goal.returns-in_err-refuse_beside-clause-refused
-returns-in_err-refuse_beside-clause-refused c =
+pub returns-in_err-refuse_together-clause-refused : goal.returns-in_err-refuse_together-clause-refused
+returns-in_err-refuse_together-clause-refused c =
     let d = c.args.item.now.mode in
     let members = members_view c.args.item.now.members in
-    handed_on (DecodesSpan d c.args.until c.args.last c.args.plans.now members) c.from_residual.result c.in_err-refuse_beside.field-0.0 c.from_residual.ensures.1
-    (λ refusal s decoded. c.in_err-refuse_beside.ensures.there
-    (beside_within d c.args.until c.args.last c.args.plans.now members (view c.in-Some.within.value) s.0 s.1 c.in-Some.ensures.value decoded.0).0)
+    handed_on (DecodesSpan d c.args.until c.args.last c.args.plans.now members) c.from_residual.result c.in_err-refuse_together.field-0.0 c.from_residual.ensures.1
+    (λ refusal s decoded. c.in_err-refuse_together.ensures.there
+    (together_with_within d c.args.until c.args.last c.args.plans.now members (view c.in-Some.within.value) s.0 s.1 c.in-Some.ensures.value decoded.0).0)
 
-pub returns-in_err-refuse_beside-2-clause-refused : goal.returns-in_err-refuse_beside-2-clause-refused
-returns-in_err-refuse_beside-2-clause-refused c =
+pub returns-in_err-refuse_together-2-clause-refused : goal.returns-in_err-refuse_together-2-clause-refused
+returns-in_err-refuse_together-2-clause-refused c =
     let d = c.args.item.now.mode in
     let members = members_view c.args.item.now.members in
-    handed_on (DecodesSpan d c.args.until c.args.last c.args.plans.now members) c.from_residual-in_err-refuse_beside-2.result c.in_err-refuse_beside-2.field-0.0 c.from_residual-in_err-refuse_beside-2.ensures.1
-    (λ refusal s decoded. c.in_err-refuse_beside-2.ensures.there
-    (beside_within d c.args.until c.args.last c.args.plans.now members (view c.in-Some.within.value) s.0 s.1 c.in-Some.ensures.value decoded.0).1)
+    handed_on (DecodesSpan d c.args.until c.args.last c.args.plans.now members) c.from_residual-in_err-refuse_together-2.result c.in_err-refuse_together-2.field-0.0 c.from_residual-in_err-refuse_together-2.ensures.1
+    (λ refusal s decoded. c.in_err-refuse_together-2.ensures.there
+    (together_with_within d c.args.until c.args.last c.args.plans.now members (view c.in-Some.within.value) s.0 s.1 c.in-Some.ensures.value decoded.0).1)
 
-pub returns-in_err-refuse_beside-3-clause-refused : goal.returns-in_err-refuse_beside-3-clause-refused
-returns-in_err-refuse_beside-3-clause-refused c =
+pub returns-in_err-refuse_together-3-clause-refused : goal.returns-in_err-refuse_together-3-clause-refused
+returns-in_err-refuse_together-3-clause-refused c =
     let d = c.args.item.now.mode in
     let members = members_view c.args.item.now.members in
-    handed_on (DecodesSpan d c.args.until c.args.last c.args.plans.now members) c.from_residual-in_err-refuse_beside-3.result c.in_err-refuse_beside-3.field-0.0 c.from_residual-in_err-refuse_beside-3.ensures.1
-    (λ refusal s decoded. c.in_err-refuse_beside-3.ensures.there
-    (beside_within d c.args.until c.args.last c.args.plans.now members (view c.in-Some.within.value) s.0 s.1 c.in-Some.ensures.value decoded.0).2)
+    handed_on (DecodesSpan d c.args.until c.args.last c.args.plans.now members) c.from_residual-in_err-refuse_together-3.result c.in_err-refuse_together-3.field-0.0 c.from_residual-in_err-refuse_together-3.ensures.1
+    (λ refusal s decoded. c.in_err-refuse_together-3.ensures.there
+    (together_with_within d c.args.until c.args.last c.args.plans.now members (view c.in-Some.within.value) s.0 s.1 c.in-Some.ensures.value decoded.0).2)
 
 pub returns-clause-refused : goal.returns-clause-refused
 returns-clause-refused c =
@@ -48,5 +48,5 @@ returns-clause-refused c =
     let members = members_view c.args.item.now.members in
     let within = view c.in-Some.within.value in
     narrowed (DecodesWithin d c.args.last c.args.plans.now members within) (DecodesSpan d c.args.until c.args.last c.args.plans.now members)
-    (λ s decoded. ((beside_within d c.args.until c.args.last c.args.plans.now members within s.0 s.1 c.in-Some.ensures.value decoded.0).3, decoded.1))
+    (λ s decoded. ((together_with_within d c.args.until c.args.last c.args.plans.now members within s.0 s.1 c.in-Some.ensures.value decoded.0).3, decoded.1))
     c.read_within.result c.read_within.ensures.refused

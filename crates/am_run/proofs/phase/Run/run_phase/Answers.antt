@@ -67,7 +67,7 @@ returns-clause-turn g c =
     let stay : c.keep.new.self.lane_states ≡ c.send_all-reports.new.self.lane_states = c.keep.ensures.lane_states ∙ finish.preserves.0 in
     let first : RanBefore q r ls ms =
     subst (λ v. RanBefore q r ls (passes_in v.items)) (sym stay)
-    (subst (λ v. RanBefore q r (passes_in v.items) (lanes_of c.send_all-reports.new.self)) lane_states (c.send_all-reports.ensures.beside (finish.preserves.2 more.0)))
+    (subst (λ v. RanBefore q r (passes_in v.items) (lanes_of c.send_all-reports.new.self)) lane_states (c.send_all-reports.ensures.concurrent (finish.preserves.2 more.0)))
     in
     subst (λ (x : Seen). RunsPhase answers t phase p x ls ms was.reports.items since) (sym c.keep.ensures.main)
     (part_taken answers t phase p q r s ls ms ts us was.reports.items reports since begun sends finishes now first))

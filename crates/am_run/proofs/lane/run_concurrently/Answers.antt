@@ -6,7 +6,7 @@ use Rattle.am_run.specs.declared.lane.LaneState.{LaneState}
 use Rattle.am_scenario.specs.declared.scenario.Lane.{Lane}
 use Rattle.am_desk.specs.Known.{Seen}
 use Rattle.am_run.proofs.lemmas.lanes.LaneStates.{after_lanes}
-use Rattle.am_run.proofs.lane.run_beside.Goals as goal
+use Rattle.am_run.proofs.lane.run_concurrently.Goals as goal
 
 pub returns-then-is_empty-clause-lanes : goal.returns-then-is_empty-clause-lanes
 returns-then-is_empty-clause-lanes g c =

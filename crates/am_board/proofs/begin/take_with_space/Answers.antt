@@ -17,17 +17,17 @@ use Rattle.am_board.specs.declared.begin.ChosenGroup.{ChosenGroup}
 use Rattle.am_board.specs.declared.group.Group.{Group}
 use Rattle.am_board.specs.declared.plan.PlannedFlush.{PlannedFlush}
 use Rattle.am_board.specs.declared.state.State.{State}
-use Rattle.am_board.proofs.lemmas.begin.Causes.{IsReturned, returned, cause-closed, ended, planned_err, planned_few, planned_none, planned_room}
+use Rattle.am_board.proofs.lemmas.begin.Causes.{IsReturned, returned, cause-closed, ended, planned_err, planned_few, planned_none, planned_space}
 use Rattle.am_board.proofs.lemmas.invariant.Staying.{stays_itself}
-use Rattle.am_board.proofs.begin.take_with_room.Goals as goal
-use Rattle.am_board.proofs.begin.take_with_room.Goals.{In_ok-planned}
+use Rattle.am_board.proofs.begin.take_with_space.Goals as goal
+use Rattle.am_board.proofs.begin.take_with_space.Goals.{In_ok-planned}
 
 pub returns-in_default : goal.returns-in_default
 returns-in_default c =
     let config = c.args.config.now in
     let s = c.args.state.now in
     let none : taken (state_of s) c.time-t.result ≡ None = subst (λ n. taken (state_of s) n ≡ None) (sym c.time-t.ensures) c.in_default.ensures in
-    let cause = cause-closed config s c.args.now c.time-t.result c.time-t.ensures c.requires.room (ap (λ o. opens_by config (state_of s) c.time-t.result o) none) in
+    let cause = cause-closed config s c.args.now c.time-t.result c.time-t.ensures c.requires.space (ap (λ o. opens_by config (state_of s) c.time-t.result o) none) in
     returned config c.args.id c.args.pass c.args.now s c.begin_nothing.new.state (begin_cause config (vec_len s.history) (state_of s) (time (state_of s) c.args.now)) c.begin_nothing.result cause
     (c.begin_nothing.ensures config c.args.id c.requires.good c.time-t.ensures none)
 
@@ -69,7 +69,7 @@ returns-in_err-planned c =
     let s = c.args.state.now in
     rw (p.1, p.2) (
       subst (λ n. IsAnswer (begin_cause config (vec_len s.history) (state_of s) (time (state_of s) n)) c.in_err-planned.field-0.0) takes.now
-          (planned_err config c.args.id s c.in-Some.chosen takes.group takes.chosen c.requires.room c.in_err-planned.field-0.0 plan),
+          (planned_err config c.args.id s c.in-Some.chosen takes.group takes.chosen c.requires.space c.in_err-planned.field-0.0 plan),
       subst (LeavesUnchanged config s) (sym same) (stays_itself config s c.requires.good),
     )
 
@@ -84,9 +84,9 @@ pub begin_planned-requires-clause-none : goal.begin_planned-requires-clause-none
 begin_planned-requires-clause-none c =
     planned_none c.args.config.now c.args.id c.args.state.now c.in-Some.chosen c.in-Some.ensures.chosen.index c.in_ok-planned.planned (plans (goal.at.begin_planned-requires-clause-none c).In_ok-planned)
 
-pub begin_planned-requires-clause-room : goal.begin_planned-requires-clause-room
-begin_planned-requires-clause-room c =
-    planned_room c.args.config.now c.args.id c.args.state.now c.in-Some.chosen c.in-Some.ensures.chosen.index c.in_ok-planned.planned (plans (goal.at.begin_planned-requires-clause-room c).In_ok-planned)
+pub begin_planned-requires-clause-space : goal.begin_planned-requires-clause-space
+begin_planned-requires-clause-space c =
+    planned_space c.args.config.now c.args.id c.args.state.now c.in-Some.chosen c.in-Some.ensures.chosen.index c.in_ok-planned.planned (plans (goal.at.begin_planned-requires-clause-space c).In_ok-planned)
 
 pub begin_planned-requires-clause-few : goal.begin_planned-requires-clause-few
 begin_planned-requires-clause-few c =
@@ -105,7 +105,7 @@ returns c =
     → IsPlan config id (deque_len x.flushes) (state_of x) chosen.t (group_state g) (Ok planned)
     → IsEnd config id chosen.pass chosen.now x c.begin_planned.new.state c.begin_planned.result)
     c.prepare.ensures (c.begin_planned.ensures config g) in
-    let all = ended config id s chosen g takes.chosen c.requires.room planned (plans (goal.at.returns c).In_ok-planned) c.begin_planned.new.state c.begin_planned.result
+    let all = ended config id s chosen g takes.chosen c.requires.space planned (plans (goal.at.returns c).In_ok-planned) c.begin_planned.new.state c.begin_planned.result
     (λ plan. ends c.requires.good takes.chosen plan) in
     subst (λ n. IsReturned config id n c.args.now s c.begin_planned.new.state (begin_cause config (vec_len s.history) (state_of s) (time (state_of s) c.args.now)) c.begin_planned.result) takes.pass
     (subst (λ n. IsReturned config id chosen.pass n s c.begin_planned.new.state (begin_cause config (vec_len s.history) (state_of s) (time (state_of s) n)) c.begin_planned.result) takes.now all)

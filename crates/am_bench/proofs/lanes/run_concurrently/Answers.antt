@@ -2,7 +2,7 @@ use denote.Param.Send.{IsSync}
 use Rattle.am_desk.proofs.Crossing.{crossing}
 use Rattle.am_desk.proofs.pass.Pass.TheSendSync as pass
 use Rattle.am_alerts.proofs.alert.Alert.TheSendSync as alert
-use Rattle.am_bench.proofs.lanes.run_beside.Goals as goal
+use Rattle.am_bench.proofs.lanes.run_concurrently.Goals as goal
 
 pub for_each_mut-requires-send-T : goal.for_each_mut-requires-send-T
 for_each_mut-requires-send-T g c κs within =

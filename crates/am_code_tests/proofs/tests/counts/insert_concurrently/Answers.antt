@@ -1,7 +1,7 @@
 use denote.Param.Send.{IsSync}
 use Rattle.am_desk.proofs.Crossing.{crossing}
 use Rattle.am_desk.proofs.pass.Pass.TheSendSync as pass
-use Rattle.am_code_tests.proofs.tests.counts.insert_beside.Goals as goal
+use Rattle.am_code_tests.proofs.tests.counts.insert_concurrently.Goals as goal
 
 pub join-requires-send-F : goal.join-requires-send-F
 join-requires-send-F g c κs within =

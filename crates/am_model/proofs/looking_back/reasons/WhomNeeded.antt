@@ -21,7 +21,7 @@ use Rattle.am_model.specs.Configured.{route_of, route_muted, integrations_named,
 use Rattle.am_model.specs.look_back.Entry.{resolved_alerts_in, firing_in, resolved_in, entry_in}
 use Rattle.am_model.specs.Records.{entry}
 use Rattle.am_model.specs.Insert.{same_member}
-use Rattle.am_model.specs.look_back.Laws.{member_with, EveryLegalHistory, notified_after, IsNotifiedRightly, BeginsNotifyExactlyWhomNeeded, wants_resolved, IsNoticeFound, IsReplyFound, NoticesListPresentAlerts}
+use Rattle.am_model.specs.look_back.Laws.{member_with, EveryLegalHistory, notified_after, NotifiesWhomNeeded, BeginsNotifyExactlyWhomNeeded, wants_resolved, IsNoticeFound, IsReplyFound, NoticesListPresentAlerts}
 use Rattle.am_model.specs.look_back.Preview.{reason_of}
 use Rattle.am_model.specs.look_back.Past.{past_of, time_at, takes}
 use Rattle.am_model.specs.look_back.Reasons.{reason_by_entry, reason_where, reason_in}
@@ -44,7 +44,7 @@ use Rattle.am_model.proofs.states.Alike.{same_name-is}
 module _ (config : Config) (id : ℕ) (s : State) (past : List Record) (pass : ℕ) (steady : IsSteady s) (k : Finds config s past) (l : FindsRows config s past) where
   -- what is said of a begin
   abbrev Notifies : Call → State → Reply → Type 0
-  Notifies c new p = IsNotifiedRightly config (entry pass c p) past
+  Notifies c new p = NotifiesWhomNeeded config (entry pass c p) past
 
   abbrev FoundThere : Call → State → Reply → Type 0
   FoundThere c new p = IsReplyFound config (time_at (entry pass c p ∷ past)) past p
@@ -183,11 +183,11 @@ module _ (config : Config) (id : ℕ) (s : State) (past : List Record) (pass : �
 
 pub begins_notify_exactly_whom_needed : EveryLegalHistory BeginsNotifyExactlyWhomNeeded
 begins_notify_exactly_whom_needed config id history legal =
-    at_each config id (IsNotifiedRightly config)
+    at_each config id (NotifiesWhomNeeded config)
     (λ r past before returned.
     let s = state_after config past in
     let notifies = notifies_each config id s past r.pass (steady_past config past) (finds_past config id past before) (finds_rows_past config id past before) in
-    each_call config id s (λ c new p. IsNotifiedRightly config (entry r.pass c p) past) notifies r.call r.reply returned)
+    each_call config id s (λ c new p. NotifiesWhomNeeded config (entry r.pass c p) past) notifies r.call r.reply returned)
     (past_of history) (legal_past config id history legal)
 
 pub notices_list_present_alerts : EveryLegalHistory NoticesListPresentAlerts

@@ -184,9 +184,12 @@ Part = Callable[[Report, Programs], None]
 def main(file: str, parts: Mapping[str, Part], crates: tuple[str, ...], about: str | None) -> None:
     """Runs the parts that the command line asks for, and ends with 1 if a case failed."""
     words = [it for it in sys.argv[1:] if it != "--write"]
-    if "--help" in words or any(it.startswith("-") for it in words):
+    if "--help" in words:
         print(f"{about}\nParts: {', '.join(parts)}. {__doc__}")
-        sys.exit(0 if "--help" in words else 2)
+        sys.exit(0)
+    if unknown := [it for it in words if it.startswith("-")]:
+        print(f"{Path(file).name}: unknown word {unknown[0]!r}; --help prints how it is used", file=sys.stderr)
+        sys.exit(2)
     paths = [Path(it) for it in words if is_program(it)]
     words = [it for it in words if not is_program(it)]
     for it in words:

@@ -115,6 +115,8 @@ def main() -> int:
     parser.add_argument("--beside", metavar="FILE")
     parser.add_argument("crates", nargs="*")
     asked = parser.parse_args()
+    if unknown := sorted(set(asked.crates) - set(crates())):
+        parser.error(f"no crate {unknown[0]}; `.ci/wrong-bodies --list` prints what there is to try")
     room = tempfile.mkdtemp(prefix="wrong-bodies-")
     try:
         run = Run(asked, room)

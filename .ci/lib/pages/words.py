@@ -94,7 +94,7 @@ def listed() -> Counts:
 
 def text_of(numbers: Counts) -> str:
     """The file of exceptions."""
-    lines = ["# Words that crates and scripts still have: those of a format, and of the kit. `.ci/checks/pages.py words --write` takes lower numbers over."]
+    lines = ["# Words that crates still have, of a format or of the kit. `.ci/checks/pages.py words --write` takes lower numbers over."]
     for crate in sorted({crate for crate, _, _ in numbers}):
         lines += ["", f'["{crate}"]' if "." in crate else f"[{crate}]"]
         for kind in ("comments", "names"):

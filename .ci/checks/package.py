@@ -143,8 +143,24 @@ def service(told: Report, made: dict[str, Path], work: Path) -> None:
     tell(told, "its manual page has the options", ".SH SIGNALS" in manual and "--board.history" in manual, manual)
     unit = (work / "usr/lib/systemd/system/prometheus-alertmanager.service.d/fentdolmen.conf").read_text(encoding="utf-8")
     tell(told, "the service runs it", "\nExecStart=\nExecStart=/usr/bin/fentdolmen $ARGS\n" in unit, unit)
+    verified(told, unit, work)
     if Path("/usr/share/prometheus/alertmanager/default.tmpl").exists():
         starts(told, "fentdolmen with the board of the other package", ["usr/bin/fentdolmen", "--cluster.listen-address="], work, "OK")
+
+
+def verified(told: Report, unit: str, work: Path) -> None:
+    """Debian's service with the file of the package, by systemd's own check. (The program is where it was unpacked.)"""
+    service_of = Path("/lib/systemd/system/prometheus-alertmanager.service")
+    if not service_of.exists() or output(["sh", "-c", "command -v systemd-analyze"])[0] != 0:
+        told.skip("what systemd says of the service", "systemd or prometheus-alertmanager isn't installed")
+        return
+    copy = work / "units" / service_of.name
+    (copy.parent / f"{copy.name}.d").mkdir(parents=True)
+    copy.write_text(service_of.read_text(encoding="utf-8"))
+    (copy.parent / f"{copy.name}.d/fentdolmen.conf").write_text(unit.replace("/usr/bin/fentdolmen", f"{work}/usr/bin/fentdolmen"))
+    ran = subprocess.run(["systemd-analyze", "verify", "--man=no", copy], env=PLAIN, stdout=subprocess.PIPE, stderr=subprocess.STDOUT,
+                         text=True, check=False)
+    told.same("what systemd says of the service", (0, ""), (ran.returncode, ran.stdout))
 
 
 def package(told: Report, _: Programs) -> None:

@@ -1,5 +1,5 @@
 -- The labels of `group_by`, one more at a time.
-use Rattle.std.proofs.Common.{◌≡◌, ◌==◌, ◌+◌, ◌<◌, ◌&&◌, ◌||◌, ◌++◌, ◌∷◌, ◌∙◌, ℕ, Bool, true, false, List, [], Option, Some, None, length, take, get_or, ap, eqb-true, refl, subst, sym, arith}
+use Rattle.std.proofs.Common.{◌≡◌, ◌==◌, ◌+◌, ◌<◌, ◌&&◌, ◌||◌, ◌++◌, ◌∷◌, ◌∙◌, ℕ, Bool, true, false, List, [], Option, Some, length, take, get_or, ap, refl, subst, sym}
 use Rattle.std.proofs.lemmas.List.Folds.{list_any-append}
 use Rattle.std.specs.Cmp.Lexicographic.{nat_list_eq_equiv}
 use Rattle.std.specs.List.{list_all, list_any}
@@ -57,12 +57,6 @@ labels_more values i value name xs ys initial before after here is so_far more p
 pub all_items : (values : List Value) → list_all (λ (v : Value). is_all (view v)) values ≡ are_all (items_view values)
 all_items [] = refl
 all_items (v ∷ vs) = ap (λ b. is_all (view v) && b) (all_items vs)
-
--- an array without items
-pub groups_none : (array : Option Items) (values : List Value) → array ≡ Some (items_view values) → (length values == 0) ≡ true
-    → IsSomeAnd array (λ items. GroupsBy items None)
-groups_none array [] is none = subst (λ (o : Option Items). IsSomeAnd o (λ items. GroupsBy items None)) (sym is) refl
-groups_none array (v ∷ vs) is none = absurd (omega (arith, eqb-true (length (v ∷ vs)) 0 none))
 
 -- an array whose items all mean all labels
 pub groups_all : (array : Option Items) (values : List Value) → array ≡ Some (items_view values) → (length values == 0) ≡ false

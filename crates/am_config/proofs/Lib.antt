@@ -10,5 +10,3 @@ pub mod Pieces
 pub mod Grouped
 -- routes that were read, one more at a time
 pub mod Routed
--- what fields say that were read
-pub mod Fields

@@ -6,3 +6,7 @@ pub mod Integrations
 pub mod Matched
 -- the pieces of a text of matchers
 pub mod Pieces
+-- the labels of `group_by`
+pub mod Grouped
+-- routes that were read, one more at a time
+pub mod Routed

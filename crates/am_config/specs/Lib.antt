@@ -10,3 +10,7 @@ pub mod Receivers
 pub mod Matchers
 -- the inhibition rules
 pub mod Rules
+-- the tree of routes
+pub mod Routes
+-- the tree of routes that was read
+pub mod Trees

@@ -1,5 +1,5 @@
 -- What the members of a mapping of an `alertmanager.yml` say.
-use Rattle.std.specs.Prelude.{◌≡◌, List, ℕ, Bool, false, Option, Some, None, IsSomeAnd, MatchOption, is_some, option_and_then, option_map, if◌then◌else◌}
+use Rattle.std.specs.Prelude.{◌≡◌, List, [], ◌∷◌, ℕ, Bool, false, Option, Some, None, IsSomeAnd, MatchOption, is_some, option_and_then, option_map, if◌then◌else◌}
 use Rattle.std.specs.Fmt.{signed_decimal}
 use Rattle.serde_json.specs.Data.{Data, Members, null, boolean, number, string, array, object}
 use Rattle.serde_json.specs.Find.{as_bool, as_integer, as_null, get_member}
@@ -28,6 +28,15 @@ text_in (object _) = None
 -- the scalar is this text
 abbrev pub IsScalar : Data → List ℕ → Type 0
 IsScalar value text = text_in value ≡ Some text
+
+-- a text, unless it is empty
+abbrev pub non_empty : List ℕ → Option (List ℕ)
+non_empty [] = None
+non_empty (b ∷ bs) = Some (b ∷ bs)
+
+-- the scalar is this text; the empty text is none
+abbrev pub IsTextUnlessEmpty : Data → Option (List ℕ) → Type 0
+IsTextUnlessEmpty value found = IsSomeAnd (text_in value) (λ text. found ≡ non_empty text)
 
 -- whether a flag is set; null is one that isn't
 abbrev pub flag_in : Data → Option Bool

@@ -3,7 +3,9 @@ ghost use Rattle.std.specs.Prelude.{◌≡◌, [], IfErr, IfOk, IfSome, None};
 ghost use Rattle.serde_json.specs.View.{view};
 ghost use Rattle.am_cli.specs.Faults.{HasFaults};
 ghost use Rattle.am_config.specs.Receivers.{ReceiversAre};
+ghost use Rattle.am_config.specs.Routes.{RoutesAre};
 ghost use Rattle.am_config.specs.Rules.{RulesAre};
+ghost use Rattle.am_config.specs.Trees.{tree_in};
 ghost use Rattle.am_model.specs.Config.{config_fault, greatest_limits};
 
 use crate::collected::keep;
@@ -54,7 +56,7 @@ pub struct Alertmanager {
 /// The parts of a configuration. They are whole where nothing was refused.
 #[derive(Drop)]
 struct Parts {
-    tree: Option<Tree>,
+    tree: Tree,
     receivers: Vec<Receiver>,
     rules: Vec<InhibitRule>,
     timed: bool,
@@ -73,6 +75,7 @@ pub fn read_alertmanager(
 ) -> Result<Alertmanager, Refusal>
     ensures sound { IfOk result (λ read. config_fault read.config ≡ None) }
     ensures limits { IfOk result (λ read. read.config.limits ≡ greatest_limits) }
+    ensures routes { IfOk result (λ read. RoutesAre (view reader.now.value) read.config.routes) }
     ensures receivers { IfOk result (λ read. ReceiversAre (view reader.now.value) read.config.receivers) }
     ensures rules { IfOk result (λ read. RulesAre (view reader.now.value) read.config.rules) }
     ensures reported { IfErr result HasFaults }
@@ -93,6 +96,8 @@ fn read_parts(
     hours: Option<&Hours>,
     checking: Checking,
 ) -> Result<Option<Parts>, InputFault>
+    ensures routes { IfOk result (λ parts. faults.new ≡ []
+        → IfSome parts (λ p. RoutesAre (view reader.now.value) (tree_in p.tree))) }
     ensures receivers { IfOk result (λ parts. faults.new ≡ []
         → IfSome parts (λ p. ReceiversAre (view reader.now.value) p.receivers.items)) }
     ensures rules { IfOk result (λ parts. faults.new ≡ [] → IfSome parts (λ p. RulesAre (view reader.now.value) p.rules.items)) }
@@ -108,6 +113,9 @@ fn read_parts(
     dropped.time_intervals = routing.times.has_unlisted();
     let receivers = read_receivers(faults, dropped, &top, checking)?;
     let rules = read_rules(faults, &top)?;
+    let Some(tree) = tree else {
+        return Ok(None);
+    };
     Ok(Some(Parts {
         tree,
         receivers,
@@ -162,6 +170,7 @@ fn finish(
 ) -> Result<Alertmanager, Refusal>
     ensures sound { IfOk result (λ read. config_fault read.config ≡ None) }
     ensures limits { IfOk result (λ read. read.config.limits ≡ greatest_limits) }
+    ensures routes { IfOk result (λ read. read.config.routes ≡ tree_in parts.tree) }
     ensures receivers { IfOk result (λ read. read.config.receivers ≡ parts.receivers.items) }
     ensures rules { IfOk result (λ read. read.config.rules ≡ parts.rules.items) }
     ensures reported { IfErr result HasFaults }
@@ -172,9 +181,7 @@ fn finish(
         rules,
         timed,
     } = parts;
-    let Some(Tree { root, routes }) = tree else {
-        return Err(refused(reader, faults));
-    };
+    let Tree { root, routes } = tree;
     let routes = match Routes::nested(reader.alloc(), root, routes) {
         Ok(routes) => routes,
         Err(TreeFault::NoMemory) => return Err(Refusal::One(InputFault::NoMemory)),

@@ -1,9 +1,15 @@
 //! Fields that can be absent or null. The other modules read theirs by it.
-ghost use Rattle.std.specs.Prelude.{◌≡◌, Some, IfOk, IfSome, IsSome, option_map};
+ghost use Rattle.std.specs.Prelude.{◌≡◌, ◌↔◌, [], Some, None, IfOk, IfSome, IsSome, IsTrue, OnOk, option_map};
+ghost use Rattle.std.specs.Result.{result_ok};
 ghost use Rattle.serde_json.specs.Find.{as_array, get_member};
 ghost use Rattle.serde_json.specs.View.{items_view, members_view, view};
+ghost use Rattle.am_alerts.specs.declared.matcher.Operator.{Operator};
+ghost use Rattle.am_cli.specs.Decoding.{IsFlag, IsObject};
+ghost use Rattle.am_cli.specs.Read.{number_in};
 ghost use Rattle.am_config.specs.Collects.{Collects};
-ghost use Rattle.am_config.specs.Said.{said};
+ghost use Rattle.am_config.specs.Matchers.{AreInArray, ArePairs};
+ghost use Rattle.am_config.specs.Routes.{IsPeriod, IsWait};
+ghost use Rattle.am_config.specs.Said.{SaysOr, said};
 
 use crate::collected::keep;
 use am_cli::duration::{duration, interval};
@@ -46,7 +52,9 @@ pub(crate) fn non_null<'v, 'q>(object: &'q Object<'v, '_>, name: &'q str) -> Opt
 pub(crate) fn required<'v, 'q>(
     object: &'q Object<'v, '_>,
     name: &'q str,
-) -> Result<Reader<'v, 'q>, InputFault> {
+) -> Result<Reader<'v, 'q>, InputFault>
+    ensures { option_map (λ r. view r.value) (result_ok result) ≡ said name.now (members_view object.now.members) }
+{
     match non_null(object, name) {
         None => Err(missing(object, name)),
         Some(member) => Ok(member),
@@ -99,10 +107,13 @@ pub(crate) fn flag_or(
     object: &Object<'_, '_>,
     name: &str,
     without_member: bool,
-) -> Result<bool, InputFault> {
+) -> Result<bool, InputFault>
+    ensures { IfOk result (λ flag. Collects faults.old faults.new
+        (SaysOr IsFlag without_member name.now (members_view object.now.members) flag)) }
+{
     match non_null(object, name) {
         None => Ok(without_member),
-        Some(member) => Ok(faults.kept(member.flag())?.unwrap_or(without_member)),
+        Some(member) => Ok(keep(faults, member.flag())?.unwrap_or(without_member)),
     }
 }
 
@@ -111,12 +122,25 @@ pub(crate) fn optional_duration(
     faults: &mut Faults,
     object: &Object<'_, '_>,
     name: &str,
-) -> Result<Option<u64>, InputFault> {
+) -> Result<Option<u64>, InputFault>
+    ensures { IfOk result (λ wait. Collects faults.old faults.new
+        (SaysOr IsWait None name.now (members_view object.now.members) wait)) }
+{
     match non_null(object, name) {
         None => Ok(None),
-        Some(member) if is_zero(&member) => Ok(Some(0)),
-        Some(member) => faults.kept(duration(&member)),
+        Some(member) => wait_in(faults, &member),
     }
+}
+
+/// A duration, in milliseconds. A zero can be a number.
+fn wait_in(faults: &mut Faults, member: &Reader<'_, '_>) -> Result<Option<u64>, InputFault>
+    ensures { IfOk result (λ wait. Collects faults.old faults.new (IsWait (view member.now.value) wait)) }
+{
+    if is_zero(member) {
+        return Ok(Some(0));
+    }
+    let wait = keep(faults, duration(member))?;
+    Ok(wait)
 }
 
 /// A duration that isn't null, in milliseconds; zero is refused.
@@ -124,20 +148,36 @@ pub(crate) fn optional_interval(
     faults: &mut Faults,
     object: &Object<'_, '_>,
     name: &str,
-) -> Result<Option<u64>, InputFault> {
+) -> Result<Option<u64>, InputFault>
+    ensures { IfOk result (λ interval. Collects faults.old faults.new
+        (SaysOr IsPeriod None name.now (members_view object.now.members) interval)) }
+{
     match non_null(object, name) {
         None => Ok(None),
-        Some(member) if is_zero(&member) => {
-            faults.push(member.refuse(FaultKind::BadValue))?;
-            Ok(None)
-        }
-        Some(member) => faults.kept(interval(&member)),
+        Some(member) => interval_in(faults, &member),
     }
 }
 
+/// A duration, in milliseconds; zero is refused.
+fn interval_in(faults: &mut Faults, member: &Reader<'_, '_>) -> Result<Option<u64>, InputFault>
+    ensures { IfOk result (λ interval. Collects faults.old faults.new (IsPeriod (view member.now.value) interval)) }
+{
+    if is_zero(member) {
+        faults.push(member.refuse(FaultKind::BadValue))?;
+        return Ok(None);
+    }
+    let found = keep(faults, interval(member))?;
+    Ok(found)
+}
+
 /// Whether a value is the number 0, the one duration that is written without a unit.
-pub(crate) fn is_zero(member: &Reader<'_, '_>) -> bool {
-    member.number().is_ok_and(|number| number == 0)
+pub(crate) fn is_zero(member: &Reader<'_, '_>) -> bool
+    ensures { IsTrue result ↔ (number_in (view member.now.value) ≡ Some 0) }
+{
+    match member.number() {
+        Ok(number) => number == 0,
+        Err(_) => false,
+    }
 }
 
 /// Whether an array that isn't null has an item. Another kind is refused.
@@ -153,15 +193,43 @@ pub(crate) fn has_items(
     Ok(items.is_some_and(|items| !items.is_empty()))
 }
 
-/// Whether an object that isn't null has a member. Another kind is refused.
-pub(crate) fn has_members(
+/// Refuses an array that isn't null and has an item, and another kind.
+pub(crate) fn refuse_items(
     faults: &mut Faults,
     object: &Object<'_, '_>,
     name: &str,
-) -> Result<bool, InputFault> {
+) -> Result<(), InputFault>
+    ensures { OnOk result (Collects faults.old faults.new (SaysOr AreInArray [] name.now (members_view object.now.members) [])) }
+{
     let Some(member) = non_null(object, name) else {
-        return Ok(false);
+        return Ok(());
     };
-    let members = faults.kept(member.object())?;
-    Ok(members.is_some_and(|object| !object.members().is_empty()))
+    let Some(items) = keep(faults, member.array())? else {
+        return Ok(());
+    };
+    if items.is_empty() {
+        return Ok(());
+    }
+    faults.push(member.refuse(FaultKind::BadValue))
+}
+
+/// Refuses an object that isn't null and has a member, and another kind.
+pub(crate) fn refuse_members(
+    faults: &mut Faults,
+    object: &Object<'_, '_>,
+    name: &str,
+) -> Result<(), InputFault>
+    ensures { OnOk result (Collects faults.old faults.new ((op : Operator) →
+        SaysOr (IsObject (ArePairs op)) [] name.now (members_view object.now.members) [])) }
+{
+    let Some(member) = non_null(object, name) else {
+        return Ok(());
+    };
+    let Some(pairs) = keep(faults, member.object())? else {
+        return Ok(());
+    };
+    if pairs.members().is_empty() {
+        return Ok(());
+    }
+    faults.push(member.refuse(FaultKind::BadValue))
 }

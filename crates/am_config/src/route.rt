@@ -3,11 +3,20 @@
 //! The first route that the tree has no capacity for is rejected: there are 1,023 already, or it
 //! is more than 64 levels below the root. Routes that it has no capacity for aren't read. An
 //! empty `group_by` below the root is none, as in Alertmanager.
-ghost use Rattle.std.specs.Prelude.{◌<◌, IfOk, IsTrue};
+ghost use Rattle.std.specs.Prelude.{◌≡◌, ◌≢◌, ◌<◌, [], IfOk, IsSomeAnd, IsTrue, None, OnOk, codes, false, length, unwrap_or};
+ghost use Rattle.serde_json.specs.View.{members_view, view};
+ghost use Rattle.am_alerts.specs.Nested.{forest, settled_options};
+ghost use Rattle.am_cli.specs.Decoding.{IsFlag, IsObject};
+ghost use Rattle.am_config.specs.Collects.{Collects, Grows};
+ghost use Rattle.am_config.specs.Matchers.{AreMatchers};
+ghost use Rattle.am_config.specs.Routes.{HasBelow, HasNode, HasRoute, HasRoutes, HasTree, default_route, route_matchers};
+ghost use Rattle.am_config.specs.Said.{SaysOr};
+ghost use Rattle.am_config.specs.Trees.{tree_in};
 
+use crate::collected::{keep, only};
 use crate::matchers::{MatcherMembers, read_matchers};
 use crate::names::RouteNames;
-use crate::optional::{flag_or, has_items, has_members, non_null, refuse_member, required};
+use crate::optional::{flag_or, non_null, refuse_items, refuse_members, required};
 use crate::options::read_options;
 use crate::receiver::receiver_names;
 use crate::times::{ACTIVE, MUTE, Times};
@@ -20,7 +29,7 @@ use am_cli::default_waits::{GROUP_INTERVAL, GROUP_WAIT, REPEAT_INTERVAL};
 use am_cli::fault::{FaultKind, InputFault};
 use am_cli::faults::Faults;
 use am_cli::reader::{Object, Reader};
-use std::alloc::Global;
+use std::alloc::{AllocError, Global};
 
 /// The members of a route, the root among them.
 const MEMBERS: [&str; 12] = [
@@ -95,17 +104,30 @@ impl<'h> Routing<'h> {
         reader: &Reader<'_, '_>,
         levels: usize,
     ) -> Result<bool, InputFault>
-        ensures { IfOk result (λ begins. IsTrue begins → 0 < levels) }
+        ensures levels { IfOk result (λ begins. IsTrue begins → 0 < levels) }
+        ensures collects { IfOk result (λ begins. Collects faults.old faults.new (IsTrue begins)) }
     {
         if self.begun < MAX_ROUTES && levels > 0 {
             self.begun += 1;
             return Ok(true);
         }
-        if !self.is_full {
-            self.is_full = true;
-            faults.push(reader.refuse(FaultKind::BadValue))?;
-        }
+        self.refuse_further(faults, reader)?;
         Ok(false)
+    }
+
+    /// Refuses the first route that there is no capacity for. Behind it there is a fault.
+    fn refuse_further(
+        &mut self,
+        faults: &mut Faults,
+        reader: &Reader<'_, '_>,
+    ) -> Result<(), InputFault>
+        ensures { OnOk result (0 < length faults.new) }
+    {
+        if self.is_full && faults.len() > 0 {
+            return Ok(());
+        }
+        self.is_full = true;
+        faults.push(reader.refuse(FaultKind::BadValue))
     }
 }
 
@@ -114,68 +136,115 @@ pub(crate) fn read_tree(
     faults: &mut Faults,
     routing: &mut Routing<'_>,
     top: &Object<'_, '_>,
-) -> Result<Option<Tree>, InputFault> {
-    let Some(reader) = faults.kept(required(top, "route"))? else {
+) -> Result<Option<Tree>, InputFault>
+    ensures { IfOk result (λ read. Collects faults.old faults.new
+        (IsSomeAnd read (λ tree. HasRoutes (members_view top.now.members) (tree_in tree)))) }
+{
+    let Some(reader) = keep(faults, required(top, "route"))? else {
         return Ok(None);
     };
-    let Some(route) = faults.kept(reader.object())? else {
+    read_root(faults, routing, &reader)
+}
+
+/// Reads the root, and the routes below it.
+fn read_root(
+    faults: &mut Faults,
+    routing: &mut Routing<'_>,
+    reader: &Reader<'_, '_>,
+) -> Result<Option<Tree>, InputFault>
+    ensures { IfOk result (λ read. Collects faults.old faults.new
+        (IsSomeAnd read (λ tree. IsObject HasTree (view reader.now.value) (tree_in tree)))) }
+{
+    let Some(route) = keep(faults, reader.object())? else {
         return Ok(None);
     };
-    faults.only(&route, &MEMBERS)?;
+    only(faults, &route, &MEMBERS)?;
     let options = read_options(faults, routing, &route)?;
-    refuse_root(faults, &route, &options)?;
+    refuse_unnamed(faults, &route, &options)?;
+    refuse_matchers(faults, &route)?;
+    refuse_continue(faults, &route)?;
     refuse_times(faults, &route)?;
-    let root = root_of(top.alloc(), options)?;
+    let root = root_of(route.alloc(), options)?;
     let routes = read_routes(faults, routing, &route, root.receiver.as_str(), MAX_DEPTH)?;
     Ok(Some(Tree { root, routes }))
 }
 
-/// Refuses what a root may not say, and one without a receiver.
-fn refuse_root(
+/// Refuses a root that says no receiver, unless what it says is refused already.
+fn refuse_unnamed(
     faults: &mut Faults,
     root: &Object<'_, '_>,
     options: &Options,
-) -> Result<(), InputFault> {
-    if options.receiver.is_none() {
-        refuse_receiver(faults, root)?;
+) -> Result<(), InputFault>
+    ensures { OnOk result (Collects faults.old faults.new (options.now.receiver ≢ None)) }
+{
+    match &options.receiver {
+        Some(_) => Ok(()),
+        None => refuse_receiver(faults, root),
     }
-    if has_items(faults, root, MATCHERS.texts)? {
-        refuse_member(faults, root, MATCHERS.texts, FaultKind::BadValue)?;
+}
+
+/// Refuses a root whose receiver isn't known, unless it is refused already. Behind it there is a fault.
+fn refuse_receiver(faults: &mut Faults, root: &Object<'_, '_>) -> Result<(), InputFault>
+    ensures { OnOk result (0 < length faults.new) }
+{
+    let member = match required(root, "receiver") {
+        Err(missing) => return faults.push(missing),
+        Ok(member) => member,
+    };
+    if is_refused(faults, &member) {
+        return Ok(());
     }
-    for name in [MATCHERS.equal, MATCHERS.like] {
-        if has_members(faults, root, name)? {
-            refuse_member(faults, root, name, FaultKind::BadValue)?;
-        }
+    faults.push(member.refuse(FaultKind::BadValue))
+}
+
+/// Whether a value that names no receiver is refused already: the empty text isn't.
+fn is_refused(faults: &Faults, member: &Reader<'_, '_>) -> bool
+    ensures { IsTrue result → 0 < length faults.now }
+{
+    if faults.len() == 0 {
+        return false;
     }
-    if flag_or(faults, root, "continue", false)? {
-        refuse_member(faults, root, "continue", FaultKind::BadValue)?;
-    }
+    !member.text().is_ok_and(|text| text.is_empty())
+}
+
+/// Refuses the matchers of a root.
+fn refuse_matchers(faults: &mut Faults, root: &Object<'_, '_>) -> Result<(), InputFault>
+    ensures { OnOk result (Collects faults.old faults.new (AreMatchers route_matchers (members_view root.now.members) [])) }
+{
+    refuse_items(faults, root, MATCHERS.texts)?;
+    refuse_members(faults, root, MATCHERS.equal)?;
+    refuse_members(faults, root, MATCHERS.like)?;
     Ok(())
 }
 
-/// Refuses a root that says no receiver, unless what it says is refused already.
-fn refuse_receiver(faults: &mut Faults, root: &Object<'_, '_>) -> Result<(), InputFault> {
-    match required(root, "receiver") {
-        Err(missing) => faults.push(missing),
-        Ok(member) if member.text().is_ok_and(|text| text.is_empty()) => {
-            faults.push(member.refuse(FaultKind::BadValue))
-        }
-        Ok(_) => Ok(()),
+/// Refuses a root with `continue`.
+fn refuse_continue(faults: &mut Faults, root: &Object<'_, '_>) -> Result<(), InputFault>
+    ensures { OnOk result (Collects faults.old faults.new (SaysOr IsFlag false (codes "continue") (members_view root.now.members) false)) }
+{
+    let Some(member) = non_null(root, "continue") else {
+        return Ok(());
+    };
+    let Some(continues) = keep(faults, member.flag())? else {
+        return Ok(());
+    };
+    if continues {
+        return faults.push(member.refuse(FaultKind::BadValue));
     }
+    Ok(())
 }
 
 /// Refuses times at which a root is muted, or active alone.
-fn refuse_times(faults: &mut Faults, root: &Object<'_, '_>) -> Result<(), InputFault> {
-    for name in [MUTE, ACTIVE] {
-        if has_items(faults, root, name)? {
-            refuse_member(faults, root, name, FaultKind::BadValue)?;
-        }
-    }
-    Ok(())
+fn refuse_times(faults: &mut Faults, root: &Object<'_, '_>) -> Result<(), InputFault>
+    ensures { OnOk result (Grows faults.old faults.new) }
+{
+    refuse_items(faults, root, MUTE)?;
+    refuse_items(faults, root, ACTIVE)
 }
 
 /// The root: what it doesn't say is Alertmanager's default.
-fn root_of(alloc: Global, options: Options) -> Result<Route, InputFault> {
+fn root_of(alloc: Global, options: Options) -> Result<Route, InputFault>
+    ensures { IfOk result (λ root. root ≡ settled_options default_route (codes "root") options) }
+{
     let Options {
         receiver,
         group_by,
@@ -185,15 +254,21 @@ fn root_of(alloc: Global, options: Options) -> Result<Route, InputFault> {
     } = options;
     Ok(Route {
         name: Text::new(alloc, "root")?,
-        receiver: match receiver {
-            Some(receiver) => receiver,
-            None => Text::new(alloc, "")?,
-        },
+        receiver: named_or_empty(alloc, receiver)?,
         group_by: group_by.unwrap_or(GroupBy::Names(Sequence::empty(alloc))),
         group_wait: group_wait.unwrap_or(GROUP_WAIT),
         group_interval: group_interval.unwrap_or(GROUP_INTERVAL),
         repeat_interval: repeat_interval.unwrap_or(REPEAT_INTERVAL),
     })
+}
+
+fn named_or_empty(alloc: Global, receiver: Option<Text>) -> Result<Text, InputFault>
+    ensures { IfOk result (λ name. name ≡ unwrap_or receiver []) }
+{
+    match receiver {
+        Some(receiver) => Ok(receiver),
+        None => Ok(Text::new(alloc, "")?),
+    }
 }
 
 /// Reads the routes below a route with this receiver, under which so many levels can be.
@@ -204,25 +279,45 @@ fn read_routes(
     route: &Object<'_, '_>,
     receiver: &str,
     levels: usize,
-) -> Result<Vec<Node>, InputFault> {
+) -> Result<Vec<Node>, InputFault>
+    ensures { IfOk result (λ routes. Collects faults.old faults.new (HasBelow (members_view route.now.members) (forest routes.items))) }
+{
     let mut routes = Vec::new(route.alloc());
     let Some(member) = non_null(route, "routes") else {
         return Ok(routes);
     };
-    let Some(items) = faults.kept(member.array())? else {
+    let Some(items) = keep(faults, member.array())? else {
         return Ok(routes);
     };
     for (index, value) in items.iter().enumerate() {
         let item = member.item(index, value);
-        if routing.begins(faults, &item, levels)? {
-            routing.path.push(index)?;
-            if let Some(node) = read_node(faults, routing, &item, receiver, levels - 1)? {
-                routes.push(node)?;
-            }
-            let _ = routing.path.pop();
-        }
+        let Some(node) = read_item(faults, routing, &item, index, receiver, levels)? else {
+            continue;
+        };
+        routes.push(node)?;
     }
     Ok(routes)
+}
+
+/// Reads the route at an index, and those below it, if there is capacity for it.
+#[cycle(routes)]
+fn read_item(
+    faults: &mut Faults,
+    routing: &mut Routing<'_>,
+    reader: &Reader<'_, '_>,
+    index: usize,
+    above: &str,
+    levels: usize,
+) -> Result<Option<Node>, InputFault>
+    ensures { IfOk result (λ read. Collects faults.old faults.new (IsSomeAnd read (IsObject HasNode (view reader.now.value)))) }
+{
+    if !routing.begins(faults, reader, levels)? {
+        return Ok(None);
+    }
+    routing.path.push(index)?;
+    let node = read_node(faults, routing, reader, above, levels - 1)?;
+    let _ = routing.path.pop();
+    Ok(node)
 }
 
 /// Reads a route, and those below it, that is below a route with this receiver.
@@ -233,30 +328,48 @@ fn read_node(
     reader: &Reader<'_, '_>,
     above: &str,
     levels: usize,
-) -> Result<Option<Node>, InputFault> {
-    let Some(route) = faults.kept(reader.object())? else {
+) -> Result<Option<Node>, InputFault>
+    ensures { IfOk result (λ read. Collects faults.old faults.new (IsSomeAnd read (IsObject HasNode (view reader.now.value)))) }
+{
+    let Some(route) = keep(faults, reader.object())? else {
         return Ok(None);
     };
-    faults.only(&route, &MEMBERS)?;
-    let options = read_options(faults, routing, &route)?;
-    let matchers = read_matchers(faults, &route, &MATCHERS)?;
-    let continues = flag_or(faults, &route, "continue", false)?;
-    let muted = routing.times.read_muted(faults, &route)?;
-    let receiver = match &options.receiver {
-        None => Text::new(route.alloc(), above)?,
-        Some(receiver) => receiver.copy(route.alloc())?,
-    };
+    let (rule, receiver) = read_rule(faults, routing, &route, above)?;
+    let routes = read_routes(faults, routing, &route, receiver.as_str(), levels)?;
+    Ok(Some(Node { rule, routes }))
+}
+
+/// Reads what a route says of itself, and its receiver: its own, or that of the route above it.
+fn read_rule(
+    faults: &mut Faults,
+    routing: &mut Routing<'_>,
+    route: &Object<'_, '_>,
+    above: &str,
+) -> Result<(RouteSpec, Text), InputFault>
+    ensures { IfOk result (λ read. Collects faults.old faults.new (HasRoute (members_view route.now.members) read.0)) }
+{
+    only(faults, route, &MEMBERS)?;
+    let options = read_options(faults, routing, route)?;
+    let matchers = read_matchers(faults, route, &MATCHERS)?;
+    let continues = flag_or(faults, route, "continue", false)?;
+    let muted = routing.times.read_muted(faults, route)?;
+    let receiver = receiver_or(route.alloc(), &options, above)?;
     let path = routing.path.as_slice();
     let name = routing.names.give(route.alloc(), receiver.as_str(), path)?;
-    let routes = read_routes(faults, routing, &route, receiver.as_str(), levels)?;
-    Ok(Some(Node {
-        rule: RouteSpec {
-            name,
-            options,
-            matchers: Sequence::from(matchers),
-            continues,
-            muted,
-        },
-        routes,
-    }))
+    let rule = RouteSpec {
+        name,
+        options,
+        matchers: Sequence::from(matchers),
+        continues,
+        muted,
+    };
+    Ok((rule, receiver))
+}
+
+/// The receiver that a route says, or the one above.
+fn receiver_or(alloc: Global, options: &Options, above: &str) -> Result<Text, AllocError> {
+    match &options.receiver {
+        None => Text::new(alloc, above),
+        Some(receiver) => receiver.copy(alloc),
+    }
 }

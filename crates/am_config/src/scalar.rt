@@ -5,12 +5,14 @@
 //! those. The text of other numbers and of flags isn't known any more (`True` is a flag too), so they
 //! are refused. In `match` and `match_re` the reader of YAML keeps each text itself; there a flag is
 //! one of JSON, which has one text.
-ghost use Rattle.std.specs.Prelude.{◌≡◌, Some, IfOk, IfSome, string_bytes};
+ghost use Rattle.std.specs.Prelude.{◌≡◌, Some, None, IfOk, IfSome, string_bytes};
 ghost use Rattle.serde_json.specs.View.{members_view, view};
+ghost use Rattle.am_config.specs.Collects.{Collects};
 ghost use Rattle.am_config.specs.Matchers.{matched_text_in};
-ghost use Rattle.am_config.specs.Said.{IsScalar, Says};
+ghost use Rattle.am_config.specs.Said.{IsScalar, IsTextUnlessEmpty, Says, SaysOr, non_empty};
 
-use crate::optional::{missing, non_null, said};
+use crate::collected::keep;
+use crate::optional::{missing, said};
 use am_alerts::text::Text;
 use am_cli::fault::{FaultKind, InputFault};
 use am_cli::faults::Faults;
@@ -70,14 +72,27 @@ pub(crate) fn optional_text(
     faults: &mut Faults,
     object: &Object<'_, '_>,
     name: &str,
-) -> Result<Option<Text>, InputFault> {
-    match (non_null(object, name), object.members().get(name)) {
-        (Some(member), Some(value)) => {
-            let text = faults.kept(text_of(&member, value))?;
-            Ok(text.filter(|text| !text.as_str().is_empty()))
-        }
-        _ => Ok(None),
+) -> Result<Option<Text>, InputFault>
+    ensures { IfOk result (λ text. Collects faults.old faults.new
+        (SaysOr IsTextUnlessEmpty None name.now (members_view object.now.members) text)) }
+{
+    let Some(value) = said(object, name) else {
+        return Ok(None);
+    };
+    let Some(text) = keep(faults, text_of(&object.member(name, value), value))? else {
+        return Ok(None);
+    };
+    Ok(non_empty(text))
+}
+
+/// A text, unless it is empty.
+fn non_empty(text: Text) -> Option<Text>
+    ensures { result ≡ non_empty text }
+{
+    if text.as_str().is_empty() {
+        return None;
     }
+    Some(text)
 }
 
 /// A text that has to be there, or `Missing`.

@@ -3,6 +3,10 @@
 //!
 //! The old list `mute_time_intervals` is read first. The names of both are one set. Where there are
 //! clocks each name's spans are found once, and routes that list the same names share theirs.
+ghost use Rattle.std.specs.Prelude.{OnOk};
+ghost use Rattle.am_config.specs.Collects.{Grows};
+
+use crate::collected::keep;
 use crate::hours::{Clocks, Hours, Placed, may_be_zone};
 use crate::optional::{items_up_to, non_null, refuse_member};
 use crate::scalar::{optional_text, required_text, text_of};
@@ -17,6 +21,7 @@ use am_hours::muting::muted;
 use am_hours::reading::{
     RangeFault, read_days, read_months, read_times, read_weekdays, read_years,
 };
+use serde_json::Value;
 use std::alloc::Global;
 
 /// The members at the top that define names, and a route's list of names that mute it.
@@ -276,7 +281,9 @@ impl<'h> Times<'h> {
         &mut self,
         faults: &mut Faults,
         route: &Object<'_, '_>,
-    ) -> Result<Spans, InputFault> {
+    ) -> Result<Spans, InputFault>
+        ensures { OnOk result (Grows faults.old faults.new) }
+    {
         let mute = self.read_names(faults, route, MUTE)?;
         let active = self.read_names(faults, route, ACTIVE)?;
         let list = if mute.is_empty() { ACTIVE } else { MUTE };
@@ -298,7 +305,9 @@ impl<'h> Times<'h> {
         faults: &mut Faults,
         route: &Object<'_, '_>,
         name: &str,
-    ) -> Result<Vec<usize>, InputFault> {
+    ) -> Result<Vec<usize>, InputFault>
+        ensures { OnOk result (Grows faults.old faults.new) }
+    {
         let mut indexes = Vec::new(route.alloc());
         let Some(member) = non_null(route, name) else {
             return Ok(indexes);
@@ -307,16 +316,34 @@ impl<'h> Times<'h> {
             return Ok(indexes);
         };
         for (index, value) in items.iter().enumerate() {
-            let item = member.item(index, value);
-            if let Some(name) = faults.kept(text_of(&item, value))? {
-                match self.list(name.as_str()) {
-                    Some(found) => indexes.push(found)?,
-                    None if self.are_listed => faults.push(item.refuse(FaultKind::BadValue))?,
-                    None => {}
-                }
-            }
+            let Some(found) = self.read_listed(faults, &member.item(index, value), value)? else {
+                continue;
+            };
+            indexes.push(found)?;
         }
         Ok(indexes)
+    }
+
+    /// Reads a name that a route lists. One that nobody defines is refused.
+    fn read_listed(
+        &mut self,
+        faults: &mut Faults,
+        item: &Reader<'_, '_>,
+        value: &Value,
+    ) -> Result<Option<usize>, InputFault>
+        ensures { OnOk result (Grows faults.old faults.new) }
+    {
+        let Some(name) = keep(faults, text_of(item, value))? else {
+            return Ok(None);
+        };
+        match self.list(name.as_str()) {
+            Some(found) => Ok(Some(found)),
+            None if self.are_listed => {
+                faults.push(item.refuse(FaultKind::BadValue))?;
+                Ok(None)
+            }
+            None => Ok(None),
+        }
     }
 
     /// The index of a definition that a route lists.
@@ -386,7 +413,9 @@ fn kept_spans(
     faults: &mut Faults,
     reader: &Reader<'_, '_>,
     spans: Result<Spans, HoursFault>,
-) -> Result<Spans, InputFault> {
+) -> Result<Spans, InputFault>
+    ensures { OnOk result (Grows faults.old faults.new) }
+{
     match spans {
         Ok(spans) => Ok(spans),
         Err(HoursFault::NoMemory) => Err(InputFault::NoMemory),

@@ -10,6 +10,7 @@ use Rattle.am_cli.specs.Decoding.{Has, HasNone}
 use Rattle.am_cli.specs.declared.reader.Mode.{Mode}
 use Rattle.am_cli.specs.declared.reader.Mode.TheVariants.{Strict}
 use Rattle.am_config.specs.Receivers.{ReceiversAre}
+use Rattle.am_config.specs.Routes.{RoutesAre}
 use Rattle.am_config.specs.Rules.{RulesAre}
 use Rattle.am_input.specs.declared.form.Form.{Form}
 use Rattle.am_input.specs.declared.form.Form.TheVariants.{Story, Own, Alertmanager}
@@ -36,9 +37,11 @@ form_in value =
     if has_one_of story_names value then Story
     else (if is_some (pointer (codes "/receivers/0/integrations") value) || has_one_of own_names value then Own else Alertmanager)
 
--- a configuration that was read from Alertmanager's has no fault, and its receivers and rules. Not stated: that the routes are its own
+-- a configuration that was read from Alertmanager's has no fault, and its routes, receivers and rules. Not stated: the names of routes, and
+-- when they are muted
 pub record IsReadOfTheirs (value : Data) (config : Config) : Type 0 where
   pub sound : config_fault config ≡ None
+  pub routes : RoutesAre value config.routes
   pub receivers : ReceiversAre value config.receivers
   pub rules : RulesAre value config.rules
 

@@ -42,23 +42,23 @@ use Rattle.am_plays.specs.PlaysInTime.{IsServed, has_no_outage, runs_past}
 use Rattle.am_plays.specs.Plays.{ComesBy, has_place}
 
 -- a configuration with this limit of open flushes, and 64 groups
-abbrev limited : ℕ → Config
+abbrev pub limited : ℕ → Config
 limited flushes = record base { limits = record { alerts = 64; groups = 64; silences = 64; flushes = flushes; history = 64 } }
 
 -- an insert of an alert at 0
-abbrev insert_of : AlertData → TimedAction
+abbrev pub insert_of : AlertData → TimedAction
 insert_of alert = record { at = 0; act = Insert alert }
 
 -- the notice of an alert that fires, for a flush at 30 seconds
-abbrev first_notice : ℕ → GroupName → AlertData → NoticeData
+abbrev pub first_notice : ℕ → GroupName → AlertData → NoticeData
 first_notice ticket name alert =
     record { board_id = 1; ticket = ticket; deadline = 330_000; group = name; integration = 0; firing = alert ∷ []; resolved = [] }
 
-abbrev first_ticket : NoticeData → TicketData
+abbrev pub first_ticket : NoticeData → TicketData
 first_ticket n = record { board_id = 1; number = n.ticket; group = n.group; deadline = 330_000; notices = n ∷ []; outcomes = [] }
 
 -- a maintenance each 15 minutes, and a tick each 30 seconds
-abbrev upkeep : Upkeep
+abbrev pub upkeep : Upkeep
 upkeep = record { maintain = 900_000; remove_empty_groups = 30_000; continues = omega arith; ticks = omega arith }
 
 -- ---- an alert at 0 whose receiver answers: notified at 30 seconds, and nothing is due any more until the end after a minute
@@ -66,7 +66,7 @@ upkeep = record { maintain = 900_000; remove_empty_groups = 30_000; continues = 
 abbrev minute : Setting
 minute = setting_with 60_000 upkeep [] whole
 
-abbrev enough : Config
+abbrev pub enough : Config
 enough = limited 64
 
 abbrev start : Scene
@@ -75,7 +75,7 @@ start = opening_scene minute enough (insert_of a ∷ [])
 abbrev inserted : Scene
 inserted = after_plan start (insert_of a) []
 
-abbrev notice_a : NoticeData
+abbrev pub notice_a : NoticeData
 notice_a = first_notice 1 group_a a
 
 abbrev delivered : Report
@@ -299,7 +299,7 @@ c_passed comes = by comes
 served : IsServed minute enough group_a
 served = record { reached = refl; runs = refl; ends = omega arith; places = omega arith }
 
-abbrev labels_a : List Label
+abbrev pub labels_a : List Label
 labels_a = named (codes "A")
 
 due_a : AtEach (λ q past. 0 < time_at (q ∷ past) → time_at (q ∷ past) ≤ minute.until → is_due_a_page enough group_a labels_a (time_at (q ∷ past)) past ≡ true) (past_of finished.board.history)

@@ -1,4 +1,4 @@
--- While a flush of a group is open whose receiver no outage names, time doesn't move on.
+-- While a flush of a group is open whose receiver keeps its promises, time moves on no further than they say.
 use Rattle.std.proofs.Common.{◌≡◌, ℕ, zero, suc, ◌+◌, ◌<◌, ◌≤◌, max, min, Bool, true, false, ◌||◌, nat_le, nat_lt, List, [], ◌∷◌, map, remove, Option, Some, None, ◌⊎◌, inl, inr, refl, sym, ap, ◌∙◌, subst, arith, if◌then◌else◌}
 use Rattle.std.specs.Prelude.{is_some, slice_get, slice_set}
 use Rattle.std.specs.List.{AllByRecursion, list_any}
@@ -30,7 +30,7 @@ use Rattle.am_model.specs.look_back.Laws.{has_open}
 use Rattle.am_model.specs.look_back.Past.{AtEach, past_of, time_at}
 use Rattle.am_paging.proofs.Standing.{one-is}
 use Rattle.am_rehearsal.proofs.Coming.{next_else, next_on}
-use Rattle.am_rehearsal.specs.Answers.{tried_until}
+use Rattle.am_rehearsal.specs.Answers.{AreEndsOf, answer_of}
 use Rattle.am_rehearsal.specs.Next.{begins_on, comes_by, earlier, in_time, next, next_begin, next_but_begins, next_end, next_end_of, next_finish, next_of_all, next_of_others, next_plan, next_removal}
 use Rattle.am_rehearsal.specs.Play.{LeadsIn, PlaysTo}
 use Rattle.am_rehearsal.specs.Scene.{Scene, SendingData, Setting, opening_scene}
@@ -38,11 +38,10 @@ use Rattle.am_rehearsal.specs.Steps.{IsBegun, IsReplied, Steps, after_end_of, an
 use Rattle.am_rehearsal.specs.Taking.{cause_of_none}
 use Rattle.am_terms.specs.declared.event.Event.{Event}
 use Rattle.am_terms.specs.declared.rehearsal.TimedAction.{TimedAction}
-use Rattle.am_plays.specs.PlaysInTime.{IsServed, has_no_outage, runs_past}
-use Rattle.am_plays.proofs.Instant.{AreLater, IsDoneAtOnce, answer-done, begun-later, ends-instant}
 use Rattle.am_plays.proofs.Moves.{IsMove, IsRecorded, IsSilent, flight}
 use Rattle.am_plays.proofs.OpenFlights.{Key, key_of}
 use Rattle.am_plays.proofs.PassedOver.{clock-is, open-is, past-more}
+use Rattle.am_plays.proofs.Promises.{Promises, all-kept, deadline_from, later-deadline, timed-flush}
 use Rattle.am_plays.proofs.Sound.{IsSound, move-sound, moves, opening-sound, state-more, step-as}
 use Rattle.am_plays.proofs.StepKinds.{step_by}
 use Rattle.am_plays.proofs.Words.{all-get, all-remove, all-set, said, some_of}
@@ -132,24 +131,24 @@ any-map : {X Y : Type 0} (f : X → Y) (test : Y → Bool) (xs : List X) → lis
 any-map f test [] = refl
 any-map f test (x ∷ xs) = λ i. test (f x) || any-map f test xs i
 
-module _ (r : Setting) (name : GroupName) (receiver : List ℕ) (none : has_no_outage receiver r.outages ≡ true) (runs : runs_past r.until r.span.cut ≡ true) (ends : r.until < MAX_TIME) where
+module _ (r : Setting) (config : Config) (name : GroupName) (late : ℕ) (Fails : ℕ → Type 0) (promise : Promises r config name late Fails) where
   -- whether a flush in flight is the group's
   abbrev pub is_own : SendingData → Bool
   is_own s = same_name name s.ticket.group
 
-  -- where it is, its ends come by t, and it is no later
+  -- where it is, its ends come by t or the promised time, and it is no later
   abbrev pub IsSwift : ℕ → ℕ → SendingData → Type 0
-  IsSwift t clock s = is_own s ≡ true → (clock ≤ t) × AllByRecursion (λ e. e.at ≤ t) s.ends
+  IsSwift t clock s = is_own s ≡ true → (clock ≤ max t late) × AllByRecursion (λ e. e.at ≤ max t late) s.ends
 
-  -- the receiver is the group's
-  abbrev pub IsReceiver : Config → Type 0
-  IsReceiver config = (route_of config name).receiver ≡ receiver
+  -- while a flush of the group is open, time moves on to the promised time at most
+  abbrev pub IsStill : BoardData → Type 0
+  IsStill b = AtEach (λ q past. has_open name past ≡ true → time_at (q ∷ past) ≤ max (time_at past) late) (past_of b.history)
 
   pub record IsPrompt (c : Scene) : Type 0 where
     pub sound : IsSound c
-    pub receives : IsReceiver c.board.config
+    pub configured : c.board.config ≡ config
     pub swift : AllByRecursion (IsSwift (state_at c.board).clock c.clock) c.sendings
-    pub still : AtEach (λ q past. has_open name past ≡ true → time_at (q ∷ past) ≤ time_at past) (past_of c.board.history)
+    pub still : IsStill c.board
 
   module _ (c d : Scene) (was : IsPrompt c) where
     -- the time of the board
@@ -159,18 +158,18 @@ module _ (r : Setting) (name : GroupName) (receiver : List ℕ) (none : has_no_o
     abbrev new : ℕ
     new = (state_at d.board).clock
 
-    -- while a flush of the group is in flight, a step at this time isn't after now
+    -- while a flush of the group is in flight, a step at this time isn't after now or the promised time
     abbrev pub IsEarly : ℕ → Type 0
-    IsEarly at = AllByRecursion (λ s. is_own s ≡ true → at ≤ now) c.sendings
+    IsEarly at = AllByRecursion (λ s. is_own s ≡ true → at ≤ max now late) c.sendings
 
     pub early-next : (n : _) → next r c ≡ Some n → IsEarly n.at
     early-next n is =
-        all-both (IsSwift now c.clock) (Comes r c 0 c.sendings) (λ s. is_own s ≡ true → n.at ≤ now)
-        (λ s swift comes own. by (next_comes r c now (swift own).0 (comes now (swift own).0 (swift own).1)))
+        all-both (IsSwift now c.clock) (Comes r c 0 c.sendings) (λ s. is_own s ≡ true → n.at ≤ max now late)
+        (λ s swift comes own. by (next_comes r c (max now late) (swift own).0 (comes (max now late) (swift own).0 (swift own).1)))
         c.sendings was.swift (each_comes r c 0 c.sendings)
       where
-        by : comes_by now (next r c) ≡ true → n.at ≤ now
-        by h = leb-true n.at now (subst (λ o. comes_by now o ≡ true) is h)
+        by : comes_by (max now late) (next r c) ≡ true → n.at ≤ max now late
+        by h = leb-true n.at (max now late) (subst (λ o. comes_by (max now late) o ≡ true) is h)
 
     -- ---- the flushes in flight after a step
 
@@ -179,10 +178,10 @@ module _ (r : Setting) (name : GroupName) (receiver : List ℕ) (none : has_no_o
 
     moved : (at : ℕ) → IsEarly at → now ≤ new → AllByRecursion (IsSwift new at) c.sendings
     moved at early grows =
-        all-both (IsSwift now c.clock) (λ s. is_own s ≡ true → at ≤ now) (IsSwift new at)
-        (λ s swift soon own. (later at (soon own), all-weaker (λ e. e.at ≤ now) (λ e. e.at ≤ new) (λ e come. later e.at come) s.ends (swift own).1)) c.sendings was.swift early
+        all-both (IsSwift now c.clock) (λ s. is_own s ≡ true → at ≤ max now late) (IsSwift new at)
+        (λ s swift soon own. (later at (soon own), all-weaker (λ e. e.at ≤ max now late) (λ e. e.at ≤ max new late) (λ e come. later e.at come) s.ends (swift own).1)) c.sendings was.swift early
       where
-        later : (t : ℕ) → t ≤ now → t ≤ new
+        later : (t : ℕ) → t ≤ max now late → t ≤ max new late
         later t come = omega (arith, come, grows)
 
     same_flights : (at : ℕ) → d.sendings ≡ c.sendings → Goal at
@@ -195,35 +194,32 @@ module _ (r : Setting) (name : GroupName) (receiver : List ℕ) (none : has_no_o
         let own : IsSwift new at s = all-get (IsSwift new at) c.sendings position s here all in
         subst (AllByRecursion (IsSwift new at)) (sym is)
         (all-set (IsSwift new at) c.sendings position (after_end_of s index report) all
-        (λ same. let swift = own (sym (ap (same_name name) (reported_group report s.ticket)) ∙ same) in (swift.0, all-remove (λ e. e.at ≤ new) s.ends index swift.1)))
+        (λ same. let swift = own (sym (ap (same_name name) (reported_group report s.ticket)) ∙ same) in (swift.0, all-remove (λ e. e.at ≤ max new late) s.ends index swift.1)))
 
     on_finish : (position at : ℕ) → d.sendings ≡ remove c.sendings position → Goal at
     on_finish position at is early grows =
         subst (AllByRecursion (IsSwift new at)) (sym is) (all-remove (IsSwift new at) c.sendings position (moved at early grows))
 
     module _ (at : ℕ) (within : at ≤ r.until) where
-      -- each notice of a flush of the group is done at once
-      pub at_once : (group : GroupName) (opened : Opened) → begun c.board.config c.board.id (state_at c.board) (time (state_at c.board) at) ≡ reply.Flush group opened
-          → same_name name group ≡ true → AllByRecursion (IsDoneAtOnce (answers_for r c.board group) r.span.cut at) opened.notices
-      at_once group opened is own =
-          all-weaker (λ (n : NoticeData). time (state_at c.board) at < n.deadline) (IsDoneAtOnce (answers_for r c.board group) r.span.cut at)
-          (λ n after. record {
-            early = early_by n.deadline (before n.deadline after) r.span.cut runs;
-            answers = answer-done r.until at n.ticket n.integration 1 r.span.cut r.outages (route_of c.board.config group).receiver within runs reached;
-          }) opened.notices
-          (subst (AreLater (time (state_at c.board) at)) is (begun-later c.board.config c.board.id (state_at c.board) (time (state_at c.board) at)))
+      -- the ends of a flush of the group keep the promise
+      pub flush-kept : (group : GroupName) (opened : Opened) → begun c.board.config c.board.id (state_at c.board) (time (state_at c.board) at) ≡ reply.Flush group opened
+          → same_name name group ≡ true → (es : List _) → AreEndsOf (answers_for r c.board group) r.span.cut at 0 opened.notices es
+          → AllByRecursion (λ e. e.at ≤ max at late) es × (AllByRecursion (λ e. is_success e.report ≡ true) es ⊎ Fails opened.deadline)
+      flush-kept group opened is own es are =
+          all-kept r config name late Fails promise at 0 opened.deadline within before opened.notices es
+          (subst (λ (x : Config). AreEndsOf (answer_of r.span.cut r.outages (route_of x name).receiver) r.span.cut at 0 opened.notices es) was.configured
+          (subst (λ (g : GroupName). AreEndsOf (answer_of r.span.cut r.outages (route_of c.board.config g).receiver) r.span.cut at 0 opened.notices es) (sym (same_name-is name group own)) are))
+          timed.1
         where
-          reached : has_no_outage (route_of c.board.config group).receiver r.outages ≡ true
-          reached =
-              subst (λ (g : GroupName). has_no_outage (route_of c.board.config g).receiver r.outages ≡ true) (same_name-is name group own)
-              (subst (λ (l : List ℕ). has_no_outage l r.outages ≡ true) (sym was.receives) none)
+          timed : (opened.deadline ≡ deadline_from c.board.config group (time (state_at c.board) at)) × AllByRecursion (λ (n : NoticeData). n.deadline ≡ opened.deadline) opened.notices
+          timed = timed-flush c.board.config c.board.id (state_at c.board) (time (state_at c.board) at) group opened is
 
-          before : (deadline : ℕ) → time (state_at c.board) at < deadline → at < deadline
-          before deadline after = omega (arith, after, within, ends)
-
-          early_by : (deadline : ℕ) → at < deadline → (cut : Option ℕ) → runs_past r.until cut ≡ true → nat_lt at (tried_until cut deadline) ≡ true
-          early_by deadline soon None runs = grind (arith, nat_tests, soon)
-          early_by deadline soon (Some k) runs = grind (arith, nat_tests, soon, runs, within)
+          before : at < opened.deadline
+          before =
+              let ends = promise.ends in
+              let after = later-deadline c.board.config group (time (state_at c.board) at) in
+              let deadline = timed.0 in
+              omega (arith, after, deadline, within, ends)
 
       flushed : (group : GroupName) (opened : Opened) → begun c.board.config c.board.id (state_at c.board) (time (state_at c.board) at) ≡ reply.Flush group opened
           → IsReplied r c at d (reply.Flush group opened) → Goal at
@@ -238,10 +234,11 @@ module _ (r : Setting) (name : GroupName) (receiver : List ℕ) (none : has_no_o
 
           added : IsSwift new at sent.0
           added own =
-              let here : same_name name group ≡ true = sym (ap (λ (t : TicketData). same_name name t.group) sent.1) ∙ own in (
+              let here : same_name name group ≡ true = sym (ap (λ (t : TicketData). same_name name t.group) sent.1) ∙ own in
+              let ends = promise.ends in (
                 omega (arith, since, within, ends),
-                all-weaker (λ e. (e.at ≡ at) × (is_success e.report ≡ true)) (λ e. e.at ≤ new) (λ e h. let is_at : e.at ≡ at = h.0 in omega (arith, is_at, since, within, ends)) (sent.0).ends
-                    (ends-instant (answers_for r c.board group) r.span.cut at 0 opened.notices (sent.0).ends sent.3 (at_once group opened is here)),
+                all-weaker (λ e. e.at ≤ max at late) (λ e. e.at ≤ max new late) (λ e h. let come : e.at ≤ max at late = h in omega (arith, come, since, within, ends)) (sent.0).ends
+                    (flush-kept group opened is here (sent.0).ends sent.3).0,
               )
 
       replied : (p : Reply) → begun c.board.config c.board.id (state_at c.board) (time (state_at c.board) at) ≡ p → IsReplied r c at d p → Goal at
@@ -281,15 +278,11 @@ module _ (r : Setting) (name : GroupName) (receiver : List ℕ) (none : has_no_o
         ∙ any-map key_of (λ (k : Key). same_name name k.1) (state_at c.board).flushes ∙ flushing
 
     unmoved : (at : ℕ) → IsEarly at → (x : Call) (p : Reply) → now_of x ≡ at
-        → has_open name (past_of c.board.history) ≡ true → time_at (entry 0 x p ∷ past_of c.board.history) ≤ time_at (past_of c.board.history)
+        → has_open name (past_of c.board.history) ≡ true → time_at (entry 0 x p ∷ past_of c.board.history) ≤ max (time_at (past_of c.board.history)) late
     unmoved at early x p is opened =
-        let soon : at ≤ now = one-is is_own (at ≤ now) c.sendings early (own_flies (sym (open-is c.board was.sound.legal name) ∙ opened)) in
+        let soon : at ≤ max now late = one-is is_own (at ≤ max now late) c.sendings early (own_flies (sym (open-is c.board was.sound.legal name) ∙ opened)) in
         let clock : now ≡ time_at (past_of c.board.history) = clock-is c.board was.sound.legal in
         omega (arith, soon, clock, is)
-
-    -- what is true of the board after a move
-    abbrev IsStill : BoardData → Type 0
-    IsStill b = AtEach (λ q past. has_open name past ≡ true → time_at (q ∷ past) ≤ time_at past) (past_of b.history)
 
     still-after : (at : ℕ) → IsEarly at → IsMove c d at → IsStill d.board × (now ≤ new)
     still-after at early m = elim m.does [ inl did ↦ recorded did | inr did ↦ silent did ]
@@ -300,7 +293,7 @@ module _ (r : Setting) (name : GroupName) (receiver : List ℕ) (none : has_no_o
             ap (λ (b : BoardData). (state_at b).clock) did.board ∙ ap (λ (s : State). s.clock) (state-more c.board did.accepted did.returned) ∙ after_clock c.board.config (state_at c.board) did.accepted
             in (
               subst IsStill (sym did.board)
-                  (subst (AtEach (λ q past. has_open name past ≡ true → time_at (q ∷ past) ≤ time_at past)) (sym (past-more c.board did.accepted did.returned))
+                  (subst (AtEach (λ q past. has_open name past ≡ true → time_at (q ∷ past) ≤ max (time_at past) late)) (sym (past-more c.board did.accepted did.returned))
                   (unmoved at early did.accepted did.returned did.now, was.still)),
               omega (arith, since),
             )
@@ -318,7 +311,7 @@ module _ (r : Setting) (name : GroupName) (receiver : List ℕ) (none : has_no_o
         let goal : Goal m.0.at = said (next r c) m.0 m.1 (λ n. Goal n.at) (flights steps) in
         record {
           sound = move-sound c d was.sound m.0.at m.2;
-          receives = ap (λ (x : Config). (route_of x name).receiver) (step-as r c d was.sound steps).0 ∙ was.receives;
+          configured = (step-as r c d was.sound steps).0 ∙ was.configured;
           swift = subst (λ (t : ℕ). AllByRecursion (IsSwift new t) d.sendings) (sym m.2.clock) (goal early after.1);
           still = after.0;
         }
@@ -327,15 +320,11 @@ module _ (r : Setting) (name : GroupName) (receiver : List ℕ) (none : has_no_o
   kept-prompt zero c d was same = subst IsPrompt same was
   kept-prompt (suc k) c d was led = prompt led.0 d (kept-prompt k c led.0 was led.1) led.2
 
-  pub opening-prompt : (config : Config) (plans : List TimedAction) → IsReceiver config → IsPrompt (opening_scene r config plans)
-  opening-prompt config plans receives = record { sound = opening-sound r config plans; receives = receives; swift = tt; still = tt }
+  pub opening-prompt : (plans : List TimedAction) → IsPrompt (opening_scene r config plans)
+  opening-prompt plans = record { sound = opening-sound r config plans; configured = refl; swift = tt; still = tt }
 
--- while a flush of a group that is served is open, time doesn't move on in a play
-pub time_is_still : (r : Setting) (config : Config) (plans : List TimedAction) (board : BoardData) (events : List Event) → PlaysTo r config plans board events
-    → (name : GroupName) → IsServed r config name → AtEach (λ q past. has_open name past ≡ true → time_at (q ∷ past) ≤ time_at past) (past_of board.history)
-time_is_still r config plans board events play name served =
-    let receiver : List ℕ = (route_of config name).receiver in
-    let last = kept-prompt r name receiver served.reached served.runs served.ends play.reached.0 (opening_scene r config plans) play.last
-    (opening-prompt r name receiver served.reached served.runs served.ends config plans refl) play.reached.1
-    in
-    subst (λ (b : BoardData). AtEach (λ q past. has_open name past ≡ true → time_at (q ∷ past) ≤ time_at past) (past_of b.history)) (sym play.board_is) last.still
+  -- so it is in a play
+  pub time_is_still : (plans : List TimedAction) (board : BoardData) (events : List Event) → PlaysTo r config plans board events → IsStill board
+  time_is_still plans board events play =
+      let last = kept-prompt play.reached.0 (opening_scene r config plans) play.last (opening-prompt plans) play.reached.1 in
+      subst IsStill (sym play.board_is) last.still

@@ -1,5 +1,5 @@
 -- A sending to a receiver that no outage names is over at once, and is a success.
-use Rattle.std.proofs.Common.{◌≡◌, ℕ, ◌+◌, ◌<◌, ◌≤◌, max, min, Bool, true, false, not, ◌&&◌, nat_le, nat_lt, List, [], ◌∷◌, Option, Some, None, refl, sym, ap, ◌∙◌, arith, if◌then◌else◌}
+use Rattle.std.proofs.Common.{◌≡◌, ℕ, ◌≤◌, max, min, Bool, true, false, not, ◌&&◌, nat_le, nat_lt, List, [], ◌∷◌, Option, Some, None, refl, sym, ap, ◌∙◌, arith, if◌then◌else◌}
 use Rattle.std.specs.Prelude.{find}
 use Rattle.std.specs.List.{AllByRecursion, list_all}
 use Rattle.std.specs.Str.{bytes_eq}
@@ -12,11 +12,9 @@ use Rattle.am_retry.specs.declared.outcome.Outcome.TheVariants.{Delivered}
 use Rattle.am_model.specs.declared.config.Config.{Config}
 use Rattle.am_model.specs.declared.config.Integration.{Integration}
 use Rattle.am_model.specs.declared.notice.Report.{Report}
-use Rattle.am_model.specs.declared.notice.TheConstants.{MIN_FLUSH_TIMEOUT}
 use Rattle.am_model.specs.declared.record.Reply.{Reply}
 use Rattle.am_model.specs.declared.record.Reply.TheVariants as reply
 use Rattle.am_model.specs.Begin.{begun, notice_for, notified_of, reply_notifying, reply_taking, taken}
-use Rattle.am_model.specs.Configured.{route_of}
 use Rattle.am_model.specs.Finish.{is_delivered}
 use Rattle.am_model.specs.Notice.{NoticeData}
 use Rattle.am_model.specs.State.{GroupState, State}
@@ -24,7 +22,7 @@ use Rattle.am_model.proofs.lists.Distinct.{all-map}
 use Rattle.am_pool.proofs.Determined.{same_report}
 use Rattle.am_pool.specs.Sendings.{IsAnsweredBy, IsSentFrom, end_on}
 use Rattle.am_pool.specs.declared.courier.Sent.{Sent}
-use Rattle.am_rehearsal.specs.Answers.{AreEndsOf, IsOutcome, answer_of, covers, cut_short, is_for, is_over, sent_by, tried_by}
+use Rattle.am_rehearsal.specs.Answers.{IsOutcome, answer_of, covers, cut_short, is_for, is_over, sent_by, tried_by}
 use Rattle.am_rehearsal.specs.Steps.{is_success}
 use Rattle.am_terms.specs.declared.rehearsal.Outage.{Outage}
 use Rattle.am_plays.specs.PlaysInTime.{has_no_outage, runs_past}
@@ -91,41 +89,17 @@ module _ (answer : ℕ → ℕ → ℕ → ℕ → Sent) (cut : Option ℕ) (at 
       ends : at ≡ max at (min at latest)
       ends = omega arith
 
-  outcome-instant : (n : NoticeData) → IsDoneAtOnce n → (o : Option Report) → IsOutcome answer cut at n o → (end_on at o ≡ at) × (is_success o ≡ true)
+  pub outcome-instant : (n : NoticeData) → IsDoneAtOnce n → (o : Option Report) → IsOutcome answer cut at n o → (end_on at o ≡ at) × (is_success o ≡ true)
   outcome-instant n h None is = (refl, refl)
   outcome-instant n h (Some report) is =
       let same : report ≡ expected n = same_report answer at (tried_by cut n) report (expected n) is.1 (expected-sent n h) in
       (ap (λ (p : Report). p.ended) same, ap (λ (p : Report). is_delivered (Some p.outcome)) same)
 
-  -- so all ends come at once, and are successes
-  pub ends-instant : (index : ℕ) (ns : List NoticeData) (es : List _) → AreEndsOf answer cut at index ns es → AllByRecursion IsDoneAtOnce ns
-      → AllByRecursion (λ e. (e.at ≡ at) × (is_success e.report ≡ true)) es
-  ends-instant index [] [] are all = tt
-  ends-instant index [] (e ∷ es) are all = absurd are
-  ends-instant index (n ∷ ns) [] are all = absurd are
-  ends-instant index (n ∷ ns) (e ∷ es) are all =
-      let this = outcome-instant n all.0 e.report are.0.2 in
-      ((are.0.1 ∙ this.0, this.1), ends-instant (index + 1) ns es are.1 all.1)
+-- ---- whose a begin's notices are
 
--- ---- the deadlines of a begin's notices, and whose they are
-
-all-of : {X : Type 0} (P : X → Type 0) → ((x : X) → P x) → (xs : List X) → AllByRecursion P xs
+pub all-of : {X : Type 0} (P : X → Type 0) → ((x : X) → P x) → (xs : List X) → AllByRecursion P xs
 all-of P each [] = tt
 all-of P each (x ∷ xs) = (each x, all-of P each xs)
-
--- each notice of a reply has a later deadline
-abbrev pub AreLater : ℕ → Reply → Type 0
-AreLater t (reply.Flush group opened) = AllByRecursion (λ (n : NoticeData). t < n.deadline) opened.notices
-AreLater t (reply.Inserted inserted) = Unit {0}
-AreLater t (reply.Silenced silenced) = Unit {0}
-AreLater t reply.NothingDue = Unit {0}
-AreLater t (reply.Quiet group removed) = Unit {0}
-AreLater t (reply.Finished finished) = Unit {0}
-AreLater t (reply.Maintained maintained) = Unit {0}
-AreLater t (reply.EmptyGroupsRemoved removed) = Unit {0}
-AreLater t (reply.Forgotten forgotten) = Unit {0}
-AreLater t (reply.Loaded loaded) = Unit {0}
-AreLater t reply.Noted = Unit {0}
 
 -- each notice of a reply is of this board and of the reply's flush
 abbrev pub AreOwn : ℕ → Reply → Type 0
@@ -142,22 +116,6 @@ AreOwn id (reply.Loaded loaded) = Unit {0}
 AreOwn id reply.Noted = Unit {0}
 
 module _ (config : Config) (id : ℕ) (s : State) (t : ℕ) where
-  later-notifying : (g : GroupState) (notified : List (ℕ × Integration)) → AreLater t (reply_notifying config id s t g notified)
-  later-notifying g [] = tt
-  later-notifying g (i ∷ is) =
-      all-map (notice_for config id s t g) (λ n. t < n.deadline) (i ∷ is)
-      (all-of (λ (j : ℕ × Integration). t < t + max (route_of config g.name).group_interval MIN_FLUSH_TIMEOUT) (λ j. after) (i ∷ is))
-    where
-      after : t < t + max (route_of config g.name).group_interval MIN_FLUSH_TIMEOUT
-      after = let ten : MIN_FLUSH_TIMEOUT ≡ 10_000 = refl in omega (arith, ten)
-
-  later-taking : (o : Option GroupState) → AreLater t (reply_taking config id s t o)
-  later-taking None = tt
-  later-taking (Some g) = later-notifying g (notified_of config s t g)
-
-  pub begun-later : AreLater t (begun config id s t)
-  begun-later = later-taking (taken s t)
-
   own-notifying : (g : GroupState) (notified : List (ℕ × Integration)) → AreOwn id (reply_notifying config id s t g notified)
   own-notifying g [] = tt
   own-notifying g (i ∷ is) =

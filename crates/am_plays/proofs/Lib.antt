@@ -22,13 +22,27 @@ pub mod OnTime
 pub mod Examples
 -- sendings without an outage are over at once
 pub mod Instant
--- while a flush without an outage is open, time doesn't move on
+-- what is known of each sending to a group's receiver
+pub mod Promises
+-- while a flush is open, time moves on to the promised time at most
 pub mod InFlight
 -- of a flush of which each sending is a success, all is reported delivered
 pub mod Successes
--- each flush of a group that is served is finished at its begin, all delivered
-pub mod FinishesDeliver
--- a play is on time for each group that is served
+-- each flush of a group whose receiver keeps its promises ends in time, all delivered or not
+pub mod FlushesEnd
+-- a play is on time for each group that is served, and delivers each flush of it
 pub mod Served
--- and pages it in time, and is delivered then
+-- a group by a time has no open flush, and is due later
+pub mod AtRest
+-- a play pages it in time, and is delivered then
 pub mod PagesInPlays
+-- a sending to a receiver whose outages end succeeds, or its deadline comes soon
+pub mod Recovery
+-- and so does each flush of a group, or the group is due again soon
+pub mod Recovering
+-- from a flush on, the integration hears, or the group is due again soon
+pub mod Phases
+-- so pages come after outages
+pub mod AfterOutages
+-- worked plays with an outage that ends, and with one that refuses for good
+pub mod OutageExamples

@@ -1,9 +1,8 @@
 -- In a play, pages come in time to a group that is served, and are delivered then.
-use Rattle.std.proofs.Common.{◌≡◌, ℕ, ◌+◌, ◌<◌, ◌≤◌, max, Bool, true, false, cond, not, ◌||◌, nat_le, nat_lt, All, List, [], ◌∷◌, ◌++◌, length, reverse, ◌⊎◌, inl, inr, refl, sym, ap, ◌∙◌, subst, arith, add-zero}
+use Rattle.std.proofs.Common.{◌≡◌, ℕ, ◌+◌, ◌<◌, ◌≤◌, max, Bool, true, false, cond, not, ◌||◌, nat_le, All, List, [], ◌∷◌, ◌++◌, reverse, ◌⊎◌, inl, inr, refl, sym, ap, ◌∙◌, subst, arith, add-zero}
 use Rattle.std.specs.Prelude.{◌==◌, find}
 use Rattle.std.specs.List.{list_all}
-use Rattle.std.specs.Option.{IfSome}
-use Rattle.std.proofs.lemmas.Bool.{false≢true, and_from, and_parts, le-leb, leb-true, leb-false, or_right}
+use Rattle.std.proofs.lemmas.Bool.{false≢true, and_from, and_parts, leb-true, or_right}
 use Rattle.std.proofs.lemmas.List.{reverse-append, reverse-reverse}
 use Rattle.am_alerts.specs.declared.labels.Label.{Label}
 use Rattle.am_alerts.specs.declared.limits.TheConstants.{MAX_TIME}
@@ -22,17 +21,14 @@ use Rattle.am_model.specs.Forget.{forgotten}
 use Rattle.am_model.specs.Notice.{NoticeData, is_nothing}
 use Rattle.am_model.specs.Records.{entry}
 use Rattle.am_model.specs.Replay.{IsLegal, replay}
-use Rattle.am_model.specs.State.{FlushState, State, is_flushing, is_named, time}
+use Rattle.am_model.specs.State.{is_named, time}
 use Rattle.am_model.specs.Ticket.{outcome_of}
-use Rattle.am_model.specs.look_back.Laws.{begun_at, has_open}
+use Rattle.am_model.specs.look_back.Laws.{begun_at}
 use Rattle.am_model.specs.look_back.Past.{AtEach, begin_of, notices_in, past_of, replay_past, succeeded, takes, time_at, was_noted}
 use Rattle.am_model.proofs.lists.Distinct.{all_from, all_to, all-weaker}
 use Rattle.am_model.proofs.legal.Histories.{beginnings_are_legal, legal_appends}
-use Rattle.am_model.proofs.looking_back.Pasts.{legal_past, replay_is_past, state_after}
-use Rattle.am_model.proofs.looking_back.flushes.FlushesOnce.{open-group}
 use Rattle.am_paging.specs.InTime.{AtSome, HearsBy, IsBegunFor, IsDueOnTime, IsOnTime, Succeeds, begun_by, ended_at, finishes_for, latest, past_until, reaches}
 use Rattle.am_paging.specs.Paging.{HasHeard, is_due_a_page, reports_page}
-use Rattle.am_paging.proofs.Counted.{counts_past}
 use Rattle.am_paging.proofs.DeliveredInTime.{pages_are_delivered_in_time}
 use Rattle.am_paging.proofs.PagesInTime.{pages_come_in_time}
 use Rattle.am_rehearsal.specs.Play.{PlaysTo}
@@ -40,106 +36,16 @@ use Rattle.am_rehearsal.specs.Scene.{Setting}
 use Rattle.am_rehearsal.specs.declared.limits.TheConstants.{BOARD_ID}
 use Rattle.am_terms.specs.declared.event.Event.{Event}
 use Rattle.am_terms.specs.declared.rehearsal.TimedAction.{TimedAction}
-use Rattle.am_plays.specs.Plays.{ComesBy, EveryPlay, has_place}
+use Rattle.am_plays.specs.Plays.{EveryPlay}
 use Rattle.am_plays.specs.PlaysDeliver.{Delivers, IsDueFromTo, PlaysDeliverInTime, delivers_all, is_delivered_at, reports_delivered}
 use Rattle.am_plays.specs.PlaysInTime.{IsServed, PlaysPageInTime}
-use Rattle.am_plays.proofs.FinishesDeliver.{flushes_deliver}
-use Rattle.am_plays.proofs.PassedOver.{nothing_due_is_left}
-use Rattle.am_plays.proofs.Served.{Due, Still, due-play, on-time-play, still-play}
+use Rattle.am_plays.proofs.AtRest.{IsAtRest, each-until, each-within, not-open, play-rests, some-until, until-before, until-front, until-twice}
+use Rattle.am_plays.proofs.Served.{flushes_deliver, on-time-play, still-play}
 use Rattle.am_plays.proofs.Sound.{plays_are_legal}
 use Rattle.am_plays.proofs.Words.{if_weaker}
 
--- ---- the records up to a time
-
-module _ (x : ℕ) where
-  -- they come by then
-  until-before : (past : List Record) → time_at (past_until x past) ≤ x
-  until-before [] = omega arith
-  until-before (q ∷ past) = by (nat_le (time_at (q ∷ past)) x) refl (until-before past)
-    where
-      by : (b : Bool) → nat_le (time_at (q ∷ past)) x ≡ b → time_at (past_until x past) ≤ x → time_at (cond b (q ∷ past) (past_until x past)) ≤ x
-      by true is before = leb-true (time_at (q ∷ past)) x is
-      by false is before = before
-
-  -- and the others after them
-  until-front : (past : List Record) → (front : List Record) × (past ≡ front ++ past_until x past)
-  until-front [] = ([], refl)
-  until-front (q ∷ past) = by (nat_le (time_at (q ∷ past)) x) (until-front past)
-    where
-      by : (b : Bool) → (front : List Record) × (past ≡ front ++ past_until x past) → (front : List Record) × ((q ∷ past) ≡ front ++ cond b (q ∷ past) (past_until x past))
-      by true before = ([], refl)
-      by false before = (q ∷ before.0, ap (λ (l : List Record). q ∷ l) before.1)
-
-  each-until : (P : Record → List Record → Type 0) (past : List Record) → AtEach P past → AtEach P (past_until x past)
-  each-until P [] each = tt
-  each-until P (q ∷ past) each = by (nat_le (time_at (q ∷ past)) x) (each-until P past each.1)
-    where
-      by : (b : Bool) → AtEach P (past_until x past) → AtEach P (cond b (q ∷ past) (past_until x past))
-      by true before = each
-      by false before = before
-
-  some-until : (P : Record → List Record → Type 0) (past : List Record) → AtSome P (past_until x past) → AtSome P past
-  some-until P [] some = some
-  some-until P (q ∷ past) some = by (nat_le (time_at (q ∷ past)) x) some (λ some. some-until P past some)
-    where
-      by : (b : Bool) → AtSome P (cond b (q ∷ past) (past_until x past)) → (AtSome P (past_until x past) → AtSome P past) → AtSome P (q ∷ past)
-      by true some later = some
-      by false some later = inr (later some)
-
-  -- of a past that comes by then, what holds up to then holds
-  each-within : (P : Record → List Record → Type 0) (past : List Record) → time_at past ≤ x → AtEach (λ q past. time_at (q ∷ past) ≤ x → P q past) past → AtEach P past
-  each-within P [] within each = tt
-  each-within P (q ∷ past) within each = (each.0 within, each-within P past (omega (arith, within)) each.1)
-
--- a time that comes first
-until-twice : (x y : ℕ) → x ≤ y → (past : List Record) → past_until x (past_until y past) ≡ past_until x past
-until-twice x y before [] = refl
-until-twice x y before (q ∷ past) = by (nat_le (time_at (q ∷ past)) y) refl (nat_le (time_at (q ∷ past)) x) refl (until-twice x y before past)
-  where
-    by : (b : Bool) → nat_le (time_at (q ∷ past)) y ≡ b → (a : Bool) → nat_le (time_at (q ∷ past)) x ≡ a → past_until x (past_until y past) ≡ past_until x past
-        → past_until x (cond b (q ∷ past) (past_until y past)) ≡ cond a (q ∷ past) (past_until x past)
-    by true is a of_x rest = ap (λ b. cond b (q ∷ past) (past_until x past)) of_x
-    by false is true of_x rest =
-        let late : y < time_at (q ∷ past) = leb-false (time_at (q ∷ past)) y is in
-        let early : time_at (q ∷ past) ≤ x = leb-true (time_at (q ∷ past)) x of_x in
-        absurd (omega (arith, late, early, before))
-    by false is false of_x rest = rest
-
 module _ (r : Setting) (config : Config) (id : ℕ) (name : GroupName) (y : ℕ) (by_end : y ≤ r.until) where
-  -- ---- at a time by the end, the group has no open flush, and is due later
-
-  pub record IsAtRest (past : List Record) : Type 0 where
-    pub closed : has_open name past ≡ false
-    pub later : IfSome (find (is_named name) (replay_past config past).groups) (λ g. y < max g.due (ended_at name past))
-
-  not-open : (b : Bool) → (b ≡ true → ⊥) → b ≡ false
-  not-open true isnt = absurd (isnt refl)
-  not-open false isnt = refl
-
-  -- before a record after it
-  rest-before : (q : Record) (past : List Record) → Still r config id name q past → Due r config id name q past → y < time_at (q ∷ past) → time_at past ≤ y → IsAtRest past
-  rest-before q past still due late within =
-      let closed : has_open name past ≡ false = not-open (has_open name past) (λ opened. let unmoved : time_at (q ∷ past) ≤ time_at past = still opened in absurd (omega (arith, unmoved, late, within))) in
-      record {
-        closed = closed;
-        later = if_weaker (find (is_named name) (replay_past config past).groups) (λ g. ComesBy r (max g.due (ended_at name past)) (time_at (q ∷ past)))
-            (λ g. y < max g.due (ended_at name past)) (λ g h. by (max g.due (ended_at name past)) h) (due closed);
-      }
-    where
-      by : (bound : ℕ) → ComesBy r bound (time_at (q ∷ past)) → y < bound
-      by bound (inl come) = omega (arith, come, late)
-      by bound (inr after) = omega (arith, after, by_end)
-
-  rests : (past : List Record) → AtEach (Still r config id name) past → AtEach (Due r config id name) past → (time_at past ≤ y → IsAtRest past) → IsAtRest (past_until y past)
-  rests [] still due last = last (omega arith)
-  rests (q ∷ past) still due last =
-      by (nat_le (time_at (q ∷ past)) y) refl (λ before. rests past still.1 due.1 before)
-    where
-      by : (b : Bool) → nat_le (time_at (q ∷ past)) y ≡ b → ((time_at past ≤ y → IsAtRest past) → IsAtRest (past_until y past)) → IsAtRest (cond b (q ∷ past) (past_until y past))
-      by true is earlier = last (leb-true (time_at (q ∷ past)) y is)
-      by false is earlier = earlier (λ within. rest-before q past still.0 due.0 (leb-false (time_at (q ∷ past)) y is) within)
-
-  -- ---- a record more at that time
+  -- ---- a record more at a time by the end
 
   module _ (history : List Record) (legal : IsLegal config id history) (ends : r.until < MAX_TIME) where
     -- the records up to then
@@ -168,7 +74,7 @@ module _ (r : Setting) (config : Config) (id : ℕ) (name : GroupName) (y : ℕ)
     end-time : time_at (at_end ∷ upto) ≡ y
     end-time = let before = until-before y (past_of history) in omega (arith, before, ends, by_end)
 
-    end-on-time : IsAtRest upto → IsOnTime 0 0 config name at_end upto
+    end-on-time : IsAtRest r config id name y by_end upto → IsOnTime 0 0 config name at_end upto
     end-on-time rest =
         record {
           begins = λ closed. if_weaker (find (is_named name) (replay_past config upto).groups) (λ g. y < max g.due (ended_at name upto))
@@ -176,7 +82,7 @@ module _ (r : Setting) (config : Config) (id : ℕ) (name : GroupName) (y : ℕ)
           ends = λ opened. absurd (false≢true (sym rest.closed ∙ opened));
         }
 
-    module _ (labels : List Label) (x : ℕ) (rest : IsAtRest upto)
+    module _ (labels : List Label) (x : ℕ) (rest : IsAtRest r config id name y by_end upto)
         (on : AtEach (λ q past. time_at (q ∷ past) ≤ r.until → IsOnTime 0 0 config name q past) (past_of history))
         (due : AtEach (λ q past. x < time_at (q ∷ past) → time_at (q ∷ past) ≤ y → is_due_a_page config name labels (time_at (q ∷ past)) past ≡ true) (past_of history))
         (due_then : is_due_a_page config name labels y upto ≡ true) (soon : begun_by config name 0 x (past_of history) < y) where
@@ -311,28 +217,11 @@ module _ (r : Setting) (config : Config) (plans : List TimedAction) (board : Boa
   legal : IsLegal config BOARD_ID board.history
   legal = plays_are_legal r config plans board events play
 
-  left : ((replay config board.history).flushes ≡ [])
-      × (r.until < MAX_TIME → has_place config (replay config board.history) ≡ true
-      → (n : GroupName) → IfSome (find (is_named n) (replay config board.history).groups) (λ g. r.until < max (time_at (past_of board.history)) g.due))
-  left = nothing_due_is_left r config plans board events play
-
-  last-rest : (y : ℕ) (by_end : y ≤ r.until) → time_at (past_of board.history) ≤ y → IsAtRest r config BOARD_ID name y by_end (past_of board.history)
-  last-rest y by_end within =
-      record {
-        closed = open-group config (state_after config (past_of board.history)) (past_of board.history) (counts_past config BOARD_ID (past_of board.history) (legal_past config BOARD_ID board.history legal)) name
-            ∙ ap (λ (s : State). is_flushing s.flushes name) (sym (replay_is_past config board.history)) ∙ ap (λ (fs : List FlushState). is_flushing fs name) left.0;
-        later = subst (λ (s : State). IfSome (find (is_named name) s.groups) (λ g. y < max g.due (ended_at name (past_of board.history)))) (sym (ap (replay config) (reverse-reverse board.history)))
-            (if_weaker (find (is_named name) (replay config board.history).groups) (λ g. r.until < max (time_at (past_of board.history)) g.due)
-            (λ g. y < max g.due (ended_at name (past_of board.history))) (λ g h. let after : r.until < max (time_at (past_of board.history)) g.due = h in omega (arith, after, within, by_end))
-            (left.1 served.ends (ap (λ b. b || nat_lt (length (replay config board.history).flushes) config.limits.flushes) (le-leb config.limits.groups config.limits.flushes served.places)) name));
-      }
-
   -- a time by the end
   module _ (y : ℕ) (by_end : y ≤ r.until) where
     rests_then : IsAtRest r config BOARD_ID name y by_end (past_until y (past_of board.history))
     rests_then =
-        rests r config BOARD_ID name y by_end (past_of board.history) (still-play r config plans board events play name served) (due-play r config plans board events play name served)
-        (last-rest y by_end)
+        play-rests r config plans board events play name y by_end served.ends served.places 0 (omega arith) (still-play r config plans board events play name served)
 
   pages : (labels : List Label) (x : ℕ)
       → AtEach (λ q past. x < time_at (q ∷ past) → time_at (q ∷ past) ≤ r.until → is_due_a_page config name labels (time_at (q ∷ past)) past ≡ true) (past_of board.history)

@@ -4,3 +4,5 @@ pub mod Plays
 pub mod PlaysInTime
 -- and are delivered in time
 pub mod PlaysDeliver
+-- and come once the outages of a receiver are over
+pub mod PlaysRecover

@@ -2,6 +2,7 @@
 //! statement.
 ghost use Rattle.am_plays.specs.PlaysDeliver.{FlushesDeliver, PlaysDeliverInTime};
 ghost use Rattle.am_plays.specs.PlaysInTime.{PlaysAreOnTime, PlaysPageInTime};
+ghost use Rattle.am_plays.specs.PlaysRecover.{FlushesComeThrough, PagesComeAfterOutages, PlaysDeliverAfterOutages, SendingsComeThrough};
 ghost use Rattle.am_plays.specs.Plays.{BeginsWhenDue, EveryPlay, IsLegalPlay, NothingBlocks, NothingDueIsLeft, NothingDueIsPassedOver};
 
 /// States that the history of each play is legal.
@@ -61,4 +62,35 @@ pub fn plays_page_in_time()
 pub fn plays_deliver_in_time()
     ensures flushes { EveryPlay FlushesDeliver }
     ensures delivered { EveryPlay PlaysDeliverInTime }
+{}
+
+/// States that sendings come through outages that end.
+///
+/// A receiver recovers by x: each of its outages is over by x, refuses no attempt for good, and lets
+/// no attempt take longer than d. Then it has recovered a minute and d after x. Take a notice for it
+/// that is sent before its deadline, by a dispatcher that isn't stopped until then. Clause
+/// `sendings`: the sending ends by then, or at once if it began later. It succeeds, or the notice's
+/// deadline is at most a minute after its end, and comes by then. Clause `flushes`: each flush of a
+/// group whose receiver recovers is finished by then, or at once if it was begun later. The finish
+/// reports each of its notices delivered, or the flush's deadline comes by then. The group is due
+/// again by that deadline.
+pub fn sendings_come_through()
+    ensures sendings { SendingsComeThrough }
+    ensures flushes { EveryPlay FlushesComeThrough }
+{}
+
+/// States that pages come after outages, with no premise on a driver.
+///
+/// Take a group whose receiver recovers by x, as `sendings_come_through` says, in a rehearsal that
+/// goes on until it has recovered. Its dispatcher isn't stopped by the end, and `limits.flushes`
+/// isn't below `limits.groups`. Clause `flush`: a flush at v notifies an integration of an alert,
+/// which stays due a page after that up to a time y. Then the integration hears of it by v, or by a
+/// minute and d after x, if that is later: a notice that lists the alert is reported delivered to it,
+/// or the group is begun and the integration has heard of it. Clause `alert`: an alert is due a page
+/// from a time on up to y. Then each integration of the receiver hears of it by the latest time of
+/// `plays_page_in_time`, or by a minute and d after x, if that is later. In both, that time is no
+/// later than y, and y no later than the rehearsal's end.
+pub fn pages_come_after_outages()
+    ensures flush { EveryPlay PagesComeAfterOutages }
+    ensures alert { EveryPlay PlaysDeliverAfterOutages }
 {}

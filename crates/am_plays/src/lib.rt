@@ -5,10 +5,10 @@
 //! - `law`: the laws, as public calls without a body.
 //! - specs `Plays`: what every play has, and what passing over a group that is due is.
 //!   `PlaysInTime`: which groups are served, and by when they are paged. `PlaysDeliver`: by when a
-//!   page is delivered.
+//!   page is delivered. `PlaysRecover`: by when, once the outages of a receiver are over.
 //! - proofs: `StepKinds` has the one analysis of the kinds of steps, `Moves` what each does to the
-//!   board. `Sound`, `PassedOver`, `InFlight` and `FinishesDeliver` carry invariants over steps.
-//!   `Examples` runs the definitions on worked plays.
+//!   board. `Promises` is what is known of each sending. `Sound`, `PassedOver`, `InFlight` and
+//!   `FlushesEnd` carry invariants over steps. `Examples` runs the definitions on worked plays.
 #![tactic(auto)]
 
 pub mod law;

@@ -1,5 +1,5 @@
-use Rattle.am_plays.proofs.FinishesDeliver.{flushes_deliver}
 use Rattle.am_plays.proofs.PagesInPlays.{plays_deliver_in_time}
+use Rattle.am_plays.proofs.Served.{flushes_deliver}
 use Rattle.am_plays.proofs.law.plays_deliver_in_time.Goals as goal
 
 pub returns-clause-flushes : goal.returns-clause-flushes

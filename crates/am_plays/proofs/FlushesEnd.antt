@@ -1,9 +1,10 @@
--- Each flush of a group that is served is finished at the time of its begin, and each of its notices is reported delivered.
-use Rattle.std.proofs.Common.{◌≡◌, ℕ, zero, suc, ◌<◌, ◌≤◌, Bool, true, false, cond, ◌||◌, List, [], ◌∷◌, Option, Some, None, inl, inr, refl, sym, ap, ◌∙◌, subst, arith, if◌then◌else◌}
-use Rattle.std.specs.Prelude.{◌==◌, is_none, is_some, slice_get}
+-- Each flush of a group whose receiver keeps its promises is finished in time, and each of its notices is reported delivered, or its deadline
+-- fails.
+use Rattle.std.proofs.Common.{◌≡◌, ℕ, zero, suc, ◌≤◌, max, min, ◌⊎◌, Bool, true, false, cond, ◌||◌, List, [], ◌∷◌, Option, Some, None, inl, inr, refl, sym, ap, ◌∙◌, subst, arith, if◌then◌else◌}
+use Rattle.std.specs.Prelude.{is_none, is_some, slice_get}
 use Rattle.std.specs.List.{AllByRecursion, list_all}
 use Rattle.std.specs.Option.{IsSomeAnd, option_map_or}
-use Rattle.std.proofs.lemmas.Bool.{false≢true, and_from}
+use Rattle.std.proofs.lemmas.Bool.{false≢true}
 use Rattle.std.proofs.lemmas.Cmp.{nat_eq_equiv}
 use Rattle.am_alerts.specs.declared.limits.TheConstants.{MAX_TIME}
 use Rattle.am_retry.specs.declared.outcome.Outcome.{Outcome}
@@ -11,6 +12,7 @@ use Rattle.am_board.specs.History.{BoardData, records_at, state_at, with_record}
 use Rattle.am_model.proofs.legal.EachCall.{inside}
 use Rattle.am_model.proofs.lists.Distinct.{all-both, all-push, all-weaker}
 use Rattle.am_model.proofs.looking_back.LooksBack.{histories_look_back}
+use Rattle.am_model.proofs.states.Alike.{same_name-is}
 use Rattle.am_model.specs.declared.config.Config.{Config}
 use Rattle.am_model.specs.declared.fault.Fault.{Fault}
 use Rattle.am_model.specs.declared.fault.Fault.TheVariants as fault
@@ -24,7 +26,6 @@ use Rattle.am_model.specs.declared.record.Reply.{Reply}
 use Rattle.am_model.specs.declared.record.Reply.TheVariants as reply
 use Rattle.am_model.specs.Begin.{begun}
 use Rattle.am_model.specs.Causes.{note_cause}
-use Rattle.am_model.specs.Configured.{route_of}
 use Rattle.am_model.specs.Notice.{NoticeData}
 use Rattle.am_model.specs.Records.{call_of_silence, entry, now_of}
 use Rattle.am_model.specs.Replay.{reply as reply_to}
@@ -37,37 +38,38 @@ use Rattle.am_paging.specs.InTime.{is_finish_of}
 use Rattle.am_pool.specs.Sendings.{note_at}
 use Rattle.am_rehearsal.specs.Next.{next, none_left}
 use Rattle.am_rehearsal.specs.Planned.{call_of}
-use Rattle.am_rehearsal.specs.Play.{LeadsIn}
+use Rattle.am_rehearsal.specs.Play.{LeadsIn, PlaysTo}
 use Rattle.am_rehearsal.specs.Scene.{Scene, SendingData, Setting, opening_scene}
 use Rattle.am_rehearsal.specs.Steps.{IsBegun, IsReplied, Steps, after_end, after_end_of, after_finish, answers_for, is_success, ticket_of, with_call, with_note, with_report}
 use Rattle.am_rehearsal.specs.Taking.{cause_of_none}
+use Rattle.am_terms.specs.declared.event.Event.{Event}
 use Rattle.am_terms.specs.declared.rehearsal.Action.{Action}
 use Rattle.am_terms.specs.declared.rehearsal.Action.TheVariants.{Insert, Silence, Load}
 use Rattle.am_terms.specs.declared.rehearsal.TimedAction.{TimedAction}
-use Rattle.am_plays.specs.Plays.{EveryPlay}
-use Rattle.am_plays.specs.PlaysDeliver.{Delivers, FlushesDeliver, is_delivered_at, reports_delivered}
-use Rattle.am_plays.specs.PlaysInTime.{has_no_outage, runs_past}
-use Rattle.am_plays.proofs.InFlight.{IsEarly, IsPrompt, at_once, early-next, opening-prompt, prompt}
-use Rattle.am_plays.proofs.Instant.{AreOwn, begun-own, ends-instant}
+use Rattle.am_plays.specs.PlaysDeliver.{reports_delivered}
+use Rattle.am_plays.specs.PlaysRecover.{OfFinish, is_all_delivered}
+use Rattle.am_plays.proofs.InFlight.{IsEarly, IsPrompt, IsSwift, early-next, flush-kept, opening-prompt, prompt}
+use Rattle.am_plays.proofs.Instant.{AreOwn, begun-own}
 use Rattle.am_plays.proofs.Moves.{IsMove, IsRecorded, IsSilent}
 use Rattle.am_plays.proofs.PassedOver.{clock-is, past-more}
+use Rattle.am_plays.proofs.Promises.{Promises, deadline_from, timed-flush}
 use Rattle.am_plays.proofs.Sound.{legal-more, more, moves}
 use Rattle.am_plays.proofs.StepKinds.{step_by}
-use Rattle.am_plays.proofs.Successes.{IsOfTicket, IsSucceeding, after-end, all-delivered, just-begun, none-reported, reports_of, same-is}
+use Rattle.am_plays.proofs.Successes.{IsOfTicket, IsSucceeding, after-end, all-delivered, just-begun, none-reported, reports_of}
 use Rattle.am_plays.proofs.Words.{all-get, all-remove, all-set, said, some_of}
 
 -- ---- the begin of a flush
 
--- the group and the notices of a flush
+-- the group, the notices and the deadline of a flush
 abbrev Flight : Type 0
-Flight = GroupName × List NoticeData
+Flight = GroupName × List NoticeData × ℕ
 
 abbrev flush_in : Reply → Option Flight
 flush_in (reply.Inserted inserted) = None
 flush_in (reply.Silenced silenced) = None
 flush_in reply.NothingDue = None
 flush_in (reply.Quiet group removed) = None
-flush_in (reply.Flush group opened) = Some (group, opened.notices)
+flush_in (reply.Flush group opened) = Some (group, opened.notices, opened.deadline)
 flush_in (reply.Finished finished) = None
 flush_in (reply.Maintained maintained) = None
 flush_in (reply.EmptyGroupsRemoved removed) = None
@@ -85,7 +87,7 @@ flush-notices (reply.Inserted inserted) f is = absurd (cc)
 flush-notices (reply.Silenced silenced) f is = absurd (cc)
 flush-notices reply.NothingDue f is = absurd (cc)
 flush-notices (reply.Quiet group removed) f is = absurd (cc)
-flush-notices (reply.Flush group opened) f is = let own : Flight = (group, opened.notices) in ap (λ (x : Flight). x.1) (inside own f is)
+flush-notices (reply.Flush group opened) f is = let own : Flight = (group, opened.notices, opened.deadline) in ap (λ (x : Flight). x.1) (inside own f is)
 flush-notices (reply.Finished finished) f is = absurd (cc)
 flush-notices (reply.Maintained maintained) f is = absurd (cc)
 flush-notices (reply.EmptyGroupsRemoved removed) f is = absurd (cc)
@@ -99,7 +101,7 @@ flush-group name (reply.Silenced silenced) f is e = absurd (false≢true e)
 flush-group name reply.NothingDue f is e = absurd (false≢true e)
 flush-group name (reply.Quiet group removed) f is e = absurd (false≢true e)
 flush-group name (reply.Flush group opened) f is e =
-    let own : Flight = (group, opened.notices) in
+    let own : Flight = (group, opened.notices, opened.deadline) in
     subst (λ (x : Flight). same_name name x.0 ≡ true) (inside own f is) e
 flush-group name (reply.Finished finished) f is e = absurd (false≢true e)
 flush-group name (reply.Maintained maintained) f is e = absurd (false≢true e)
@@ -112,13 +114,11 @@ begins-own : (name : GroupName) (begin : List Record) (f : Flight) → begun_as 
 begins-own name [] f is e = absurd (false≢true e)
 begins-own name (q ∷ past) f is e = flush-group name q.reply f is e
 
--- a flush that was begun at a time, and is all delivered
-delivered-begin : (t : ℕ) (outcomes : List (ℕ × Outcome)) (begin : List Record) (f : Flight) → begun_as begin ≡ Some f → time_at begin ≡ t
-    → list_all (reports_delivered outcomes) f.1 ≡ true → is_delivered_at t outcomes begin ≡ true
-delivered-begin t outcomes [] f is at all = absurd (cc)
-delivered-begin t outcomes (q ∷ past) f is at all =
-    and_from (time_at (q ∷ past) == t) (list_all (reports_delivered outcomes) (notices_in q.reply)) (same-is (time_at (q ∷ past)) t at)
-    (ap (list_all (reports_delivered outcomes)) (flush-notices q.reply f is) ∙ all)
+-- a flush that is all delivered
+delivered-begin : (outcomes : List (ℕ × Outcome)) (begin : List Record) (f : Flight) → begun_as begin ≡ Some f
+    → list_all (reports_delivered outcomes) f.1 ≡ true → is_all_delivered outcomes begin ≡ true
+delivered-begin outcomes [] f is all = absurd (cc)
+delivered-begin outcomes (q ∷ past) f is all = ap (list_all (reports_delivered outcomes)) (flush-notices q.reply f is) ∙ all
 
 has-begun-as : (n : ℕ) (past : List Record) (f : Flight) → begun_as (begin_of n past) ≡ Some f → has_begun n past ≡ true
 has-begun-as n [] f is = absurd (cc)
@@ -130,56 +130,68 @@ has-begun-as n (q ∷ past) f is =
 
 -- ---- what a ticket says of its flush
 
--- its number, its group and its notices
+-- its number, its group, its notices and its deadline
 abbrev Place : Type 0
-Place = ℕ × GroupName × List NoticeData
+Place = ℕ × GroupName × List NoticeData × ℕ
 
 abbrev place_of : TicketData → Place
-place_of t = (t.number, t.group, t.notices)
+place_of t = (t.number, t.group, t.notices, t.deadline)
 
 -- a report leaves them
 reported-place : (o : Option Report) (t : TicketData) → place_of (with_report o t) ≡ place_of t
 reported-place None t = refl
 reported-place (Some p) t = elim (is_some (report_fault t p)) as (λ b. place_of (if b then t else recorded t p) ≡ place_of t) [ true ↦ refl | false ↦ refl ]
 
-module _ (name : GroupName) where
-  -- the flush was begun so, and if it is the group's, time hasn't moved on since
+module _ (config : Config) (name : GroupName) (late : ℕ) (Fails : ℕ → Type 0) where
+  -- the flush was begun so; if it is the group's, its deadline is by its interval, and time has moved on to the promised time at most
   pub record IsBegunAs (past : List Record) (k : Place) : Type 0 where
-    begin : begun_as (begin_of k.0 past) ≡ Some (k.1, k.2)
-    still : same_name name k.1 ≡ true → time_at (begin_of k.0 past) ≡ time_at past
+    begin : begun_as (begin_of k.0 past) ≡ Some (k.1, k.2, k.3)
+    still : same_name name k.1 ≡ true → time_at past ≤ max (time_at (begin_of k.0 past)) late
+    until : same_name name k.1 ≡ true → k.3 ≡ deadline_from config name (time_at (begin_of k.0 past))
 
-  begun-before : (q : Record) (past : List Record) (k : Place) → IsOneFlushAtATime q past → (same_name name k.1 ≡ true → time_at (q ∷ past) ≡ time_at past)
+  begun-before : (q : Record) (past : List Record) (k : Place) → IsOneFlushAtATime q past → (same_name name k.1 ≡ true → time_at (q ∷ past) ≤ max (time_at past) late)
       → IsBegunAs past k → IsBegunAs (q ∷ past) k
   begun-before q past k once unmoved was =
       let same : begin_of k.0 (q ∷ past) ≡ begin_of k.0 past = ap (λ b. cond b (q ∷ past) (begin_of k.0 past)) (by (is_flush k.0 q.reply) refl) in
+      let begins_at : time_at (begin_of k.0 (q ∷ past)) ≡ time_at (begin_of k.0 past) = ap time_at same in
       record {
         begin = ap begun_as same ∙ was.begin;
-        still = λ own. ap time_at same ∙ was.still own ∙ sym (unmoved own);
+        still = λ own. let before = was.still own in let after = unmoved own in omega (arith, before, after, begins_at);
+        until = λ own. was.until own ∙ ap (deadline_from config name) (sym begins_at);
       }
     where
       by : (b : Bool) → is_flush k.0 q.reply ≡ b → b ≡ false
-      by true is = absurd (false≢true (sym (once.first_begin k.0 is) ∙ has-begun-as k.0 past (k.1, k.2) was.begin))
+      by true is = absurd (false≢true (sym (once.first_begin k.0 is) ∙ has-begun-as k.0 past (k.1, k.2, k.3) was.begin))
       by false is = refl
 
   begun-now : (at : ℕ) (group : GroupName) (opened : Opened) (past : List Record)
-      → IsBegunAs (entry 0 (call.Begin at) (reply.Flush group opened) ∷ past) (opened.number, group, opened.notices)
-  begun-now at group opened past =
+      → (same_name name group ≡ true → opened.deadline ≡ deadline_from config name (time_at (entry 0 (call.Begin at) (reply.Flush group opened) ∷ past)))
+      → IsBegunAs (entry 0 (call.Begin at) (reply.Flush group opened) ∷ past) (opened.number, group, opened.notices, opened.deadline)
+  begun-now at group opened past deadline =
       let here : begin_of opened.number (entry 0 (call.Begin at) (reply.Flush group opened) ∷ past) ≡ entry 0 (call.Begin at) (reply.Flush group opened) ∷ past =
       ap (λ b. cond b (entry 0 (call.Begin at) (reply.Flush group opened) ∷ past) (begin_of opened.number past)) (nat_eq_equiv.refl opened.number)
       in
-      record { begin = ap begun_as here; still = λ own. ap time_at here }
+      let begins_at : time_at (begin_of opened.number (entry 0 (call.Begin at) (reply.Flush group opened) ∷ past)) ≡ time_at (entry 0 (call.Begin at) (reply.Flush group opened) ∷ past) = ap time_at here in
+      record { begin = ap begun_as here; still = λ own. omega (arith, begins_at); until = λ own. deadline own ∙ ap (deadline_from config name) (sym begins_at) }
 
-  -- ---- what was finished so far was delivered
+  -- ---- what was finished so far ended so
+
+  -- a finish at t comes in time, and all of its flush is delivered, or its deadline fails
+  abbrev pub HasEnded : ℕ → List (ℕ × Outcome) → List Record → Type 0
+  HasEnded t outcomes begin = (t ≤ max (time_at begin) late) × ((is_all_delivered outcomes begin ≡ true) ⊎ Fails (deadline_from config name (time_at begin)))
+
+  abbrev pub Ended : Record → List Record → Type 0
+  Ended q past = is_finish_of name past q.call ≡ true → OfFinish (HasEnded (time_at (q ∷ past))) past q.call
 
   abbrev pub IsDone : BoardData → Type 0
-  IsDone b = AtEach (Delivers name) (past_of b.history)
+  IsDone b = AtEach Ended (past_of b.history)
 
   -- a call that finishes no flush of the group
   abbrev IsOther : Call → Type 0
   IsOther x = (past : List Record) → is_finish_of name past x ≡ true → ⊥
 
   recorded-other : (b : BoardData) (x : Call) (p : Reply) → IsOther x → IsDone b → IsDone (with_record b (entry 0 x p))
-  recorded-other b x p other was = subst (AtEach (Delivers name)) (sym (past-more b x p)) (λ e. absurd (other (past_of b.history) e), was)
+  recorded-other b x p other was = subst (AtEach Ended) (sym (past-more b x p)) (λ e. absurd (other (past_of b.history) e), was)
 
   called-other : (b : BoardData) (x : Call) → IsOther x → IsDone b → IsDone (with_call b x)
   called-other b x other was = by (reply_to b.config b.id (state_at b) x)
@@ -201,47 +213,55 @@ module _ (name : GroupName) where
   acted-other at (Silence silence) b was = called-other b (call_of_silence at silence) (λ past e. false≢true e) was
   acted-other at (Load row) b was = called-other b (call.Load at row) (λ past e. false≢true e) was
 
-  -- a finish of a flush of the group comes at no later time, and reports all delivered
+  -- a finish of a flush of the group comes in time, and reports all delivered, or the deadline fails
   called-finish : (b : BoardData) (at : ℕ) (t : TicketData) → IsBegunAs (past_of b.history) (place_of t)
-      → (same_name name t.group ≡ true → (at ≤ time_at (past_of b.history)) × (list_all (reports_delivered t.outcomes) t.notices ≡ true))
+      → (same_name name t.group ≡ true → (at ≤ max (time_at (past_of b.history)) late) × ((list_all (reports_delivered t.outcomes) t.notices ≡ true) ⊎ Fails t.deadline))
       → IsDone b → IsDone (with_call b (call.Finish at t.number t.outcomes))
   called-finish b at t begun own was = by (reply_to b.config b.id (state_at b) (call.Finish at t.number t.outcomes))
     where
-      now : (p : Reply) → Delivers name (entry 0 (call.Finish at t.number t.outcomes) p) (past_of b.history)
+      begin : List Record
+      begin = begin_of t.number (past_of b.history)
+
+      now : (p : Reply) → Ended (entry 0 (call.Finish at t.number t.outcomes) p) (past_of b.history)
       now p e =
-          let mine = begins-own name (begin_of t.number (past_of b.history)) (t.group, t.notices) begun.begin e in
-          let soon : at ≤ time_at (past_of b.history) = (own mine).0 in
-          let same : time_at (past_of b.history) ≡ time_at (entry 0 (call.Finish at t.number t.outcomes) p ∷ past_of b.history) = omega (arith, soon) in
-          delivered-begin (time_at (entry 0 (call.Finish at t.number t.outcomes) p ∷ past_of b.history)) t.outcomes (begin_of t.number (past_of b.history)) (t.group, t.notices)
-          begun.begin (begun.still mine ∙ same) (own mine).1
+          let mine = begins-own name begin (t.group, t.notices, t.deadline) begun.begin e in
+          let soon : at ≤ max (time_at (past_of b.history)) late = (own mine).0 in
+          let still : time_at (past_of b.history) ≤ max (time_at begin) late = begun.still mine in
+          (omega (arith, soon, still), so mine (own mine).1)
+        where
+          so : same_name name t.group ≡ true → (list_all (reports_delivered t.outcomes) t.notices ≡ true) ⊎ Fails t.deadline → (is_all_delivered t.outcomes begin ≡ true) ⊎ Fails (deadline_from config name (time_at begin))
+          so mine (inl all) = inl (delivered-begin t.outcomes begin (t.group, t.notices, t.deadline) begun.begin all)
+          so mine (inr fails) = inr (subst Fails (begun.until mine) fails)
 
       by : (o : Option Reply) → IsDone (option_map_or (λ p. with_record b (entry 0 (call.Finish at t.number t.outcomes) p)) o b)
       by None = was
-      by (Some p) = subst (AtEach (Delivers name)) (sym (past-more b (call.Finish at t.number t.outcomes) p)) (now p, was)
+      by (Some p) = subst (AtEach Ended) (sym (past-more b (call.Finish at t.number t.outcomes) p)) (now p, was)
 
 -- ---- each scene
 
-module _ (r : Setting) (name : GroupName) (receiver : List ℕ) (none : has_no_outage receiver r.outages ≡ true) (runs : runs_past r.until r.span.cut ≡ true) (ends : r.until < MAX_TIME) where
-  -- a flush in flight was begun as its ticket says, and if it is the group's, each of its sendings is a success
+module _ (r : Setting) (config : Config) (name : GroupName) (late : ℕ) (Fails : ℕ → Type 0) (promise : Promises r config name late Fails) where
+  -- a flush in flight was begun as its ticket says, and if it is the group's, each of its sendings is a success, or its deadline fails
   abbrev IsFlight : List Record → SendingData → Type 0
-  IsFlight past s = IsBegunAs name past (place_of s.ticket) × (same_name name s.ticket.group ≡ true → IsSucceeding s.ticket (reports_of s))
+  IsFlight past s =
+      IsBegunAs config name late Fails past (place_of s.ticket) × (same_name name s.ticket.group ≡ true → IsSucceeding s.ticket (reports_of s) ⊎ Fails s.ticket.deadline)
 
   pub record IsDelivering (c : Scene) : Type 0 where
-    prompted : IsPrompt r name receiver none runs ends c
+    prompted : IsPrompt r config name late Fails promise c
     flights : AllByRecursion (IsFlight (past_of c.board.history)) c.sendings
-    pub done : IsDone name c.board
+    pub done : IsDone config name late Fails c.board
 
   module _ (c d : Scene) (was : IsDelivering c) where
     -- ---- the flushes in flight
 
     -- a record more leaves them
-    grown : (at : ℕ) → IsEarly r name receiver none runs ends c d was.prompted at → IsMove c d at → AllByRecursion (IsFlight (past_of d.board.history)) c.sendings
+    grown : (at : ℕ) → IsEarly r config name late Fails promise c d was.prompted at → IsMove c d at → AllByRecursion (IsFlight (past_of d.board.history)) c.sendings
     grown at early m = elim m.does [ inl did ↦ recorded did | inr did ↦ silent did ]
       where
         silent : IsSilent c d at → AllByRecursion (IsFlight (past_of d.board.history)) c.sendings
         silent did = subst (λ (b : BoardData). AllByRecursion (IsFlight (past_of b.history)) c.sendings) (sym did.board) was.flights
 
-        unmoved : (x : Call) (p : Reply) → now_of x ≡ at → at ≤ (state_at c.board).clock → time_at (entry 0 x p ∷ past_of c.board.history) ≡ time_at (past_of c.board.history)
+        unmoved : (x : Call) (p : Reply) → now_of x ≡ at → at ≤ max (state_at c.board).clock late
+            → time_at (entry 0 x p ∷ past_of c.board.history) ≤ max (time_at (past_of c.board.history)) late
         unmoved x p is soon =
             let clock : (state_at c.board).clock ≡ time_at (past_of c.board.history) = clock-is c.board was.prompted.sound.legal in
             omega (arith, is, soon, clock)
@@ -254,8 +274,8 @@ module _ (r : Setting) (name : GroupName) (receiver : List ℕ) (none : has_no_o
             let once = subst (AtEach IsOneFlushAtATime) (past-more c.board x p) looks.once in
             subst (λ (b : BoardData). AllByRecursion (IsFlight (past_of b.history)) c.sendings) (sym did.board)
             (subst (λ (l : List Record). AllByRecursion (IsFlight l) c.sendings) (sym (past-more c.board x p))
-            (all-both (IsFlight (past_of c.board.history)) (λ s. same_name name s.ticket.group ≡ true → at ≤ (state_at c.board).clock) (IsFlight (entry 0 x p ∷ past_of c.board.history))
-            (λ s flight soon. (begun-before name (entry 0 x p) (past_of c.board.history) (place_of s.ticket) once.0 (λ own. unmoved x p did.now (soon own)) flight.0, flight.1))
+            (all-both (IsFlight (past_of c.board.history)) (λ s. same_name name s.ticket.group ≡ true → at ≤ max (state_at c.board).clock late) (IsFlight (entry 0 x p ∷ past_of c.board.history))
+            (λ s flight soon. (begun-before config name late Fails (entry 0 x p) (past_of c.board.history) (place_of s.ticket) once.0 (λ own. unmoved x p did.now (soon own)) flight.0, flight.1))
             c.sendings was.flights early))
 
     -- with the history as it is after a step
@@ -270,9 +290,14 @@ module _ (r : Setting) (name : GroupName) (receiver : List ℕ) (none : has_no_o
         let flight : IsFlight (past_of d.board.history) s = all-get (IsFlight (past_of d.board.history)) c.sendings position s here all in
         subst (AllByRecursion (IsFlight (past_of d.board.history))) (sym (ap (λ (x : Scene). x.sendings) is))
         (all-set (IsFlight (past_of d.board.history)) c.sendings position (after_end_of s index e.report) all (
-          subst (IsBegunAs name (past_of d.board.history)) (sym (reported-place e.report s.ticket)) flight.0,
-          λ own. after-end s index e there (flight.1 (sym (ap (λ (k : Place). same_name name k.1) (reported-place e.report s.ticket)) ∙ own)),
+          subst (IsBegunAs config name late Fails (past_of d.board.history)) (sym (reported-place e.report s.ticket)) flight.0,
+          λ own. after (flight.1 (sym (ap (λ (k : Place). same_name name k.1) (reported-place e.report s.ticket)) ∙ own)),
         ))
+      where
+        after : IsSucceeding s.ticket (reports_of s) ⊎ Fails s.ticket.deadline
+            → IsSucceeding (with_report e.report s.ticket) (reports_of (after_end_of s index e.report)) ⊎ Fails (with_report e.report s.ticket).deadline
+        after (inl succeeds) = inl (after-end s index e there succeeds)
+        after (inr fails) = inr (subst Fails (sym (ap (λ (k : Place). k.3) (reported-place e.report s.ticket))) fails)
 
     one-finish : (position : ℕ) (s : SendingData) → d ≡ after_finish c position s → Goal
     one-finish position s is all =
@@ -288,11 +313,18 @@ module _ (r : Setting) (name : GroupName) (receiver : List ℕ) (none : has_no_o
           past-is : past_of d.board.history ≡ entry 0 (call.Begin at) (reply.Flush group opened) ∷ past_of c.board.history
           past-is = ap (λ (x : Scene). past_of x.board.history) sent.4 ∙ past-more c.board (call.Begin at) (reply.Flush group opened)
 
-          begun_so : IsBegunAs name (past_of d.board.history) (place_of (sent.0).ticket)
+          deadline : same_name name group ≡ true → opened.deadline ≡ deadline_from config name (time_at (entry 0 (call.Begin at) (reply.Flush group opened) ∷ past_of c.board.history))
+          deadline own =
+              (timed-flush c.board.config c.board.id (state_at c.board) (time (state_at c.board) at) group opened is).0
+              ∙ ap (λ (t : ℕ). deadline_from c.board.config group (max t (min at MAX_TIME))) (clock-is c.board was.prompted.sound.legal)
+              ∙ ap (λ (x : Config). deadline_from x group (time_at (entry 0 (call.Begin at) (reply.Flush group opened) ∷ past_of c.board.history))) was.prompted.configured
+              ∙ ap (λ (g : GroupName). deadline_from config g (time_at (entry 0 (call.Begin at) (reply.Flush group opened) ∷ past_of c.board.history))) (sym (same_name-is name group own))
+
+          begun_so : IsBegunAs config name late Fails (past_of d.board.history) (place_of (sent.0).ticket)
           begun_so =
-              subst (λ (l : List Record). IsBegunAs name l (place_of (sent.0).ticket)) (sym past-is)
-              (subst (IsBegunAs name (entry 0 (call.Begin at) (reply.Flush group opened) ∷ past_of c.board.history)) (sym (ap place_of sent.1))
-              (begun-now name at group opened (past_of c.board.history)))
+              subst (λ (l : List Record). IsBegunAs config name late Fails l (place_of (sent.0).ticket)) (sym past-is)
+              (subst (IsBegunAs config name late Fails (entry 0 (call.Begin at) (reply.Flush group opened) ∷ past_of c.board.history)) (sym (ap place_of sent.1))
+              (begun-now config name late Fails at group opened (past_of c.board.history) deadline))
 
           its : AllByRecursion (IsOfTicket (ticket_of c.board.id group opened)) opened.notices
           its =
@@ -300,13 +332,16 @@ module _ (r : Setting) (name : GroupName) (receiver : List ℕ) (none : has_no_o
               (λ n own. record { board = own.0; number = own.1 }) opened.notices
               (subst (AreOwn c.board.id) is (begun-own c.board.config c.board.id (state_at c.board) (time (state_at c.board) at)))
 
-          succeeds : same_name name (sent.0).ticket.group ≡ true → IsSucceeding (sent.0).ticket (reports_of sent.0)
+          succeeds : same_name name (sent.0).ticket.group ≡ true → IsSucceeding (sent.0).ticket (reports_of sent.0) ⊎ Fails (sent.0).ticket.deadline
           succeeds own =
               let here : same_name name group ≡ true = sym (ap (λ (t : TicketData). same_name name t.group) sent.1) ∙ own in
-              let instant = ends-instant (answers_for r c.board group) r.span.cut at 0 opened.notices (sent.0).ends sent.3 (at_once r name receiver none runs ends c d was.prompted at within group opened is here) in
-              subst (λ (t : TicketData). IsSucceeding t (reports_of sent.0)) (sym sent.1)
-              (just-begun (answers_for r c.board group) r.span.cut at (ticket_of c.board.id group opened) (sent.0).ends sent.3 refl its
-              (all-weaker (λ e. (e.at ≡ at) × (is_success e.report ≡ true)) (λ e. is_success e.report ≡ true) (λ e h. h.1) (sent.0).ends instant))
+              so (flush-kept r config name late Fails promise c d was.prompted at within group opened is here (sent.0).ends sent.3).1
+            where
+              so : AllByRecursion (λ e. is_success e.report ≡ true) (sent.0).ends ⊎ Fails opened.deadline → IsSucceeding (sent.0).ticket (reports_of sent.0) ⊎ Fails (sent.0).ticket.deadline
+              so (inl all) =
+                  inl (subst (λ (t : TicketData). IsSucceeding t (reports_of sent.0)) (sym sent.1)
+                  (just-begun (answers_for r c.board group) r.span.cut at (ticket_of c.board.id group opened) (sent.0).ends sent.3 refl its all))
+              so (inr fails) = inr (subst (λ (t : TicketData). Fails t.deadline) (sym sent.1) fails)
 
       replied : (p : Reply) → begun c.board.config c.board.id (state_at c.board) (time (state_at c.board) at) ≡ p → IsReplied r c at d p → Goal
       replied reply.NothingDue is did = same_flights (ap (λ (x : Scene). x.sendings) did)
@@ -338,35 +373,38 @@ module _ (r : Setting) (name : GroupName) (receiver : List ℕ) (none : has_no_o
 
     -- ---- what was finished
 
-    ended : (position index : ℕ) (s : SendingData) (e : _) → d ≡ after_end c position s index e → IsDone name d.board
-    ended position index s e is = subst (λ (x : Scene). IsDone name x.board) (sym is) (by (is_success e.report))
+    ended : (position index : ℕ) (s : SendingData) (e : _) → d ≡ after_end c position s index e → IsDone config name late Fails d.board
+    ended position index s e is = subst (λ (x : Scene). IsDone config name late Fails x.board) (sym is) (by (is_success e.report))
       where
-        by : (success : Bool) → IsDone name (if success then with_note e.at (with_report e.report s.ticket) e.index c.board else c.board)
-        by true = noted-other name e.at (with_report e.report s.ticket) e.index c.board was.done
+        by : (success : Bool) → IsDone config name late Fails (if success then with_note e.at (with_report e.report s.ticket) e.index c.board else c.board)
+        by true = noted-other config name late Fails e.at (with_report e.report s.ticket) e.index c.board was.done
         by false = was.done
 
-    finished : (position : ℕ) (s : SendingData) → slice_get c.sendings position ≡ Some s → none_left s.ends ≡ true → d ≡ after_finish c position s → IsDone name d.board
+    finished : (position : ℕ) (s : SendingData) → slice_get c.sendings position ≡ Some s → none_left s.ends ≡ true → d ≡ after_finish c position s → IsDone config name late Fails d.board
     finished position s here over is =
-        subst (λ (x : Scene). IsDone name x.board) (sym is)
-        (called-finish name c.board c.clock s.ticket flight.0 (λ own. (soon own, all-delivered s.ticket (subst (IsSucceeding s.ticket) (none-reported s over) (flight.1 own)))) was.done)
+        subst (λ (x : Scene). IsDone config name late Fails x.board) (sym is) (called-finish config name late Fails c.board c.clock s.ticket flight.0 (λ own. (soon own, so (flight.1 own))) was.done)
       where
         flight : IsFlight (past_of c.board.history) s
         flight = all-get (IsFlight (past_of c.board.history)) c.sendings position s here was.flights
 
-        soon : same_name name s.ticket.group ≡ true → c.clock ≤ time_at (past_of c.board.history)
+        so : IsSucceeding s.ticket (reports_of s) ⊎ Fails s.ticket.deadline → (list_all (reports_delivered s.ticket.outcomes) s.ticket.notices ≡ true) ⊎ Fails s.ticket.deadline
+        so (inl succeeds) = inl (all-delivered s.ticket (subst (IsSucceeding s.ticket) (none-reported s over) succeeds))
+        so (inr fails) = inr fails
+
+        soon : same_name name s.ticket.group ≡ true → c.clock ≤ max (time_at (past_of c.board.history)) late
         soon own =
-            let swift : c.clock ≤ (state_at c.board).clock =
-            (all-get (λ (f : SendingData). same_name name f.ticket.group ≡ true → (c.clock ≤ (state_at c.board).clock) × AllByRecursion (λ e. e.at ≤ (state_at c.board).clock) f.ends) c.sendings position s here was.prompted.swift own).0
+            let swift : c.clock ≤ max (state_at c.board).clock late =
+            (all-get (IsSwift r config name late Fails promise (state_at c.board).clock c.clock) c.sendings position s here was.prompted.swift own).0
             in
             let clock : (state_at c.board).clock ≡ time_at (past_of c.board.history) = clock-is c.board was.prompted.sound.legal in
             omega (arith, swift, clock)
 
-    begun-done : (at : ℕ) (p : Reply) → IsReplied r c at d p → IsDone name d.board
-    begun-done at reply.NothingDue did = subst (λ (x : Scene). IsDone name x.board) (sym did) (recorded-other name c.board (call.Begin at) reply.NothingDue (λ past e. false≢true e) was.done)
+    begun-done : (at : ℕ) (p : Reply) → IsReplied r c at d p → IsDone config name late Fails d.board
+    begun-done at reply.NothingDue did = subst (λ (x : Scene). IsDone config name late Fails x.board) (sym did) (recorded-other config name late Fails c.board (call.Begin at) reply.NothingDue (λ past e. false≢true e) was.done)
     begun-done at (reply.Quiet group removed) did =
-        subst (λ (x : Scene). IsDone name x.board) (sym did) (recorded-other name c.board (call.Begin at) (reply.Quiet group removed) (λ past e. false≢true e) was.done)
+        subst (λ (x : Scene). IsDone config name late Fails x.board) (sym did) (recorded-other config name late Fails c.board (call.Begin at) (reply.Quiet group removed) (λ past e. false≢true e) was.done)
     begun-done at (reply.Flush group opened) sent =
-        subst (λ (x : Scene). IsDone name x.board) (sym sent.4) (recorded-other name c.board (call.Begin at) (reply.Flush group opened) (λ past e. false≢true e) was.done)
+        subst (λ (x : Scene). IsDone config name late Fails x.board) (sym sent.4) (recorded-other config name late Fails c.board (call.Begin at) (reply.Flush group opened) (λ past e. false≢true e) was.done)
     begun-done at (reply.Inserted inserted) did = absurd did
     begun-done at (reply.Silenced silenced) did = absurd did
     begun-done at (reply.Finished finished) did = absurd did
@@ -376,21 +414,21 @@ module _ (r : Setting) (name : GroupName) (receiver : List ℕ) (none : has_no_o
     begun-done at (reply.Loaded loaded) did = absurd did
     begun-done at reply.Noted did = absurd did
 
-    cause-done : (at : ℕ) (cause : Option Fault) → IsBegun r c at d cause → IsDone name d.board
+    cause-done : (at : ℕ) (cause : Option Fault) → IsBegun r c at d cause → IsDone config name late Fails d.board
     cause-done at None did = begun-done at (begun c.board.config c.board.id (state_at c.board) (time (state_at c.board) at)) did
-    cause-done at (Some fault.TooManyOpen) did = subst (λ (x : Scene). IsDone name x.board) (sym did) was.done
+    cause-done at (Some fault.TooManyOpen) did = subst (λ (x : Scene). IsDone config name late Fails x.board) (sym did) was.done
     cause-done at (Some fault.NoMemory) did = absurd did
     cause-done at (Some fault.TooManyAlerts) did = absurd did
     cause-done at (Some fault.TooManyGroups) did = absurd did
     cause-done at (Some fault.TooManySilences) did = absurd did
     cause-done at (Some fault.HistoryFull) did = absurd did
 
-    all-done : Steps r c d → IsSomeAnd (next r c) (λ n. IsDone name d.board)
+    all-done : Steps r c d → IsSomeAnd (next r c) (λ n. IsDone config name late Fails d.board)
     all-done steps =
-        step_by r c d (λ at. IsDone name d.board) (λ position index s e here there is. ended position index s e is) (λ position s here over is. finished position s here over is)
-        (λ p ps did. subst (λ (x : Scene). IsDone name x.board) (sym did.1) (acted-other name p.at p.act c.board was.done))
-        (λ at is. subst (λ (x : Scene). IsDone name x.board) (sym is) (called-other name c.board (call.Maintain at) (λ past e. false≢true e) was.done))
-        (λ at is. subst (λ (x : Scene). IsDone name x.board) (sym is) (called-other name c.board (call.RemoveEmptyGroups at) (λ past e. false≢true e) was.done))
+        step_by r c d (λ at. IsDone config name late Fails d.board) (λ position index s e here there is. ended position index s e is) (λ position s here over is. finished position s here over is)
+        (λ p ps did. subst (λ (x : Scene). IsDone config name late Fails x.board) (sym did.1) (acted-other config name late Fails p.at p.act c.board was.done))
+        (λ at is. subst (λ (x : Scene). IsDone config name late Fails x.board) (sym is) (called-other config name late Fails c.board (call.Maintain at) (λ past e. false≢true e) was.done))
+        (λ at is. subst (λ (x : Scene). IsDone config name late Fails x.board) (sym is) (called-other config name late Fails c.board (call.RemoveEmptyGroups at) (λ past e. false≢true e) was.done))
         (λ at within did. cause-done at (cause_of_none c.board at) did) steps
 
     -- ---- a step
@@ -400,23 +438,20 @@ module _ (r : Setting) (name : GroupName) (receiver : List ℕ) (none : has_no_o
         let m = some_of (next r c) (λ n. IsMove c d n.at) (moves r c d was.prompted.sound steps) in
         let goal : Goal = said (next r c) m.0 m.1 (λ n. Goal) (flown steps) in
         record {
-          prompted = prompt r name receiver none runs ends c d was.prompted steps;
-          flights = goal (grown m.0.at (early-next r name receiver none runs ends c d was.prompted m.0 m.1) m.2);
-          done = said (next r c) m.0 m.1 (λ n. IsDone name d.board) (all-done steps);
+          prompted = prompt r config name late Fails promise c d was.prompted steps;
+          flights = goal (grown m.0.at (early-next r config name late Fails promise c d was.prompted m.0 m.1) m.2);
+          done = said (next r c) m.0 m.1 (λ n. IsDone config name late Fails d.board) (all-done steps);
         }
 
   kept-delivering : (k : ℕ) (c d : Scene) → IsDelivering c → LeadsIn r k c d → IsDelivering d
   kept-delivering zero c d was same = subst IsDelivering same was
   kept-delivering (suc k) c d was led = delivering led.0 d (kept-delivering k c led.0 was led.1) led.2
 
-  opening-delivering : (config : Config) (plans : List TimedAction) → (route_of config name).receiver ≡ receiver → IsDelivering (opening_scene r config plans)
-  opening-delivering config plans receives =
-      record { prompted = opening-prompt r name receiver none runs ends config plans receives; flights = tt; done = tt }
+  opening-delivering : (plans : List TimedAction) → IsDelivering (opening_scene r config plans)
+  opening-delivering plans = record { prompted = opening-prompt r config name late Fails promise plans; flights = tt; done = tt }
 
-pub flushes_deliver : EveryPlay FlushesDeliver
-flushes_deliver r config plans board events play name served =
-    let receiver : List ℕ = (route_of config name).receiver in
-    let last = kept-delivering r name receiver served.reached served.runs served.ends play.reached.0 (opening_scene r config plans) play.last
-    (opening-delivering r name receiver served.reached served.runs served.ends config plans refl) play.reached.1
-    in
-    subst (λ (b : BoardData). AtEach (Delivers name) (past_of b.history)) (sym play.board_is) last.done
+  -- so it is in a play
+  pub flushes_end : (plans : List TimedAction) (board : BoardData) (events : List Event) → PlaysTo r config plans board events → IsDone config name late Fails board
+  flushes_end plans board events play =
+      let last = kept-delivering play.reached.0 (opening_scene r config plans) play.last (opening-delivering plans) play.reached.1 in
+      subst (IsDone config name late Fails) (sym play.board_is) last.done

@@ -1,7 +1,8 @@
 -- Numbers that rise, and the one that a search by halves finds among them.
-use Rattle.std.proofs.Common.{◌≡◌, ℕ, zero, suc, ◌+◌, ◌-◌, ◌/◌, ◌<◌, ◌≤◌, Bool, true, false, ◌&&◌, Option, Some, None, List, [], ◌∷◌, ◌++◌, length, map, get_or, set, refl, sym, ap, ◌∙◌, subst, arith, cond}
+use Rattle.std.proofs.Common.{◌≡◌, ℕ, zero, suc, ◌+◌, ◌-◌, ◌/◌, ◌<◌, ◌≤◌, Bool, true, false, ◌&&◌, Option, Some, None, List, [], ◌∷◌, ◌++◌, Result, Ok, Err, length, map, get_or, set, refl, sym, ap, ◌∙◌, subst, arith, cond}
 use Rattle.std.specs.Prelude.{◌==◌, IsTrue, nat_lt, position, slice_get, slice_set}
 use Rattle.std.specs.List.{position_or_len, remove}
+use Rattle.std.specs.Result.{OnErr, OnOk}
 use Rattle.std.proofs.lemmas.Bool.{lt-ltb, ltb-false, ltb-true}
 use Rattle.std.proofs.lemmas.Bool.Decides.{nat_tests}
 use Rattle.std.proofs.lemmas.List.Sums.{position_or_len_is}
@@ -183,3 +184,13 @@ numbers-recorded old new index integration outcome within at =
     ∙ map-set (λ (u : TicketData). u.number) old index _
     ∙ ap (set (numbers old) index) (sym (ap (λ (u : TicketData). u.number) (get_or_from_slice_get old index t t at.1)) ∙ sym (get_or-map (λ (u : TicketData). u.number) old index t 0 within))
     ∙ set-get_or (numbers old) index 0
+
+-- nor does one that isn't recorded
+pub rising-recorded : {T E : Type 0} (r : Result T E) (old new : List TicketData) (index integration : ℕ) (outcome : Outcome) → index < length old
+    → OnOk r (IsRecordedAt old index integration outcome new) → OnErr r (new ≡ old) → IsTrue (are_rising (numbers old)) → IsTrue (are_rising (numbers new))
+rising-recorded (Ok x) old new index integration outcome within recorded left rising = ap are_rising (numbers-recorded old new index integration outcome within recorded) ∙ rising
+rising-recorded (Err e) old new index integration outcome within recorded left rising = ap (λ (ts : List TicketData). are_rising (numbers ts)) left ∙ rising
+
+-- the numbers that are left
+pub rising-left : (old new : List TicketData) (index : ℕ) → new ≡ remove old index → IsTrue (are_rising (numbers old)) → IsTrue (are_rising (numbers new))
+rising-left old new index is rising = ap (λ (ts : List TicketData). are_rising (numbers ts)) is ∙ rising-without old index rising

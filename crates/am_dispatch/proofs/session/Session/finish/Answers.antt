@@ -5,6 +5,7 @@ use Rattle.am_lines.specs.Logged.{finished_tokens}
 use Rattle.am_lines.specs.declared.request.Request.TheVariants.{Finish}
 use Rattle.am_dispatch.proofs.Leaving.{lacks_ticket, not_open_leaves, untold_all}
 use Rattle.am_dispatch.proofs.Making.{finished_with, finishes, first_ticket, held_there}
+use Rattle.am_dispatch.proofs.Rising.{rising-left}
 use Rattle.am_dispatch.proofs.session.Session.finish.Goals as goal
 
 pub returns-in-Ok-clause-answered : goal.returns-in-Ok-clause-answered
@@ -48,3 +49,9 @@ pub returns-in_default-clause-refused : goal.returns-in_default-clause-refused
 returns-in_default-clause-refused c =
     not_open_leaves _ c.args.self.now _ (Finish c.args.finishing) _ c.not_open.ensures
     (lacks_ticket c.args.self.now _ _ _ _ refl (sym c.in_default.is ∙ c.find_ticket.ensures.first) c.not_open.ensures) (refl, refl)
+
+pub invariant_of-self-2 : goal.invariant_of-self-2
+invariant_of-self-2 c rising =
+    let was = c.args.self.now.tickets.items in
+    let items = subst (λ r. OnSome r (c.remove.new.self.items ≡ remove was c.in-Some.index)) c.unwrap-own.ensures c.remove.ensures.items in
+    rising-left was c.remove.new.self.items c.in-Some.index items (c.args.self.now.rising rising)

@@ -3,6 +3,7 @@ use Rattle.am_lines.specs.Reply.{named}
 use Rattle.am_lines.specs.declared.request.Request.TheVariants.{Report}
 use Rattle.am_dispatch.proofs.Leaving.{lacks_ticket, not_open_leaves, report_refused, report_unmade, unmade_leaves, untold_all}
 use Rattle.am_dispatch.proofs.Making.{reports, answered_ok}
+use Rattle.am_dispatch.proofs.Rising.{rising-recorded}
 use Rattle.am_dispatch.proofs.session.Session.report.Goals as goal
 
 pub returns-in-Ok-clause-answered : goal.returns-in-Ok-clause-answered
@@ -27,3 +28,8 @@ pub returns-in_default-clause-refused : goal.returns-in_default-clause-refused
 returns-in_default-clause-refused c =
     not_open_leaves _ c.args.self.now _ (Report c.args.reporting) _ c.not_open.ensures
     (inl (lacks_ticket c.args.self.now _ _ _ _ refl (sym c.in_default.is ∙ c.find_ticket.ensures.first) c.not_open.ensures)) (refl, refl)
+
+pub invariant_of-self-2 : goal.invariant_of-self-2
+invariant_of-self-2 c rising =
+    rising-recorded c.record_at.result c.args.self.now.tickets.items c.record_at.new.tickets.items c.in-Some.index c.args.reporting.integration c.args.reporting.outcome
+    c.in-Some.ensures.within c.record_at.ensures.ok c.record_at.ensures.err (c.args.self.now.rising rising)

@@ -17,7 +17,7 @@ from pathlib import Path
 sys.path.insert(0, str(Path(__file__).resolve().parent.parent))
 from lib import preload, report
 from lib.program import ROOT, Program, Ran
-from lib.report import Programs, Report
+from lib.report import Programs, Report, path_of
 from lib.rows import Json, Rows, repeated
 
 EXAMPLES, LANES = ROOT / "examples", ROOT / ".ci/data/lanes"
@@ -75,8 +75,8 @@ def scenarios(told: Report, programs: Programs) -> None:
     for (at, (*pairs, wanted)), found in zip(rest, got):
         if told.is_written:
             rows.lines[at] = "\t".join([*pairs, found])
-        elif found != wanted:
-            told.differs(f"row {at + 1}: {pairs[1][:80]}", wanted, found, f"{ROWS.relative_to(ROOT)}:{at + 1}", "am-run")
+        else:
+            told.row(f"row {at + 1}: {pairs[1][:80]}", wanted, found, f"{path_of(ROWS)}:{at + 1}", "am-run")
     if told.is_written:
         rows.write()
     told.at_least(140, len(rest), "rows")
@@ -141,7 +141,8 @@ def schedules(told: Report, programs: Programs) -> None:
     if told.concerns("four-lanes"):
         if told.is_written:
             told.stored("four-lanes", four.with_suffix(".txt"), program.run(stdin=four).out, "am-run")
-        play_often(told, program, "four-lanes", four, Ran(0, four.with_suffix(".txt").read_text(), ""), 100)
+        report_of = four.with_suffix(".txt")
+        play_often(told, program, "four-lanes", four, Ran(0, report_of.read_text(), ""), path_of(report_of), 100)
     if told.concerns("fifteen-lanes"):
         with tempfile.NamedTemporaryFile("w", suffix=".json") as file:
             file.write(fifteen_lanes())
@@ -150,15 +151,15 @@ def schedules(told: Report, programs: Programs) -> None:
             # 64 inserts, 64 begins and one more that finds nothing, 3,000 inserts, 512 notes and 64 finishes.
             wanted = {"notices": 512, "rows": 512, "alerts of lanes": 3000, "calls": 3705}
             told.same("fifteen-lanes, all its calls", wanted, counts_of(first.out) if first.status == 0 else first)
-            play_often(told, program, "fifteen-lanes", Path(file.name), first, 20)
+            play_often(told, program, "fifteen-lanes", Path(file.name), first, "the first run", 20)
 
 
-def play_often(told: Report, program: Program, name: str, scenario: Path, wanted: Ran, often: int) -> None:
+def play_often(told: Report, program: Program, name: str, scenario: Path, wanted: Ran, stored: str, often: int) -> None:
     """Plays a scenario so often. Each run has to end so."""
     for number in range(1, often + 1):
         ran = program.run(stdin=scenario)
         if ran != wanted:
-            told.differs(name, wanted, ran, "the first run", f"run {number} of {often}")
+            told.differs(name, wanted, ran, stored, f"run {number} of {often}")
             return
     told.ok(f"{name}, {often} times")
 

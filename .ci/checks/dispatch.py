@@ -48,22 +48,26 @@ def is_error(answer: bytes) -> bool:
 def worked(told: Report, programs: Programs) -> None:
     """The lines of the crate have their answers."""
     program = programs["am_dispatch"]
-    lines = (CRATE / "stdin").read_bytes().splitlines()
-    answers = (CRATE / "stdout").read_bytes().splitlines()
+    # (a carriage return is a part of its line)
+    lines, answers = ((CRATE / name).read_bytes().split(b"\n")[:-1] for name in ("stdin", "stdout"))
 
     def in_lock_step() -> None:
         """each worked line has its answer before the next is sent"""
-        board = Board(program)
+        board, rule, last = Board(program), b"", b""
         for number, (line, answer) in enumerate(zip(lines, answers, strict=True), 1):
-            is_same(board.ask(line), answer, f"line {number} of crates/am_dispatch/stdin: {line[:200]!r}")
-            if not line.startswith(b"#") and line:
+            # (the comment above has the rule, often in several lines)
+            rule = (rule + b"\n" if last[:1] == b"#" else b"") + line if line[:1] == b"#" else rule
+            last = line
+            where = f"{rule.decode()}\ncrates/am_dispatch/stdin:{number}: {line[:200].decode()}"
+            is_same(board.ask(line), answer, f"{where}\nthe answer in crates/am_dispatch/stdout:{number}, and the program's:")
+            if not line.startswith(b"#") and line.strip():
                 is_same(len(json.loads(answer)), 1, f"members of the answer to line {number}")
         is_same(board.end(), (b"", 0, b""))
 
     def at_once() -> None:
         """all worked lines at once have the same answers"""
         ran = program.run(stdin=b"\n".join(lines) + b"\n")
-        is_same(ran, Ran(0, (b"\n".join(answers) + b"\n").decode(), ""))
+        is_same(ran, Ran(0, (b"\n".join(answers) + b"\n").decode(), ""), "crates/am_dispatch/stdout")
 
     def rejected_lines_change_nothing() -> None:
         """a rejected line changes nothing that the board shows"""
@@ -72,7 +76,7 @@ def worked(told: Report, programs: Programs) -> None:
             before = board.views() if has_board else []
             answer = board.ask(line)
             if has_board and is_error(answer):
-                is_same(board.views(), before, f"line {number} of crates/am_dispatch/stdin")
+                is_same(board.views(), before, f"crates/am_dispatch/stdin:{number}")
             has_board = has_board or answer.startswith(b'{"opened"')
         board.ends_well()
 

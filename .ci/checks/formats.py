@@ -22,7 +22,7 @@ from pathlib import Path
 sys.path.insert(0, str(Path(__file__).resolve().parent.parent))
 from lib import report
 from lib.program import ROOT, Program, Ran
-from lib.report import Programs, Report, difference
+from lib.report import Programs, Report, difference, path_of
 from lib.rows import Json, Rows
 from lib.yaml_core import Refused, core_loader, has_yaml, is_same, random_text, value_of
 
@@ -87,7 +87,7 @@ def yaml_cases(told: Report, program: Program) -> None:
         found = said(is_read, got)
         text += heading + written + "=> " + wanted.replace(wanted.strip("\n"), found)
         if not told.is_written:
-            told.same(heading.strip("= \n"), wanted.strip("\n"), found, "yaml.cases", "am-rehearse")
+            told.same(heading.strip("= \n"), wanted.strip("\n"), found, path_of(CASES), "am-rehearse")
     told.at_least(70, len(stored), "cases")
     if told.is_written:
         told.stored("the cases", CASES, text)
@@ -246,7 +246,7 @@ def check_config(told: Report, program: Program, file: Path) -> None:
     found = receivers_of(notices)
     wanted = "\n".join(f"{json.dumps(labels)} -> {', '.join(sorted(receivers))}" for labels, receivers in rows)
     got = "\n".join(f"{json.dumps(labels)} -> {', '.join(sorted(found.get(labels['set'], [])))}" for labels, _ in rows)
-    told.same(f"{file.name}: receivers of {len(rows)} label sets", wanted, got, "amtool", "am-rehearse")
+    told.same(f"{file.name}: receivers of {len(rows)} label sets", wanted, got, path_of(file.with_suffix(".routes")), "am-rehearse")
     told.same(f"{file.name}: label sets", SETS, len(rows))
     told.same(f"{file.name}: what no label set reaches", [], unreached(config, rows, notices))
     told.same(f"{file.name}: in YAML as in JSON", [], [*in_yaml_as_in_json(program, file, rows)])
@@ -369,10 +369,10 @@ def hours(told: Report, programs: Programs) -> None:
             rows.append((rule, json.loads(interval), [(int(one), int(other)) for one, other in pairs]))
         wrong, flushes = check_start(program, start, until, rows)
         compared += flushes
-        told.same(f"{start}, {until}: {len(rows)} intervals", [], wrong)
+        told.same(f"{start}, {until}: {len(rows)} intervals of {path_of(HOURS / 'spans.txt')}", [], wrong)
     told.at_least(50_000, compared, "flushes of muted routes")
     texts = [row for _, row in Rows(HOURS / "texts.txt").tabbed()]
-    told.same(f"{len(texts)} texts", [], check_texts(program, texts))
+    told.same(f"{len(texts)} texts of {path_of(HOURS / 'texts.txt')}", [], check_texts(program, texts))
 
 
 PARTS = {"yaml": yaml, "routes": routes, "hours": hours}

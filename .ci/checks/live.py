@@ -70,7 +70,8 @@ def stories(told: Report, programs: Programs) -> None:
                 found, differs = tried.result(), played[name].differs
             except Exception as error:  # (whatever it is, the other stories run)
                 found, differs = [f"{type(error).__name__}: {error}"], ""
-            told.holds(name, bool(found) == bool(differs), *(found or [f"no longer differs: {differs}"]))
+            lines = live_stories.as_diff(found, name, "live.py") or [f"no longer differs: {differs}"]
+            told.holds(name, bool(found) == bool(differs), *lines)
     known = [it for it in played.values() if it.differs]
     print(f"{len(played)} stories, {len(known)} with a known difference", flush=True)
     told.case("a difference is seen", sees_differences)

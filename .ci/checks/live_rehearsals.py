@@ -187,7 +187,8 @@ def rehearsals(told: Report, programs: Programs) -> None:
         except (RuntimeError, OSError, ValueError, KeyError) as error:
             found = [f"{type(error).__name__}: {error}"]
         count += 1
-        told.holds(name, bool(found) == (name in DIFFERS), *(found or [f"no longer differs: {DIFFERS.get(name)}"]))
+        lines = live_stories.as_diff(found, name, "am-rehearse") or [f"no longer differs: {DIFFERS.get(name)}"]
+        told.holds(name, bool(found) == (name in DIFFERS), *lines)
     print(f"{count} rehearsals, {len(DIFFERS)} with a known difference. Of the stories {unfit.total()} can't be one: "
           + ", ".join(f"{why} ({number})" for why, number in sorted(unfit.items())))
     told.same("each known difference has its story", [], sorted(DIFFERS.keys() - stories.keys()))

@@ -22,7 +22,7 @@ from pathlib import Path
 sys.path.insert(0, str(Path(__file__).resolve().parent.parent))
 from lib import preload, report
 from lib.program import ROOT, Program, Ran, as_text
-from lib.report import Programs, Report
+from lib.report import Programs, Report, path_of
 from lib.rows import Json, runs_of
 from lib.stories import PLAY, milliseconds, rehearse
 
@@ -53,9 +53,14 @@ def value_of(program: Program, name: str) -> Json:
     return json.loads(as_json(program, forms(name)[0]))
 
 
+def stored_of(name: str) -> Path:
+    """The file with the stored output of a story."""
+    return REHEARSALS / f"{name}.txt"
+
+
 def text_of(name: str) -> str:
     """The stored output of a story."""
-    return (REHEARSALS / f"{name}.txt").read_text(encoding="utf-8")
+    return stored_of(name).read_text(encoding="utf-8")
 
 
 def status_of(name: str) -> int:
@@ -80,7 +85,7 @@ def outputs(told: Report, programs: Programs) -> None:
         wanted = shown(status_of(name), text_of(name))
         for file in forms(name):
             for how, ran in (("", rehearse(program, "", "play", str(file))), (", as JSON", rehearse(program, as_json(program, file)))):
-                told.same(file.name + how, wanted, shown(ran.status, ran.out), f"{name}.txt", "am-rehearse")
+                told.same(file.name + how, wanted, shown(ran.status, ran.out), path_of(stored_of(name)), "am-rehearse")
             told.same(f"{file.name}, its value", value_of(program, name), json.loads(as_json(program, file)))
         if value_of(program, name).get("output", "timeline") == "timeline":
             notices_alone(told, program, name)
@@ -95,7 +100,7 @@ def store(told: Report, program: Program, name: str) -> None:
     """With `--write` a story's output and status are what the program gives now."""
     if told.is_written:
         ran, status = rehearse(program, "", "play", str(forms(name)[0])), REHEARSALS / f"{name}.status"
-        told.stored(f"{name}, written", REHEARSALS / f"{name}.txt", ran.out)
+        told.stored(f"{name}, written", stored_of(name), ran.out)
         status.unlink(missing_ok=True)
         if ran.status:
             status.write_text(f"{ran.status}\n")
@@ -112,7 +117,7 @@ def notices_alone(told: Report, program: Program, name: str) -> None:
         ("delivered notices", delivered, rehearse(program, "", "play", file, "--output", "notices", "--no-failures")),
         ("notices by its own output", notices, rehearse(program, own)),
     ]:
-        told.same(f"{name}, {how}", shown(status, wanted), shown(ran.status, ran.out), f"{name}.txt", "am-rehearse")
+        told.same(f"{name}, {how}", shown(status, wanted), shown(ran.status, ran.out), path_of(stored_of(name)), "am-rehearse")
 
 
 def folded(full: str, objects: list[Json]) -> str:
@@ -168,7 +173,7 @@ def folds(told: Report, program: Program, name: str) -> None:
     file = str(forms(name)[-1])
     full, objects = rehearse(program, "", "play", file, "--all"), rehearse(program, "", "play", file, "--output", "json")
     wanted = folded_parts(full.out, [json.loads(it) for it in objects.out.splitlines()])
-    told.same(f"{name}, folded", wanted, text_of(name), "the full timeline, folded", f"{name}.txt")
+    told.same(f"{name}, folded", wanted, text_of(name), "the full timeline, folded", path_of(stored_of(name)))
 
 
 def first_run(told: Report, program: Program) -> None:
@@ -310,7 +315,7 @@ def commands(told: Report, programs: Programs) -> None:
         for run in runs:
             got = given(run.command, path) if told.wants(run.command) else run.lines
             written += run.text(got)
-            told.same(run.command, "\n".join(got if told.is_written else run.lines), "\n".join(got), RUNS.name, "am-rehearse")
+            told.same(run.command, "\n".join(got if told.is_written else run.lines), "\n".join(got), path_of(RUNS), "am-rehearse")
     if told.is_written:
         RUNS.write_text(written.removesuffix("\n"), encoding="utf-8")
 

@@ -24,7 +24,7 @@ from typing import NamedTuple
 sys.path.insert(0, str(Path(__file__).resolve().parent.parent))
 from lib import report
 from lib.program import ROOT, Limits, Program, Ran
-from lib.report import Programs, Report
+from lib.report import Programs, Report, path_of
 from lib.rows import Json, Rows, changed, repeated
 from lib.stories import LIMITS, PLAY, alertmanager_story, config, faults_in, rehearse, story
 
@@ -73,8 +73,9 @@ def rejected(told: Report, program: Program, table: Path, least: int) -> None:
     for (at, words, _, wanted), got in zip(changes, results):
         if told.is_written and wanted != got:
             rows.lines[at] = f"{words} -> {got}"
-        elif wanted != got:
-            told.differs(f"{table.name}:{at + 1}", wanted.replace(" | ", "\n"), got.replace(" | ", "\n"), words[:150])
+        else:
+            expected, given = wanted.replace(" | ", "\n"), got.replace(" | ", "\n")
+            told.row(f"{table.name}:{at + 1}", expected, given, f"{path_of(table)}:{at + 1}", words[:150])
     if told.is_written:
         rows.write()
     told.ok(f"{len(changes)} rows of {table.name} were compared")
@@ -127,7 +128,7 @@ def texts(told: Report, programs: Programs) -> None:
         if told.is_written:
             whole = whole.replace(f"=== {heading}\n{text}=> {wanted}\n", f"=== {heading}\n{text}=> {got}\n")
         else:
-            told.same(heading, wanted, got, file.name)
+            told.same(heading, wanted, got, path_of(file))
     if told.is_written:
         file.write_text(whole, encoding="utf-8")
     told.ok(f"{len(cases)} texts were compared")
@@ -169,8 +170,7 @@ def amtool(told: Report, programs: Programs) -> None:
                 file.write_text(text, encoding="utf-8")
                 files[heading] = file
         for title, said in zip(files, pool.map(amtool_says, files.values())):
-            if said:
-                told.differs(title, f"rejected, as amtool says: {said}", "played")
+            told.row(title, f"rejected, as amtool says: {said}" if said else "played", "played")
     told.ok(f"{len(files)} configurations that are played were given to amtool")
     told.at_least(300, len(files), "configurations")
 
@@ -200,8 +200,8 @@ def matchers(told: Report, programs: Programs) -> None:
         got = matcher_outcome(programs["am_rehearse"], json.loads(text), json.loads(labels))
         if told.is_written:
             rows.lines[at] = "\t".join([text, labels, got])
-        elif got != wanted:
-            told.differs(f"matchers.rows:{at + 1}", wanted, got, f"{text} on {labels}")
+        else:
+            told.row(f"matchers.rows:{at + 1}", wanted, got, f"{path_of(rows.file)}:{at + 1}", f"{text} on {labels}")
     if told.is_written:
         rows.write()
     told.ok(f"{len(tabbed)} rows of matchers.rows were compared")

@@ -4,6 +4,9 @@ programs, side by side where one needs nothing of the other. CI calls `.ci/run`.
     .ci/run           takes what earlier runs on this machine kept: a proof, or a refusal of a wrong body, is made again
                       only where something that it depends on has changed (a kit without `rt ci --anew` keeps no proof)
     .ci/run --anew    keeps nothing, and proves and tries all
+    .ci/run --help    prints this
+    .ci/checks/NAME.py [PART]   runs one check; it prints the command to repeat what failed
+    .ci/wrong-bodies [CRATE]    tries the wrong bodies of a crate alone
 
 As many tasks run at a time as there are processors and as memory holds. A line gives each part's end and its minutes. The
 table at the end gives what each part and each crate cost; the last line counts the parts.
@@ -146,5 +149,16 @@ class Gate:
         return 1 if self.failed else 0
 
 
+def main(words: list[str]) -> int:
+    """Runs the gate, or prints how it is used. A word that it doesn't know is rejected before anything runs."""
+    if "--help" in words:
+        print(__doc__)
+        return 0
+    if unknown := [it for it in words if it != "--anew"]:
+        print(f"gate: unknown word {unknown[0]!r}; `.ci/run --help` prints how it is used", file=sys.stderr)
+        return 2
+    return Gate("--anew" in words).run()
+
+
 if __name__ == "__main__":
-    sys.exit(Gate("--anew" in sys.argv[1:]).run())
+    sys.exit(main(sys.argv[1:]))

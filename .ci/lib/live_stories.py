@@ -177,6 +177,13 @@ def differences(real: list[Sent], ours: list[Sent]) -> list[str]:
     return found
 
 
+def as_diff(found: list[str], name: str, program: str) -> list[str]:
+    """Differences of a story as the lines of a diff: `-` is what the real one alone did, `+` what this program alone did."""
+    signs = {"only Alertmanager: ": "-", "only ours: ": "+", "only the rehearsal: ": "+"}
+    lines = [next((sign + it.removeprefix(head) for head, sign in signs.items() if it.startswith(head)), it) for it in found]
+    return [f"--- .ci/data/live/timelines: {name}", f"+++ {program}", *lines] if found else []
+
+
 class PlayedClock:
     """A clock that goes to the next event at once, and receivers that answer as a story says."""
 

@@ -60,11 +60,18 @@ def difference(expected: object, got: object, stored: str, program: str) -> list
     return lines if len(lines) <= MOST else [*lines[:MOST], f".. and {len(lines) - MOST} lines more"]
 
 
+def path_of(file: Path) -> str:
+    """How a report names a file of this repository."""
+    return str(file.relative_to(ROOT))
+
+
 class Report:
     """The cases of a part: what it prints of each, and how many there were."""
 
-    def __init__(self, command: str, part: str, cases: list[str], is_written: bool) -> None:
-        self.command, self.part, self.cases, self.is_written = command, part, cases, is_written
+    def __init__(self, command: str, part: str, cases: list[str], is_written: bool, asked: list[Path]) -> None:
+        built = "BUILT=yes " * (os.environ.get("BUILT") == "yes")
+        self.command, self.part, self.cases, self.is_written = built + command, part, cases, is_written
+        self.asked = "".join(f" {shlex.quote(str(it))}" for it in asked)
         self.passed, self.failed, self.skipped = 0, 0, 0
         self.lock = threading.Lock()
 
@@ -98,7 +105,7 @@ class Report:
         if self.wants(name):
             with self.lock:
                 self.failed += 1
-                again = f"again: {self.command} {self.part} {shlex.quote(name)}"
+                again = f"again: {self.command} {self.part} {shlex.quote(name)}{self.asked}"
                 print("\n".join([f"differs {name}", *lines, again]), flush=True)
 
     def differs(self, name: str, expected: object, got: object, stored: str = "expected", program: str = "got") -> None:
@@ -113,6 +120,13 @@ class Report:
             self.differs(name, expected, got, stored, program)
         return expected == got
 
+    def row(self, name: str, expected: object, got: object, stored: str = "expected", program: str = "got") -> None:
+        """One of many rows has to give this. One that passes is printed only if cases were chosen."""
+        if expected != got:
+            self.differs(name, expected, got, stored, program)
+        elif self.cases:
+            self.ok(name)
+
     def holds(self, name: str, is_right: bool, *why: str) -> bool:
         """Something has to be so; if it isn't, these lines are printed."""
         if is_right:
@@ -126,9 +140,9 @@ class Report:
         expected = file.read_text(encoding="utf-8") if file.exists() else ""
         if self.is_written and got != expected:
             file.write_text(got, encoding="utf-8")
-            print(f"written {file.relative_to(ROOT)}", flush=True)
+            print(f"written {path_of(file)}", flush=True)
             expected = got
-        return self.same(name, expected, got, str(file.relative_to(ROOT)), program)
+        return self.same(name, expected, got, path_of(file), program)
 
     def case(self, name: str, function: Callable[[], None]) -> None:
         """Runs a case that raises what is wrong. Whatever it raises, the other cases run."""
@@ -184,9 +198,12 @@ Part = Callable[[Report, Programs], None]
 def main(file: str, parts: Mapping[str, Part], crates: tuple[str, ...], about: str | None) -> None:
     """Runs the parts that the command line asks for, and ends with 1 if a case failed."""
     words = [it for it in sys.argv[1:] if it != "--write"]
-    if "--help" in words or any(it.startswith("-") for it in words):
+    if "--help" in words:
         print(f"{about}\nParts: {', '.join(parts)}. {__doc__}")
-        sys.exit(0 if "--help" in words else 2)
+        sys.exit(0)
+    if unknown := [it for it in words if it.startswith("-")]:
+        print(f"{Path(file).name}: unknown word {unknown[0]!r}; --help prints how it is used", file=sys.stderr)
+        sys.exit(2)
     paths = [Path(it) for it in words if is_program(it)]
     words = [it for it in words if not is_program(it)]
     for it in words:
@@ -199,7 +216,7 @@ def main(file: str, parts: Mapping[str, Part], crates: tuple[str, ...], about: s
     chosen = {words[0]: parts[words[0]]} if words else parts
     results = []
     for name, part in chosen.items():
-        report = Report(command, name, words[1:], "--write" in sys.argv)
+        report = Report(command, name, words[1:], "--write" in sys.argv, paths)
         try:
             part(report, programs)
         except Exception:

@@ -102,7 +102,7 @@ func (d *dispatcher) insertOf(a *types.Alert) (item []byte, isSuspect bool, err 
 // settle waits for the answers to inserts. What was rejected at a limit is tried once more, after what is over was removed.
 func (d *dispatcher) settle(s *session, queued inserts) error {
 	left, kinds, err := d.rejected(s, queued)
-	if len(left) > 0 && d.makeRoom(s, kinds, queued.queued) {
+	if len(left) > 0 && d.removeOver(s, kinds, queued.queued) {
 		left, _, err = d.rejected(s, d.again(s, left))
 	}
 	d.poke()

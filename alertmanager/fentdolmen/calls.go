@@ -120,7 +120,7 @@ func (c call) appendLine(out []byte, now int64) []byte {
 	return append(append(out, c.args...), "}}\n"...)
 }
 
-// fits tells whether a line can be an answer to the call.
+// fits reports whether a line can be an answer to the call.
 func (c call) fits(line []byte) bool {
 	if bytes.HasPrefix(line, errorField) || c.answers == nil {
 		return true

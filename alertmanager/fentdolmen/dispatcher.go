@@ -62,7 +62,7 @@ type dispatcher struct {
 	refused map[model.Fingerprint]struct{}
 
 	mirror   mirror
-	room     room
+	removals removals
 	culprits culprits
 
 	followed int64 // of upkeep alone: the clock's offset that the silences and the saved log have
@@ -242,7 +242,7 @@ func (d *dispatcher) begin(s *session, count int) bool {
 	return hasBegun
 }
 
-// beginRejected makes room for the history, which makes another try worth while. Without memory the group stays due.
+// beginRejected takes the history out if that was full, and says whether another try is worth while. Without memory the group stays due.
 func (d *dispatcher) beginRejected(s *session, err error) bool {
 	kind, wasHeldUp := d.count(err), d.isHeldUp
 	d.isHeldUp = true

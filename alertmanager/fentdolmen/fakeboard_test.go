@@ -10,7 +10,7 @@ import (
 	"time"
 )
 
-// fakeBoard answers lines as am-dispatch does, but for one thing:
+// fakeBoard answers lines as am-dispatch does, except for one thing:
 //   - `names`, `groups`: after three alerts no other is accepted until forget or maintain was called
 //   - `removes`: as `groups`, and it knows a call that removes empty groups alone
 //   - `silences`: before forget no silence is accepted

@@ -6,15 +6,15 @@ import (
 	"time"
 )
 
-// room says when the board was last asked to remove what is over.
-type room struct {
+// removals says when the board was last asked to remove what is over.
+type removals struct {
 	mtx  sync.Mutex
 	last map[string]time.Time
 }
 
-// makeRoom does what can help against these refusals of calls that were queued then, at most every ten seconds. It returns whether
+// removeOver does what can help against these refusals of calls that were queued then, at most every ten seconds. It returns whether
 // anything was done since, also for another request: then they are worth another try.
-func (d *dispatcher) makeRoom(s *session, kinds map[string]bool, queued time.Time) bool {
+func (d *dispatcher) removeOver(s *session, kinds map[string]bool, queued time.Time) bool {
 	done := false
 	for kind, remedy := range map[string]func(){
 		tooManyNames:    func() { d.try(s, forgetCall()) },
@@ -22,17 +22,17 @@ func (d *dispatcher) makeRoom(s *session, kinds map[string]bool, queued time.Tim
 		tooManyGroups:   func() { d.removeGroups(s) },
 		historyFull:     func() { d.takeHistory(s) },
 	} {
-		if kinds[kind] && d.room.isTime(kind) {
+		if kinds[kind] && d.removals.isTime(kind) {
 			remedy()
 			done = true
 		}
-		done = done || kinds[kind] && d.room.wasSince(kind, queued)
+		done = done || kinds[kind] && d.removals.wasSince(kind, queued)
 	}
 	return done
 }
 
 // isTime returns whether the last removal for this kind of refusal was long enough ago, and counts the present one.
-func (r *room) isTime(kind string) bool {
+func (r *removals) isTime(kind string) bool {
 	r.mtx.Lock()
 	defer r.mtx.Unlock()
 	if time.Since(r.last[kind]) < 10*time.Second {
@@ -46,7 +46,7 @@ func (r *room) isTime(kind string) bool {
 }
 
 // wasSince returns whether there was a removal for this kind of refusal since then.
-func (r *room) wasSince(kind string, then time.Time) bool {
+func (r *removals) wasSince(kind string, then time.Time) bool {
 	r.mtx.Lock()
 	defer r.mtx.Unlock()
 	return r.last[kind].After(then)

@@ -53,7 +53,7 @@ func TestAtALimitWhatIsOverIsRemoved(t *testing.T) {
 // TestManyRejectedAlertsHaveAShortError: in the answer and in the log.
 func TestManyRejectedAlertsHaveAShortError(t *testing.T) {
 	d := testDispatcher(t, fake(t, "names"), oneReceiver)
-	d.room.isTime(tooManyNames) // (the last removal was just now)
+	d.removals.isTime(tooManyNames) // (the last removal was just now)
 	var all []*types.Alert
 	for i := 0; i < 2000; i++ {
 		all = append(all, alert(fmt.Sprint("alertname=", i)))

@@ -20,7 +20,7 @@ type logbook struct {
 	mtx  sync.Mutex
 	rows map[string]entry
 	last int64 // the number of the last row
-	// added are the lines since the file was last written to; wake has room for one word that there are some. moved: older lines changed.
+	// added are the lines since the file was last written to; wake holds one word that there are some. moved: older lines changed.
 	added   [][]byte
 	isMoved bool
 	wake    chan struct{}

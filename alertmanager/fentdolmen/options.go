@@ -119,7 +119,7 @@ func (o *options) times() []timeOption {
 	}
 }
 
-// usualBoard is AM_DISPATCH, or the first that is there beside this program or where packages have it, or what the shell would find.
+// usualBoard is AM_DISPATCH, or the first that is there in this program's folder or where packages have it, or what the shell would find.
 func usualBoard() string {
 	if named := os.Getenv("AM_DISPATCH"); named != "" {
 		return named

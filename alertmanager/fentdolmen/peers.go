@@ -81,7 +81,7 @@ func (g gossiped) Merge(message []byte) error {
 	return nil
 }
 
-// isSentByPeer tells whether a peer has sent this since the flush began. The board decided at `begin`, and Alertmanager decides after
+// isSentByPeer reports whether a peer has sent this since the flush began. The board decided at `begin`, and Alertmanager decides after
 // the wait for the peers.
 func (d *dispatcher) isSentByPeer(f *sending, n notice) bool {
 	k, ok := f.session.keep(row{Group: f.Group, Integration: n.Integration}, 0)
@@ -92,7 +92,7 @@ func (d *dispatcher) isSentByPeer(f *sending, n notice) bool {
 	return ok && covers(last.Firing, n.Firing) && covers(last.Resolved, n.Resolved)
 }
 
-// covers tells whether all of these alerts are among the label sets.
+// covers reports whether all of these alerts are among the label sets.
 func covers(has []model.LabelSet, wanted []boardAlert) bool {
 	set := map[model.Fingerprint]bool{}
 	for _, labels := range has {

@@ -153,7 +153,7 @@ func (d *dispatcher) settleSilence(s *session, id string, t *batch) {
 	}
 	err = s.board.decode(t.calls[0], answers[0], nil)
 	kind := d.count(err)
-	if kind != "" && d.makeRoom(s, map[string]bool{kind: true}, t.queued) {
+	if kind != "" && d.removeOver(s, map[string]bool{kind: true}, t.queued) {
 		err = s.board.ask(t.calls[0], nil)
 		kind = d.count(err)
 	}

@@ -17,13 +17,13 @@ func silenceOf(value string) *silencepb.Silence {
 func TestSilencesAtTheLimit(t *testing.T) {
 	d := testDispatcher(t, fake(t, "silences"), oneReceiver)
 	d.silences.SetBroadcast(d.silencesChanged)
-	d.room.isTime(tooManySilences) // (the last removal was just now)
+	d.removals.isTime(tooManySilences) // (the last removal was just now)
 	id, err := d.silences.Set(silenceOf("a"))
 	if err != nil {
 		t.Fatal(err)
 	}
 	waitFor(t, func() bool { return !d.mirror.knows(id) && d.mirror.catchUp() })
-	d.room.last = nil
+	d.removals.last = nil
 	d.syncSilences(d.session())
 	time.Sleep(200 * time.Millisecond)
 	if !d.mirror.knows(id) || d.mirror.catchUp() {

@@ -11,6 +11,10 @@ import (
 	"strings"
 	"sync"
 	"time"
+
+	"github.com/prometheus/common/model"
+
+	"github.com/prometheus/alertmanager/pkg/labels"
 )
 
 // trial is a board without alerts, which is started for the first silence. mostTries bounds its history.
@@ -47,6 +51,27 @@ func (p postedSilence) matchers() []matcher {
 		out = append(out, matcher{m.Name, map[[2]bool]string{{false, true}: "=", {false, false}: "!=", {true, true}: "=~", {true, false}: "!~"}[[2]bool{m.IsRegex, isEqual}], m.Value})
 	}
 	return out
+}
+
+// matchTypes are Alertmanager's for the board's operators.
+var matchTypes = map[string]labels.MatchType{"=": labels.MatchEqual, "!=": labels.MatchNotEqual, "=~": labels.MatchRegexp, "!~": labels.MatchNotRegexp}
+
+// mostPattern is up to how many bytes Alertmanager's code reads a pattern first. The board accepts none that is longer.
+const mostPattern = 1024
+
+// isForAPI returns whether Alertmanager rejects one of these matchers itself: then its own message is the answer.
+func isForAPI(matchers []matcher) bool {
+	for _, m := range matchers {
+		if len(m[2]) > mostPattern {
+			return false
+		}
+	}
+	for _, m := range matchers {
+		if _, err := labels.NewMatcher(matchTypes[m[1]], m[0], m[2]); err != nil || !model.LabelName(m[0]).IsValid() {
+			return true
+		}
+	}
+	return false
 }
 
 // try returns why the board rejects a silence, and nil if it doesn't, or if there is no board to try it on.
@@ -96,7 +121,7 @@ func (t *trial) close() {
 	}
 }
 
-// trying tries each posted silence before the API gets it. What it can't read is left to the API.
+// trying tries each posted silence before the API gets it. What it can't read, or the API rejects anyway, is left to the API.
 func (t *trial) trying(pages http.Handler) http.Handler {
 	return http.HandlerFunc(func(w http.ResponseWriter, r *http.Request) {
 		cleaned := path.Clean(r.URL.Path) // (as the API's router does)
@@ -111,7 +136,7 @@ func (t *trial) trying(pages http.Handler) http.Handler {
 			return
 		}
 		var posted postedSilence
-		if json.Unmarshal(body, &posted) == nil && len(posted.Matchers) > 0 {
+		if json.Unmarshal(body, &posted) == nil && len(posted.Matchers) > 0 && !isForAPI(posted.matchers()) {
 			if err := t.try(posted.matchers()); err != nil {
 				t.count(err)
 				rejectSilence(w, isV1, err)

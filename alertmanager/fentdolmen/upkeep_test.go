@@ -52,7 +52,7 @@ func TestNothingWaitsForABoard(t *testing.T) {
 	for name, lock := range map[string]interface {
 		TryLock() bool
 		Unlock()
-	}{"putting": &d.putting, "mtx": &d.mtx, "mirror": &d.mirror.mtx, "book": &d.book.mtx, "culprits": &d.culprits.mtx, "room": &d.room.mtx} {
+	}{"putting": &d.putting, "mtx": &d.mtx, "mirror": &d.mirror.mtx, "book": &d.book.mtx, "culprits": &d.culprits.mtx, "removals": &d.removals.mtx} {
 		if !lock.TryLock() {
 			t.Errorf("%s is held", name)
 			continue

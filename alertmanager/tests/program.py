@@ -133,6 +133,11 @@ class Program:
         return boards[0] if boards else None
 
 
+def is_slow(board):
+    """Whether a board was built without proofs: then it has checks at run time, and takes many times as long."""
+    return b"__asan_init" in Path(board).read_bytes()
+
+
 def used(pid):
     """The seconds of a processor that a process has used."""
     fields = Path(f"/proc/{pid}/stat").read_text().rpartition(")")[2].split()

@@ -30,7 +30,7 @@ CHECK = 4
 
 
 class Beside:
-    """What the output of a gate that runs at the same time tells. Without one all is proved."""
+    """What the output of a gate that runs at the same time says. Without one all is proved."""
 
     def __init__(self, file: str | None, waits: bool) -> None:
         self.file, self.waits, self.has_ended = file, waits, not file
@@ -45,7 +45,7 @@ class Beside:
             self.has_ended = bool(re.search(r"^\d+ passed, \d+ failed", said, re.M))
 
     def is_ready(self, crate: str, listed: dict[str, list[str]]) -> bool:
-        """Whether all below are proved, so that the crate can be tried."""
+        """Whether all below are proved: then the crate can be tried."""
         return self.has_ended or not self.waits and self.proved.issuperset(crates_below(crate, listed))
 
     def tasks(self) -> int:
@@ -67,7 +67,7 @@ class Run:
         self.beside = Beside(asked.beside, asked.after)
 
     def try_all(self) -> list[tuple[bool, str]]:
-        """Tries what is left, each crate's when it is ready, those with the most first, and tells their lines."""
+        """Tries what is left, each crate's when it is ready, those with the most first, and returns their lines."""
         left: dict[str, list[Edit]] = {}
         for crate, edit in self.left:
             left.setdefault(crate, []).append(edit)
@@ -115,6 +115,8 @@ def main() -> int:
     parser.add_argument("--beside", metavar="FILE")
     parser.add_argument("crates", nargs="*")
     asked = parser.parse_args()
+    if unknown := sorted(set(asked.crates) - set(crates())):
+        parser.error(f"no crate {unknown[0]}; `.ci/wrong-bodies --list` prints what there is to try")
     room = tempfile.mkdtemp(prefix="wrong-bodies-")
     try:
         run = Run(asked, room)

@@ -55,11 +55,11 @@ class Edit:
 
     @property
     def tried(self) -> str:
-        """The function that has to be told: its own, or the copy that it turns."""
+        """The function that has to be reported: its own, or the copy that it turns."""
         return f"{self.function}_again{self.number}" if self.number else self.function
 
     def apply(self, texts: dict[str, str]) -> None:
-        """Puts its new texts in place of the old ones, each of which stands once in its file by then."""
+        """Puts its new texts in place of the old ones, each of which is once in its file by then."""
         for path, old, new in self.pairs:
             if path not in texts or texts[path].count(old) != 1:
                 raise BadEdit(f"{self.name}: its old text isn't once in {path}")
@@ -89,7 +89,7 @@ def edits_of(folder: str) -> list[Edit]:
         for it in functions_of(path, text, homes):
             known[it.name] = path, "\n".join(text.split("\n")[it.first : it.end + 1])
     for edit in edits:
-        # (the proof of a cycle is one for all its functions, so two of them can't be told apart)
+        # (the proof of a cycle is one for all its functions, so two of them can't be tried together)
         edit.turned = next((cycle for cycle, name in cycles if name == edit.function.split("::")[-1]), edit.function)
         path, text = known.get(edit.function, ("", ""))
         # (a copy of one that calls itself would call the other, and the files of the cycle's proof wouldn't be its own)
@@ -112,7 +112,7 @@ def rounds_of(edits: list[Edit]) -> list[list[Edit]]:
 
 
 def holder_of(function: str) -> str:
-    """The function that has the text of this one: of a closure, as `a::fn::f::all`, the one that it stands in."""
+    """The function that has the text of this one: of a closure, as `a::fn::f::all`, the one that it is in."""
     names = function.split("::")
     at = names.index("fn") if "fn" in names else None
     return function if at is None else "::".join(names[:at] + names[at + 1 : -1])
@@ -130,8 +130,8 @@ def with_stubs(path: str, text: str, homes: dict[str, str | None], turned: set[s
 
 
 def with_holes(text: str) -> str:
-    """The text of a module of lemmas, with a hole in the place of each proof. What may be unfolded stays as it is: a
-    definition that is an `abbrev` or `unfoldable`, a record, a set of rules. So does what stands in a `module _ .. where`."""
+    """The text of a module of lemmas, with a hole in the place of each proof. What can be unfolded stays as it is: a
+    definition that is an `abbrev` or `unfoldable`, a record, a set of rules. So does what is in a `module _ .. where`."""
     kept: list[str] = []
     name = None
     for part in re.split(r"\n(?=[^\s\])}])", text):

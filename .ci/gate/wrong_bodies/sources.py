@@ -46,7 +46,7 @@ def begin_of(lines: list[str], at: int, depth: str) -> int | None:
 
 
 def body_of(lines: list[str], at: int) -> tuple[int, int] | None:
-    """Of a function whose head begins at this line: the lines between which its body stands, or None. `rt fmt`, which
+    """Of a function whose head begins at this line: the lines between which its body is, or None. `rt fmt`, which
     the gate demands, opens a body at the end of its head or alone at the head's depth, and closes it alone at that depth."""
     head = re.match(r"( *)(pub(\([a-z: ]+\))? )?(unsafe )?fn ", lines[at])
     # (one body of a cycle is read by the proof of all)
@@ -109,7 +109,7 @@ def place_of(path: str, indent: str, owner: str | None, homes: dict[str, str | N
 
 def functions_of(path: str, text: str, homes: dict[str, str | None]) -> list[Function]:
     """The functions of a source whose place in proofs/ is known. A method of a trait's `impl`, a `const fn`, a function of a
-    cycle of calls and what `body_of` doesn't know aren't told."""
+    cycle of calls and what `body_of` doesn't know aren't among them."""
     found: list[Function] = []
     lines, at, owner = text.split("\n"), 0, None
     while at < len(lines):

@@ -1,4 +1,4 @@
-"""What the refusal of a wrong body stands on, and the refusals that this machine kept."""
+"""What the refusal of a wrong body depends on, and the refusals that this machine kept."""
 import contextlib
 import functools
 import hashlib
@@ -19,7 +19,7 @@ OWN = ("sources.py", "edits.py", "sums.py", "trial.py")
 
 
 def crates_below(name: str, listed: dict[str, list[str]]) -> list[str]:
-    """The crates of this repository that the crate stands on, each once."""
+    """The crates of this repository that the crate depends on, each once."""
     found: list[str] = []
     for lower in listed[name]:
         if lower in listed:
@@ -41,7 +41,7 @@ def kit_sum() -> str:
 
 
 class Sums:
-    """Tells of a wrong body the sum of all that its refusal stands on:
+    """The sum of all that the refusal of a wrong body depends on:
 
     - the modules that decide what a refusal is, and the kit: its name, its prover and what its libraries state;
     - of each crate of this repository below: the sources without the bodies of functions, specs/, and proofs/ without the
@@ -71,7 +71,7 @@ class Sums:
         return hashlib.sha256(repr((crate, self.listed[crate], stated)).encode()).hexdigest()
 
     def of(self, crate: str, edit: Edit) -> str:
-        """The sum of all that the refusal of a wrong body stands on."""
+        """The sum of all that the refusal of a wrong body depends on."""
         names = edit.function.split("::")
         sources = [f"src/{'/'.join(names[:i])}{end}" for i in range(len(names) - 1, 0, -1) for end in (".rt", "/mod.rt")]
         sources = [it for it in sources if os.path.isfile(f"{ROOT}/crates/{crate}/{it}")][:1]
@@ -98,7 +98,7 @@ class Kept:
             return False
 
     def keep(self, sum: str, crate: str, edit: Edit, why: str) -> None:
-        """Keeps it: written apart and then renamed, so that no other run meets half of it."""
+        """Keeps it: written apart and then renamed. No other run meets half of it."""
         try:
             os.makedirs(KEPT, 0o700, exist_ok=True)
             with tempfile.NamedTemporaryFile("w", dir=KEPT, delete=False, encoding="utf-8") as file:

@@ -48,7 +48,7 @@ class Checks:
 
 
 def words_for(name: str, listed: dict[str, list[str]]) -> list[str]:
-    """What the prover is told of the crate and its libraries."""
+    """What the prover is given of the crate and its libraries."""
     root = "src/main.rt" if os.path.exists(f"{ROOT}/crates/{name}/src/main.rt") else "src/lib.rt"
     words = ["--crate-name", name, root, "--extern", f"std={KIT}/rlibs/std.rlib", "-L", f"dependency={KIT}/rlibs"]
     for lower in listed[name]:
@@ -74,7 +74,7 @@ def folders_of(edit: Edit) -> tuple[str, str]:
 
 
 def refusal_of(crate: str, edit: Edit, said: list[str]) -> tuple[bool, str]:
-    """Whether the function is told as not proved, and not for names alone that are gone, and what is said of it."""
+    """Whether the function is reported as not proved, and not for names alone that are gone, and what is said of it."""
     at, verdict = verdict_on(crate, edit.tried, said)
     if at is None or not re.match(r"not proved|no proof", verdict):
         return False, verdict
@@ -87,7 +87,7 @@ def refusal_of(crate: str, edit: Edit, said: list[str]) -> tuple[bool, str]:
 
 
 def is_elsewhere(edits: list[Edit], line: str) -> bool:
-    """Whether a line tells of an error that is in no proof of the functions that the edits turn, and in no stub's."""
+    """Whether a line has an error that is in no proof of the functions that the edits turn, and in no stub's."""
     return bool(re.match(r"\./\S+:\d+:\d+: error", line)) and not line.startswith(tuple(it for edit in edits for it in folders_of(edit)))
 
 
@@ -144,7 +144,7 @@ class Trial:
             print(text, flush=True)
         said = text.split("\n")
         if all(verdict_on(self.crate, it.tried, said)[0] is None for it in edits):
-            # (the front end refuses one of them, and then nothing is told of the others)
+            # (the front end refuses one of them, and then nothing is said of the others)
             if len(edits) > 1:
                 return [line for it in edits for line in self.try_round([it], over_stubs)]
             if over_stubs:
@@ -161,7 +161,7 @@ class Trial:
 
 def tried(crate: str, edits: list[Edit], listed: dict[str, list[str]], sums: dict[tuple[str, str], str], known: Kept,
           checks: Checks, show: bool) -> list[tuple[bool, str]]:
-    """The lines of a crate's checks. What each refuses is kept, unless a file that the refusal stands on was changed
+    """The lines of a crate's checks. What each refuses is kept, unless a file that the refusal depends on was changed
     meanwhile."""
     lines = []
     with tempfile.TemporaryDirectory(dir=checks.room) as kept:

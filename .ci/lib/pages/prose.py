@@ -1,8 +1,9 @@
 """Each page is short, and says one thing at a time.
 
 README.md, the other pages at the top and docs/*.md have no sentence above 25 words and no paragraph above 100, outside blocks of code
-and tables, where a code span counts as one word. No row of a table has more than 300 characters. A page has at most 1,800 words outside
-blocks of code, or what BUDGETS says. No word that writers agreed to avoid (`words`), and no link to a file or a heading that isn't there.
+and tables, where a code span counts as one word. No row of a table has more than 300 characters, and no other line more than 400. A page
+has at most 1,800 words outside blocks of code, or what BUDGETS says. It has no word that writers agreed to avoid (`words`), and no link
+to a file or a heading that isn't there.
 What a line `**Defined** in .. **Shown** by ..` names is there, and each edit that a row on a wrong body names. All pages together have at
 most TOTAL bytes.
 """
@@ -18,8 +19,8 @@ from lib.pages.words import AVOID
 SENTENCE, PARAGRAPH = 25, 100
 # In words: what a page has at most, and those that have another budget.
 BUDGET, BUDGETS = 1800, {"README": 1200, "rules": 2400, "dispatch": 1900}
-# In characters: what a row of a table has at most. In bytes: what all pages have.
-ROW, TOTAL = 300, 172_000
+# In characters: what a row of a table and another line have at most. In bytes: what all pages have.
+ROW, LINE, TOTAL = 300, 400, 165_000
 # The end of a sentence: behind it begins another, with a capital, a number or the name of a page.
 END = re.compile(r"[.!?][\"')\]*]*\s+(?=[\"'(\[*]*(?:[A-Z0-9]|[\w-]+\.md))")
 LINK = re.compile(r"\[([^\]]*)\]\(([^)\s]+)\)")
@@ -145,8 +146,9 @@ def faults_of(page: Path, text: str) -> Found:
     if words > most:
         found.append((len(text.splitlines()), f"{words} words, and at most {most} are planned"))
     for number, line in enumerate(without_blocks(text).splitlines(), 1):
-        if line.startswith("|") and len(line) > ROW:
-            found.append((number, f"a row of {len(line)} characters"))
+        is_row = line.startswith("|")
+        if len(line) > (ROW if is_row else LINE):
+            found.append((number, f"a {'row' if is_row else 'line'} of {len(line)} characters"))
     for number, line in enumerate(plain(without_blocks(text)).splitlines(), 1):
         found += [(number, f"avoid \"{it[0]}\"") for it in AVOID.finditer(LINK.sub(r"\1", line))]
         found += [(number, fault) for _, target in LINK.findall(line) if (fault := link_fault(page, text, target))]
@@ -161,12 +163,13 @@ def self_test() -> None:
     good = f"# One `two`: three\n\n{words.strip()}. a.md {words.strip()[:-5]}\n\n- {code} {words.strip()[:-5]}\n- {words}\n\n"
     good += f"{row}```\n{words * 9} told\n```\n"
     good += "[a](#one-two-three), [b](../README.md), [c](https://example.org) and `told`.\n"
-    bad = {good + words + "word.\n": "a sentence of 26 words", "\n\n" + (words + ". ") * 5: "a paragraph of 125 words",
+    bad = {good + words + "word.\n": "a sentence of 26 words", "\n\n" + (words + ".\n") * 5: "a paragraph of 125 words",
            "\n- A.\n" * 1801: "1801 words, and at most 1800 are planned", "So\nhe Told\n": 'avoid "Told"', "[a](#two)": "no heading #two",
            "[`a`](none.md)": "no file none.md", "[a](../../x)": "no file ../../x",
            "[a](story.md#no-such)": "no heading story.md#no-such", "**Defined** in `am_model/{Begin, None}`.": "no am_model/{Begin, None}",
            "**Defined** in `am_model/Begin`. **Shown** by `none.yml`.": "no none.yml",
            row.replace("|\n", "word |\n"): "a row of 303 characters",
+           "[a](https://example.org/" + "b" * 400 + ")\n": "a line of 425 characters",
            "| `no_such` | a body | edit in `am_desk`; type: `T` |": "no crates/am_desk/wrong-bodies/no_such.edit"}
     assert not faults_of(page, good), faults_of(page, good)
     for text, fault in bad.items():

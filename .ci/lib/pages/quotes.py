@@ -181,10 +181,10 @@ class Quotes:
 
 def run_command(command: str, folder: Path, crate: str) -> subprocess.CompletedProcess[str]:
     """Runs a command of a page in a folder, or in a crate of it."""
-    line = ["bash", "-o", "pipefail", "-c", RUNS.sub('out/"$(basename "$PWD")"', command)]
+    # (`timeout` ends all that the command began; its status is 124 then)
+    line = ["timeout", "300", "bash", "-o", "pipefail", "-c", RUNS.sub('out/"$(basename "$PWD")"', command)]
     path = {**os.environ, "PATH": f"{folder}:{os.environ['PATH']}"}
-    return subprocess.run(line, cwd=folder / crate, env=path, stdin=subprocess.DEVNULL, capture_output=True, text=True, timeout=300,
-                          check=False)
+    return subprocess.run(line, cwd=folder / crate, env=path, stdin=subprocess.DEVNULL, capture_output=True, text=True, check=False)
 
 
 def made(kind: str, text: str) -> str:

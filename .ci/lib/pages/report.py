@@ -1,5 +1,6 @@
 """How a check of the pages reports: a unified diff for each difference, and the command that repeats it."""
 import difflib
+import os
 import sys
 
 MOST = 60
@@ -15,7 +16,8 @@ def differs(what: str, expected: str, got: str, names: tuple[str, str]) -> str:
 def verdict(part: str, faults: list[str], passed: str) -> bool:
     """Prints the faults and the command that repeats the part, or what passed. Whether it passed."""
     if faults:
-        print("\n".join([*faults, f"FAILED  {part}: {len(faults)} faults", f"again: .ci/checks/pages.py {part}"]))
+        built = "BUILT=yes " * (os.environ.get("BUILT") == "yes")
+        print("\n".join([*faults, f"FAILED  {part}: {len(faults)} faults", f"again: {built}.ci/checks/pages.py {part}"]))
     else:
         print(f"ok      {part}: {passed}")
     sys.stdout.flush()

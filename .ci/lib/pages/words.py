@@ -1,14 +1,10 @@
 """Words that writers agreed to avoid, because readers don't know what they mean here.
 
-Pages have none of them (`prose`). In crates/ comments have none, and names have none as a part, except those of .ci/data/words.toml:
-of each crate, how often each word is in comments and in names. So do the comments of scripts, of each folder of SCRIPTS. These numbers
-only fall: `--write` takes lower ones over, and no higher one.
+Pages have none of them (`prose`). Nor do comments in crates/ and in scripts; and no name in crates/ has one as a part, but KEPT.
 """
 import io
 import re
 import tokenize
-import tomllib
-from collections import Counter
 from collections.abc import Iterator
 from pathlib import Path
 
@@ -18,12 +14,11 @@ from lib.pages.contracts import CRATES, ROOT
 AVOID = re.compile(r"\b(tell|tells|told|telling|may be|stands?|stood|laid|lays flat|so that|(it|this|that) is so|on account of|by reason of"
                    r"|but for|beside|want of|memory (is|was) refused|moments?|manners?|rooms?|(is|are|was|were) played|worked out"
                    r"|rightly|soundly)\b", re.IGNORECASE)
-EXCEPTIONS = ROOT / ".ci" / "data" / "words.toml"
+# Names that aren't ours to choose: a function of the kit, a field of Webex receivers, and a field in lines of am-dispatch.
+KEPT = re.compile(r'\btells_all_ascii_digits\b|\broom_id\b|"moment"|/moment\b')
 # Where scripts are, and what they are in. What has no such ending is one if its first line says so.
 SCRIPTS = ("alertmanager", "examples", "tools", ".ci")
 ENDINGS = (".py", ".go", ".c", ".yml")
-# How often each word is in a crate's `comments` or `names`.
-Counts = Counter[tuple[str, str, str]]
 
 
 def comment_of(line: str) -> tuple[str, str]:
@@ -44,7 +39,7 @@ def places_in(file: Path) -> list[tuple[int, str, str]]:
     for number, line in enumerate(file.read_text().splitlines(), 1):
         code, comment = comment_of(line)
         found += [(number, "comments", " ".join(it[0].lower().split())) for it in AVOID.finditer(comment)]
-        found += [(number, "names", it) for it in parts_of(code) if AVOID.fullmatch(it)]
+        found += [(number, "names", it) for it in parts_of(KEPT.sub("Kept", code)) if AVOID.fullmatch(it)]
     return found
 
 
@@ -78,52 +73,24 @@ def words_of(file: Path) -> list[tuple[int, str, str]]:
             for number, line in remarks(file) for it in AVOID.finditer(re.sub(r"`[^`]+`", "Code", line))]
 
 
-def places() -> list[tuple[str, Path, int, str, str]]:
-    """Where there are words to avoid: the crate or the folder of scripts, the file, the line, the kind and the word."""
-    found = [(file.relative_to(CRATES).parts[0], file, *it) for file in sources() for it in places_in(file)]
+def places() -> list[tuple[Path, int, str, str]]:
+    """Where there are words to avoid: the file, the line, `comments` or `names`, and the word."""
+    found = [(file, *it) for file in sources() for it in places_in(file)]
     # (this file has them all)
-    return found + [(file.relative_to(ROOT).parts[0], file, *it) for file in scripts() if file != Path(__file__) for it in words_of(file)]
-
-
-def listed() -> Counts:
-    """The exceptions."""
-    data = tomllib.loads(EXCEPTIONS.read_text()) if EXCEPTIONS.exists() else {}
-    rows = [(crate, kind, row) for crate, kinds in data.items() for kind, row in kinds.items()]
-    return Counter({(crate, kind, word): number for crate, kind, row in rows for word, number in row.items()})
-
-
-def text_of(numbers: Counts) -> str:
-    """The file of exceptions."""
-    lines = ["# Words that crates and scripts still have and are to lose. `.ci/checks/pages.py words --write` takes lower numbers over."]
-    for crate in sorted({crate for crate, _, _ in numbers}):
-        lines += ["", f'["{crate}"]' if "." in crate else f"[{crate}]"]
-        for kind in ("comments", "names"):
-            row = ", ".join(f'"{word}" = {number}' for (of, its, word), number in sorted(numbers.items()) if (of, its) == (crate, kind))
-            lines += [f"{kind} = {{ {row} }}"] if row else []
-    return "\n".join(lines) + "\n"
+    return found + [(file, *it) for file in scripts() if file != Path(__file__) for it in words_of(file)]
 
 
 def self_test() -> None:
-    """Comments and names are told apart, and words are found in both."""
+    """Comments and names are kept apart, and words are found in both."""
     assert comment_of("let a = b; // it `tells` a moment") == ("let a = b;", "it Code a moment")
     assert comment_of("x--y : Told -- so that") == ("x--y : Told", "so that")
+    assert KEPT.sub("Kept", 'members.get("moment")') == "members.get(Kept)"
     assert parts_of("IsTold has_room NO_ROOM no-moment") == ["is", "told", "has", "room", "no", "room", "no", "moment"]
     assert [it[0] for it in AVOID.finditer("a Moment, it may be so that")] == ["Moment", "may be", "so that"]
 
 
-def check(write: bool) -> bool:
-    """Checks the sources against the list of exceptions, or lowers its numbers."""
+def check() -> bool:
+    """Checks the sources."""
     self_test()
-    where, known = places(), listed()
-    found: Counts = Counter((crate, kind, word) for crate, _, _, kind, word in where)
-    if write:
-        known = Counter({it: min(number, found[it]) for it, number in known.items() if found[it]})
-        EXCEPTIONS.write_text(text_of(known))
-    more = {it for it, number in found.items() if number > known[it]}
-    faults = [f"{file.relative_to(ROOT)}:{line}: avoid \"{word}\" in {kind}" for crate, file, line, kind, word in where
-              if (crate, kind, word) in more]
-    if not more and found != known:
-        faults.append(report.differs(f"{EXCEPTIONS.relative_to(ROOT)} (`.ci/checks/pages.py words --write` makes it)", text_of(known),
-                                     text_of(found), ("the list", "the crates")))
-    left = sum(known.values())
-    return report.verdict("words", faults, f"{len(sources()) + len(scripts())} files, {left} exceptions left")
+    faults = [f"{file.relative_to(ROOT)}:{line}: avoid \"{word}\" in {kind}" for file, line, kind, word in places()]
+    return report.verdict("words", faults, f"{len(sources()) + len(scripts())} files")

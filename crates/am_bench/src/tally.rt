@@ -56,6 +56,9 @@ impl Display for Tally {
         let (flushed, quiet, notices) = (self.flushed, self.quiet, self.notices);
         let (notified, left) = (self.notified, self.left);
         write!(f, "flushed {flushed}, quiet {quiet}, ")?;
-        write!(f, "notices {notices}, alerts notified {notified}, left {left}")
+        write!(
+            f,
+            "notices {notices}, alerts notified {notified}, left {left}"
+        )
     }
 }

@@ -545,9 +545,7 @@ fn not_allowed(alloc: Global, name: &str) -> Result<String, AllocError> {
         "integration" => format!(in alloc;
             "the receiver has no integration of this number; they are counted from 0"
         ),
-        "none" => format!(in alloc;
-            "`none` is of every notification: leave out what says which"
-        ),
+        "none" => format!(in alloc; "`none` is of every notification: leave out what says which"),
         "never" | "count" | "at_most" => format!(in alloc;
             "one of `none`, `never`, `count` and `at_most` is enough"
         ),

@@ -95,6 +95,9 @@ impl Console {
         path: &str,
         fault: FileFault,
     ) -> ExitStatus {
+        if fault == FileFault::NoMemory {
+            return self.complain_of_memory(rt);
+        }
         match self.complain(rt, path, None, None, "file", fault.message()) {
             Ok(()) => fault.status(),
             Err(_) => self.complain_of_memory(rt),

@@ -50,8 +50,8 @@ returns-in_default-clause-refused c =
     not_open_leaves _ c.args.self.now _ (Finish c.args.finishing) _ c.not_open.ensures
     (lacks_ticket c.args.self.now _ _ _ _ refl (sym c.in_default.is ∙ c.find_ticket.ensures.first) c.not_open.ensures) (refl, refl)
 
-pub invariant_of-self-2 : goal.invariant_of-self-2
-invariant_of-self-2 c rising =
+pub invariant_of-self-2-clause-rising : goal.invariant_of-self-2-clause-rising
+invariant_of-self-2-clause-rising c rising =
     let was = c.args.self.now.tickets.items in
     let items = subst (λ r. OnSome r (c.remove.new.self.items ≡ remove was c.in-Some.index)) c.unwrap-own.ensures c.remove.ensures.items in
     rising-left was c.remove.new.self.items c.in-Some.index items (c.args.self.now.rising rising)

@@ -29,7 +29,7 @@ returns-in_default-clause-refused c =
     not_open_leaves _ c.args.self.now _ (Report c.args.reporting) _ c.not_open.ensures
     (inl (lacks_ticket c.args.self.now _ _ _ _ refl (sym c.in_default.is ∙ c.find_ticket.ensures.first) c.not_open.ensures)) (refl, refl)
 
-pub invariant_of-self-2 : goal.invariant_of-self-2
-invariant_of-self-2 c rising =
+pub invariant_of-self-2-clause-rising : goal.invariant_of-self-2-clause-rising
+invariant_of-self-2-clause-rising c rising =
     rising-recorded c.record_at.result c.args.self.now.tickets.items c.record_at.new.tickets.items c.in-Some.index c.args.reporting.integration c.args.reporting.outcome
     c.in-Some.ensures.within c.record_at.ensures.ok c.record_at.ensures.err (c.args.self.now.rising rising)

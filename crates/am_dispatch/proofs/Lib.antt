@@ -3,6 +3,7 @@ pub mod Inserting
 pub mod Leaving
 pub mod Making
 pub mod Pieces
+pub mod Rising
 pub mod Rows
 pub mod Sending
 pub mod Serving

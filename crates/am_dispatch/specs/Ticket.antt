@@ -1,5 +1,5 @@
 -- Ticket: the JSON tokens of what is answered about the open flushes.
-use Rattle.std.specs.Prelude.{◌≡◌, ℕ, ◌==◌, List, ◌∷◌, ◌++◌, Some, None, codes, slice_get, slice_set}
+use Rattle.std.specs.Prelude.{◌≡◌, ℕ, Bool, true, ◌==◌, ◌&&◌, nat_lt, List, [], ◌∷◌, ◌++◌, map, Some, None, codes, slice_get, slice_set}
 use Rattle.std.specs.List.{position}
 use Rattle.json.specs.Token.{Token, key}
 use Rattle.am_retry.specs.declared.outcome.Outcome.{Outcome}
@@ -12,6 +12,16 @@ use Rattle.am_lines.specs.Answer.{object, array}
 use Rattle.am_lines.specs.Record.{report_tokens}
 use Rattle.am_lines.specs.Reply.{flush_members}
 use Rattle.am_dispatch.specs.declared.ticket.TheConstants.{BOARD_ID}
+
+-- whether each of these numbers is below the next
+abbrev pub are_rising : List ℕ → Bool
+are_rising [] = true
+are_rising (m ∷ []) = true
+are_rising (m ∷ (n ∷ ns)) = nat_lt m n && are_rising (n ∷ ns)
+
+-- the numbers of tickets
+abbrev pub numbers : List TicketData → List ℕ
+numbers tickets = map (λ t. t.number) tickets
 
 -- the report of how the sending to an integration ended. How often it was attempted, and until when, isn't answered
 abbrev pub report_on : TicketData → ℕ → Outcome → Report

@@ -1,11 +1,12 @@
 //! The tickets of the flushes that are open, and what is answered about them. `session` has them.
-ghost use Rattle.std.specs.Prelude.{◌≡◌, ◌<◌, ◌++◌, ◌∷◌, ◌==◌, IfErr, IfSome, None, OnErr, OnOk, Some, codes, length, slice_get, vec_len};
+ghost use Rattle.std.specs.Prelude.{◌≡◌, ◌<◌, ◌++◌, ◌∷◌, [], ◌==◌, IfErr, IfSome, IsTrue, None, OnErr, OnOk, Some, codes, length, slice_get};
+ghost use Rattle.std.specs.VecDeque.{deque_len};
 ghost use Rattle.std.specs.List.{flat_map, position};
 ghost use Rattle.json.specs.Token.{key};
 ghost use Rattle.am_lines.specs.Record.{report_tokens};
 ghost use Rattle.am_lines.specs.View.{listed};
 ghost use Rattle.am_model.specs.Ticket.{outcome_of, recorded, report_fault};
-ghost use Rattle.am_dispatch.specs.Ticket.{HasFaultAt, IsRecordedAt, report_on, reports_tokens, ticket_tokens};
+ghost use Rattle.am_dispatch.specs.Ticket.{HasFaultAt, IsRecordedAt, are_rising, numbers, report_on, reports_tokens, ticket_tokens};
 
 use am_board::fault::ReportFault;
 use am_board::notice::{Notice, Report};
@@ -17,6 +18,7 @@ use am_lines::reply::put_flush;
 use am_model::config::Config;
 use am_retry::Outcome;
 use std::alloc::AllocError;
+use std::collections::VecDeque;
 
 /// The id of each board of the program, which its tickets carry. There is one board at a time, and its tickets are spent
 /// before the next.
@@ -24,12 +26,12 @@ pub const BOARD_ID: u64 = 1;
 
 /// Records how the sending to an integration ended, in the ticket at an index.
 pub fn record_at(
-    tickets: &mut Vec<OwnTicket<BOARD_ID>>,
+    tickets: &mut VecDeque<OwnTicket<BOARD_ID>>,
     index: usize,
     integration: u32,
     outcome: Outcome,
 ) -> Result<(), ReportFault>
-    requires { index < vec_len tickets.old }
+    requires { index < deque_len tickets.old }
     ensures ok { OnOk result (IsRecordedAt tickets.old.items index integration outcome tickets.new.items) }
     ensures fault { IfErr result (HasFaultAt tickets.old.items index integration outcome) }
     ensures err { OnErr result (tickets.new.items ≡ tickets.old.items) }
@@ -59,12 +61,55 @@ fn record(
     })
 }
 
-/// Returns the index of the first ticket of a number.
-pub fn find_ticket(tickets: &[OwnTicket<BOARD_ID>], number: u64) -> Option<usize>
-    ensures within { IfSome result (λ index. index < length tickets.now) }
-    ensures first { result ≡ position (λ t. t.number == number) tickets.now }
+/// Returns the index of the first ticket of a number: by halves where the numbers rise.
+pub fn find_ticket(
+    tickets: &VecDeque<OwnTicket<BOARD_ID>>,
+    is_rising: bool,
+    number: u64,
+) -> Option<usize>
+    requires { IsTrue is_rising → IsTrue (are_rising (numbers tickets.now.items)) }
+    ensures within { IfSome result (λ index. index < length tickets.now.items) }
+    ensures first { result ≡ position (λ t. t.number == number) tickets.now.items }
 {
-    tickets.iter().position(|own| number_of(own) == number)
+    if is_rising {
+        find_by_halves(tickets, number)
+    } else {
+        tickets.iter().position(|own| number_of(own) == number)
+    }
+}
+
+/// Returns the index of the ticket of a number, where the numbers rise.
+fn find_by_halves(tickets: &VecDeque<OwnTicket<BOARD_ID>>, number: u64) -> Option<usize>
+    requires { IsTrue (are_rising (numbers tickets.now.items)) }
+    ensures within { IfSome result (λ index. index < length tickets.now.items) }
+    ensures first { result ≡ position (λ t. t.number == number) tickets.now.items }
+{
+    let mut low = 0;
+    let mut high = tickets.len();
+    while low < high {
+        let middle = low + (high - low) / 2;
+        let found = number_of(&tickets[middle]);
+        if found == number {
+            return Some(middle);
+        }
+        if found < number {
+            low = middle + 1;
+        } else {
+            high = middle;
+        }
+    }
+    None
+}
+
+/// Whether the numbers of these tickets still rise with one more of this number behind them.
+pub fn rises_with(tickets: &VecDeque<OwnTicket<BOARD_ID>>, number: u64) -> bool
+    ensures { IsTrue result → IsTrue (are_rising (numbers tickets.now.items))
+        → IsTrue (are_rising (numbers tickets.now.items ++ number ∷ [])) }
+{
+    match tickets.back() {
+        None => true,
+        Some(last) => number_of(last) < number,
+    }
 }
 
 fn number_of(own: &OwnTicket<BOARD_ID>) -> u64
@@ -91,10 +136,10 @@ fn index_of_notice(notices: &[Notice], integration: u32) -> Option<usize>
 /// Writes the flushes that are open: `{"tickets":[..]}`.
 pub fn write_tickets(
     config: &Config,
-    tickets: &[OwnTicket<BOARD_ID>],
+    tickets: &VecDeque<OwnTicket<BOARD_ID>>,
     answer: &mut Answer,
 ) -> Result<(), AllocError>
-    ensures { OnOk result (answer.new ≡ answer.old ++ listed (codes "tickets") (ticket_tokens config.now) tickets.now) }
+    ensures { OnOk result (answer.new ≡ answer.old ++ listed (codes "tickets") (ticket_tokens config.now) tickets.now.items) }
 {
     answer.open()?;
     answer.key("tickets")?;
@@ -106,13 +151,13 @@ pub fn write_tickets(
 
 fn add_tickets(
     config: &Config,
-    tickets: &[OwnTicket<BOARD_ID>],
+    tickets: &VecDeque<OwnTicket<BOARD_ID>>,
     answer: &mut Answer,
 ) -> Result<(), AllocError>
-    ensures { OnOk result (answer.new ≡ answer.old ++ flat_map (ticket_tokens config.now) tickets.now) }
+    ensures { OnOk result (answer.new ≡ answer.old ++ flat_map (ticket_tokens config.now) tickets.now.items) }
 {
-    for own in tickets {
-        write_ticket(config, own.ticket(), answer)?;
+    for i in 0..tickets.len() {
+        write_ticket(config, tickets[i].ticket(), answer)?;
     }
     Ok(())
 }

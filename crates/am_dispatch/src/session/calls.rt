@@ -1,5 +1,6 @@
 //! What a session does with what a line asks: the calls of its board, and the answers. `serve` calls `open`, `answer` and `close`.
-ghost use Rattle.std.specs.Prelude.{◌≡◌, ◌≢◌, ◌<◌, ◌++◌, [], ◌∷◌, codes, IfErr, IfOk, IsOk, IsSome, Ok, OnOk, Some, vec_capacity, vec_len};
+ghost use Rattle.std.specs.Prelude.{◌≡◌, ◌≢◌, ◌<◌, ◌++◌, [], ◌∷◌, codes, IfErr, IfOk, IsOk, IsSome, Ok, OnOk, Some};
+ghost use Rattle.std.specs.VecDeque.{deque_capacity, deque_len};
 ghost use Rattle.json.specs.Print.{print};
 ghost use Rattle.am_model.specs.Begin.{next_due};
 ghost use Rattle.am_model.specs.Records.{call_of_silence};
@@ -20,7 +21,7 @@ ghost use Rattle.am_dispatch.specs.declared.ticket.TheConstants.{BOARD_ID};
 
 use crate::row::row_of;
 use crate::session::Session;
-use crate::ticket::{BOARD_ID, find_notice, find_ticket, record_at, write_tickets};
+use crate::ticket::{BOARD_ID, find_notice, find_ticket, record_at, rises_with, write_tickets};
 use am_board::begin::Begun;
 use am_board::board::Board;
 use am_board::config::Config;
@@ -40,6 +41,7 @@ use am_lines::view::{write_due, write_list, write_outlook, write_summary};
 use am_model::views::RowView;
 use am_seed::Seed;
 use std::alloc::{AllocError, Global};
+use std::collections::VecDeque;
 use std::mem::replace;
 
 /// The pass of each call: one process makes them all.
@@ -55,7 +57,8 @@ impl Session {
         let board = open_board(alloc, seed, config)?;
         Ok(Session {
             board,
-            tickets: Vec::new(alloc),
+            tickets: VecDeque::new(alloc),
+            is_rising: true,
             seed,
         })
     }
@@ -106,7 +109,9 @@ impl Session {
     {
         let Opening { config, ignored } = requested;
         let board = open_board(alloc, self.seed, config)?;
-        finish_all(&mut self.board, replace(&mut self.tickets, Vec::new(alloc)));
+        let open = replace(&mut self.tickets, VecDeque::new(alloc));
+        self.is_rising = true;
+        finish_all(&mut self.board, open);
         put(&mut self.board, board);
         answered(write_opened(self.board.config(), &ignored, answer))
     }
@@ -196,7 +201,7 @@ impl Session {
     /// Writes the answer to a begin, and keeps its ticket where it has one.
     fn keep(&mut self, begun: Begun, answer: &mut Answer) -> Result<(), LineFault>
         requires fresh { IsFresh BOARD_ID begun }
-        requires space { vec_len self.old.tickets < vec_capacity self.old.tickets }
+        requires space { deque_len self.old.tickets < deque_capacity self.old.tickets }
         ensures answered { OnOk result (answer.new ≡ answer.old ++ reply_tokens self.old.board.config (reply_of begun)) }
         ensures untold { IfErr result (λ fault. fault ≡ LineFault.Untold) }
         ensures board { self.new.board ≡ self.old.board }
@@ -215,7 +220,7 @@ impl Session {
     /// Keeps the ticket of a flush that was begun, and writes the answer.
     fn keep_ticket(&mut self, ticket: Ticket, answer: &mut Answer) -> Result<(), LineFault>
         requires ours { ticket.board_id ≡ BOARD_ID }
-        requires space { vec_len self.old.tickets < vec_capacity self.old.tickets }
+        requires space { deque_len self.old.tickets < deque_capacity self.old.tickets }
         ensures answered { OnOk result (answer.new ≡ answer.old
             ++ flush_tokens self.old.board.config ticket.number ticket.group ticket.deadline ticket.notices) }
         ensures untold { IfErr result (λ fault. fault ≡ LineFault.Untold) }
@@ -223,7 +228,8 @@ impl Session {
         ensures tickets { self.new.tickets.items ≡ self.old.tickets.items ++ ticket ∷ [] }
     {
         let written = write_begun(self.board.config(), &ticket, answer);
-        self.tickets.push_reserved(OwnTicket::new(ticket));
+        self.is_rising = self.is_rising && rises_with(&self.tickets, ticket.number());
+        self.tickets.push_back_reserved(OwnTicket::new(ticket));
         answered(written)
     }
 
@@ -232,7 +238,7 @@ impl Session {
         ensures board { self.new.board ≡ self.old.board }
         ensures refused { IfErr result (Leaves self.old (Request.Report reporting) self.new) }
     {
-        let Some(index) = find_ticket(self.tickets.as_slice(), reporting.ticket) else {
+        let Some(index) = find_ticket(&self.tickets, self.is_rising, reporting.ticket) else {
             return Err(LineFault::not_open("/report/ticket"));
         };
         match record_at(
@@ -251,7 +257,7 @@ impl Session {
         ensures tickets { self.new.tickets.items ≡ self.old.tickets.items }
         ensures refused { IfErr result (Leaves self.old (Request.Note noting) self.new) }
     {
-        let Some(index) = find_ticket(self.tickets.as_slice(), noting.ticket) else {
+        let Some(index) = find_ticket(&self.tickets, self.is_rising, noting.ticket) else {
             return Err(LineFault::not_open("/note/ticket"));
         };
         let own = &self.tickets[index];
@@ -277,10 +283,10 @@ impl Session {
         ensures answered { OnOk result (Finishes self.old self.new finishing answer.old answer.new) }
         ensures refused { IfErr result (Leaves self.old (Request.Finish finishing) self.new) }
     {
-        let Some(index) = find_ticket(self.tickets.as_slice(), finishing.ticket) else {
+        let Some(index) = find_ticket(&self.tickets, self.is_rising, finishing.ticket) else {
             return Err(LineFault::not_open("/finish/ticket"));
         };
-        let own = self.tickets.remove(index);
+        let own = self.tickets.remove(index).unwrap();
         let rows = self.board.finished_rows(alloc, own.ticket(), finishing.now);
         match self.board.finish_own(PASS, own, finishing.now) {
             Ok(finished) => self.answer_finished(finished, rows, answer),
@@ -406,7 +412,7 @@ impl Session {
             ++ listed (codes "tickets") (ticket_tokens self.now.board.config) self.now.tickets.items) }
         ensures refused { IfErr result (λ fault. fault ≡ LineFault.NoMemory) }
     {
-        Ok(write_tickets(self.board.config(), self.tickets.as_slice(), answer)?)
+        Ok(write_tickets(self.board.config(), &self.tickets, answer)?)
     }
 
     fn show_outlook(&self, alloc: Global, now: u64, answer: &mut Answer) -> Result<(), LineFault>
@@ -492,6 +498,7 @@ impl Session {
         let Session {
             mut board,
             tickets,
+            is_rising: _,
             seed: _,
         } = self;
         finish_all(&mut board, tickets);
@@ -539,12 +546,13 @@ fn open_board(alloc: Global, seed: Seed, config: Config) -> Result<Board, LineFa
 }
 
 /// Finishes these flushes with what was reported.
-fn finish_all(board: &mut Board, tickets: Vec<OwnTicket<BOARD_ID>>)
+fn finish_all(board: &mut Board, tickets: VecDeque<OwnTicket<BOARD_ID>>)
     requires { board.old.id ≡ BOARD_ID }
 {
     let mut left = tickets;
     while !left.is_empty() {
-        let _ = board.finish_own(PASS, left.remove(0), 0);
+        let own = left.pop_front().unwrap();
+        let _ = board.finish_own(PASS, own, 0);
     }
     left.destroy_empty();
 }

@@ -7,5 +7,5 @@ use Rattle.am_dispatch.proofs.ticket.write_tickets.Goals as goal
 
 pub returns : goal.returns
 returns c =
-    last_piece c.close.result c.close.new.self c.close_list.new.self (end_object ∷ []) (c.args.answer.now ++ listed (codes "tickets") (ticket_tokens c.args.config.now) c.args.tickets.now)
+    last_piece c.close.result c.close.new.self c.close_list.new.self (end_object ∷ []) (c.args.answer.now ++ listed (codes "tickets") (ticket_tokens c.args.config.now) c.args.tickets.now.items)
     (rw (c.in_ok-close_list.ensures, c.in_ok-add_tickets.ensures, c.in_ok-open_list.ensures, c.in_ok-key.ensures, c.in_ok-open.ensures) (simp append_assoc cc)) c.close.ensures

@@ -13,14 +13,14 @@ answer_noted-requires c =
 pub returns-in-Ok-clause-answered : goal.returns-in-Ok-clause-answered
 returns-in-Ok-clause-answered c =
     notes _ _ _ _ _ _ _ _ _ _ _
-    (first_ticket _ _ _ _ _ c.as_slice.ensures.value c.in-Some.ensures.first
-    (held_there _ _ _ _ c.as_slice.ensures.value c.in-Some.ensures.within c.index-own.ensures)) c.in-Some-find_notice.ensures c.ticket-ticket.ensures.ticket c.in-Ok.ensures.noted
+    (first_ticket _ _ _ _ _ refl c.in-Some.ensures.first
+    (held_there _ _ _ _ refl c.in-Some.ensures.within c.index-own.ensures)) c.in-Some-find_notice.ensures c.ticket-ticket.ensures.ticket c.in-Ok.ensures.noted
     c.noted_row-row.ensures c.answer_noted.ensures.answered
 
 pub returns-in-Ok-clause-refused : goal.returns-in-Ok-clause-refused
 returns-in-Ok-clause-refused c =
-    let at = first_ticket _ _ _ _ _ c.as_slice.ensures.value c.in-Some.ensures.first
-    (held_there _ _ _ _ c.as_slice.ensures.value c.in-Some.ensures.within c.index-own.ensures) in
+    let at = first_ticket _ _ _ _ _ refl c.in-Some.ensures.first
+    (held_there _ _ _ _ refl c.in-Some.ensures.within c.index-own.ensures) in
     let row = row_noted c.args.self.now.board c.ticket-ticket.result.now c.in-Some-find_notice.notice c.args.noting.now c.args.noting.integration c.in-Ok.ensures.cause in
     untold_all _ _ _ (Note c.args.noting) c.answer_noted.ensures.untold (λ e. absurd (cc)) (
       noted_tokens c.note.new.self.config row.0,
@@ -29,8 +29,8 @@ returns-in-Ok-clause-refused c =
 
 pub returns-in-Err-clause-refused : goal.returns-in-Err-clause-refused
 returns-in-Err-clause-refused c =
-    let at = first_ticket _ _ _ _ _ c.as_slice.ensures.value c.in-Some.ensures.first
-    (held_there _ _ _ _ c.as_slice.ensures.value c.in-Some.ensures.within c.index-own.ensures) in
+    let at = first_ticket _ _ _ _ _ refl c.in-Some.ensures.first
+    (held_there _ _ _ _ refl c.in-Some.ensures.within c.index-own.ensures) in
     unmade_leaves _ c.args.self.now _ (Note c.args.noting) (note_unmade _ _ c.of_note-in-Err.ensures)
     (inr (inr (note_refused c.args.self.now c.args.noting _ _ _ _ _ _ at c.in-Some-find_notice.ensures c.ticket-ticket.ensures.ticket c.in-Err.ensures.cause c.of_note-in-Err.ensures)))
     (c.in-Err.ensures.refused, refl)
@@ -38,12 +38,12 @@ returns-in-Err-clause-refused c =
 pub returns-in_default-clause-refused : goal.returns-in_default-clause-refused
 returns-in_default-clause-refused c =
     not_open_leaves _ c.args.self.now _ (Note c.args.noting) _ c.not_open.ensures
-    (inl (lacks_ticket c.args.self.now _ _ _ _ c.as_slice.ensures.value (sym c.in_default.is ∙ c.find_ticket.ensures.first) c.not_open.ensures)) (refl, refl)
+    (inl (lacks_ticket c.args.self.now _ _ _ _ refl (sym c.in_default.is ∙ c.find_ticket.ensures.first) c.not_open.ensures)) (refl, refl)
 
 pub returns-in_default-find_notice-clause-refused : goal.returns-in_default-find_notice-clause-refused
 returns-in_default-find_notice-clause-refused c =
-    let at = first_ticket _ _ _ _ _ c.as_slice.ensures.value c.in-Some.ensures.first
-    (held_there _ _ _ _ c.as_slice.ensures.value c.in-Some.ensures.within c.index-own.ensures) in
+    let at = first_ticket _ _ _ _ _ refl c.in-Some.ensures.first
+    (held_there _ _ _ _ refl c.in-Some.ensures.within c.index-own.ensures) in
     unmade_leaves _ c.args.self.now _ (Note c.args.noting) (note_unmade NotReady _ c.of_note.ensures)
     (inr (inl record {
       index = _;

@@ -1,4 +1,6 @@
-use Rattle.std.proofs.Common.{◌≡◌, ◌∙◌, [], ap, refl}
+use Rattle.std.proofs.Common.{◌≡◌, ◌∙◌, List, [], true, ap, refl}
+use Rattle.am_model.specs.Ticket.{TicketData}
+use Rattle.am_dispatch.specs.Ticket.{are_rising, numbers}
 use Rattle.am_board.specs.History.{BoardData}
 use Rattle.am_lines.specs.declared.request.Request.TheVariants.{Open}
 use Rattle.am_lines.specs.Reply.{opened_tokens}
@@ -8,18 +10,20 @@ use Rattle.am_dispatch.proofs.session.Session.reopen.Goals as goal
 
 pub returns-clause-answered : goal.returns-clause-answered
 returns-clause-answered c =
-    let none : c.replace.new.dest.items ≡ [] = rw c.replace.ensures.after c.new.ensures.items in
-    opens c.answered.result c.write_opened.result c.put.new.index c.replace.new.dest.items c.args.requested c.config.result.now c.args.answer.now c.write_opened.new.answer c.answered.ensures.ok
+    let none : c.replace-open.new.dest.items ≡ [] = rw c.replace-open.ensures.after c.new.ensures.items in
+    opens c.answered.result c.write_opened.result c.put.new.index c.replace-open.new.dest.items c.args.requested c.config.result.now c.args.answer.now c.write_opened.new.answer c.answered.ensures.ok
     (c.put.ensures ∙ c.in_ok-board.ensures.board) c.config.ensures.config none c.write_opened.ensures
 
 pub returns-clause-refused : goal.returns-clause-refused
 returns-clause-refused c =
-    let none : c.replace.new.dest.items ≡ [] = rw c.replace.ensures.after c.new.ensures.items in
+    let none : c.replace-open.new.dest.items ≡ [] = rw c.replace-open.ensures.after c.new.ensures.items in
     untold_all _ c.args.self.now (record {
       board = c.put.new.index;
-      tickets = c.replace.new.dest;
+      tickets = c.replace-open.new.dest;
+      is_rising = true;
       seed = c.args.self.now.seed;
       ours = ap (λ (b : BoardData). b.id) (c.put.ensures ∙ c.in_ok-board.ensures.board);
+      rising = λ _. ap (λ (ts : List TicketData). are_rising (numbers ts)) none;
     }) (Open c.args.requested) c.answered.ensures.err (λ e. absurd (cc)) (opened_tokens c.args.requested.config c.args.requested.ignored, (c.put.ensures ∙ c.in_ok-board.ensures.board, none, refl))
 
 pub returns-in_err-board-clause-refused : goal.returns-in_err-board-clause-refused

@@ -1,4 +1,5 @@
-//! The run of a rehearsal: plays what the value of a story asks for, and writes the output. `play` calls it.
+//! The run of a rehearsal. `play_value` plays what the value of a story asks for, and writes the output; `play_or_refuse` plays, and
+//! writes nothing.
 ghost use Rattle.std.specs.Prelude.{◌≡◌, ◌≢◌, ◌<◌, ◌↔◌, false, true};
 ghost use Rattle.std.specs.Prelude.{IfErr, IfOk, IsTrue, OnOk, string_bytes};
 ghost use Rattle.serde_json.specs.View.{view};
@@ -74,8 +75,9 @@ impl Judgement {
 /// Plays the rehearsal that a story's value asks for, and writes its output to the sink: on `Ok` and on `Unmet`, once and whole, the
 /// output that is asked for, of what the rehearsal plays to (`PlaysThrough`), one dispatcher after another. It is `Ok` where every
 /// expectation of it is met, and `Unmet` where one isn't. Configuration, reloads, restarts, alerts, silences, outages, output, start,
-/// end, maintenance and expectations are those of the value, or those of `changes`. Of a configuration of Alertmanager no clause says
-/// that it is the one of its file.
+/// end, maintenance and expectations are those of the value, or those of `changes`. Of a configuration of Alertmanager the
+/// receivers, the inhibition rules and the tree of routes are those of the value. No clause says so of the names of its routes, and
+/// of its time intervals.
 ///
 /// A value is refused at a pointer, or as `AllRefused`, only where it asks for nothing that can be played, or as `Full` (`Refuses`). It
 /// is `Full` only where it asks for more than a limit lets be played, or where a log row that a new dispatcher takes over doesn't fit.

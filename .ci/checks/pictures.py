@@ -166,7 +166,7 @@ def wanted_marks(lines: str) -> dict[Lane, list[Mark]]:
             reason = line["reason"]
             kind = KINDS.get(reason, "a reason that isn't known") if line["event"] == "notice" else "x"
             firing, resolved = (frozenset(map(label_set, line[it])) for it in ("firing", "resolved"))
-            lane = label_set(line["group"]), line["route"], f"{line['receiver']} {line['integration']}".translate(UNFIT)
+            lane = label_set(line["group"]), line["route"], f"{line['receiver']} {line['integration_name']}".translate(UNFIT)
             wanted.setdefault(lane, []).append(Mark(line["time"], kind, line["outcome"], line["attempts"], reason, firing, resolved))
     return wanted
 

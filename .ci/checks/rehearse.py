@@ -217,12 +217,12 @@ def dispatchers(told: Report, programs: Programs) -> None:
 LABELS = r'\{(?:[a-zA-Z_0-9]+="(?:[^"\\]|\\.)*",?)*\}'
 REPORTED = re.compile(rf"notice \d+ (\w+):({LABELS}) (\w+/\d+) (\w+) attempts=(\d+) firing=\[(.*)\] resolved=\[(.*)\]")
 DELIVERED = re.compile(
-    rf".{{12}}  notice  (\w+)({LABELS}) -> \S+ (\w+/\d+) delivered(?: after (\d+) attempts since [^ ,]+)?"
+    rf".{{12}}  notice  (\w+)({LABELS}) -> (\S+ \w+\[\d+\]) delivered(?: after (\d+) attempts since [^ ,]+)?"
     r"(?:, past its deadline [^ ]+, at which Alertmanager cuts it off)?: "
     rf"[^;]*(?:; firing (.*?))?(?:; resolved (.*))?"
 )
-LOST = re.compile(rf".{{12}}  failed  (\w+)({LABELS}) -> \S+ (\w+/\d+) (\w+) after (\d+) attempts? since .*")
-UNSENT = re.compile(rf".{{12}}  quiet   (\w+)({LABELS}) -> \S+ (\w+/\d+): all resolved, which it isn't sent")
+LOST = re.compile(rf".{{12}}  failed  (\w+)({LABELS}) -> (\S+ \w+\[\d+\]) (\w+) after (\d+) attempts? since .*")
+UNSENT = re.compile(rf".{{12}}  quiet   (\w+)({LABELS}) -> (\S+ \w+\[\d+\]): all resolved, which it isn't sent")
 # A notification: route, labels, integration, outcome, attempts, alerts that fire and that are resolved.
 Notice = tuple[str, str, str, str, int, list[str], list[str]]
 
@@ -243,18 +243,28 @@ def reported(text: str) -> list[Notice]:
     return sorted(notices)
 
 
-def rehearsed(timeline: str) -> list[Notice]:
+def positions(scenario: Json) -> dict[str, str]:
+    """What a report calls an integration, by its receiver and name: its kind and its position among all."""
+    found = {}
+    for receiver in scenario["config"]["receivers"]:
+        kinds = [it["kind"] for it in receiver["integrations"]]
+        for position, kind in enumerate(kinds):
+            found[f"{receiver['name']} {kind}[{kinds[:position].count(kind)}]"] = f"{kind}/{position}"
+    return found
+
+
+def rehearsed(timeline: str, integrations: dict[str, str]) -> list[Notice]:
     """The notices of a rehearsal's timeline, in the same form."""
     notices: list[Notice] = []
     for line in timeline.splitlines():
         if found := DELIVERED.fullmatch(line):
-            route, labels, integration, attempts, firing, resolved = found.groups()
-            notices.append((route, labels, integration, "delivered", int(attempts or 1), sets(firing), sets(resolved)))
+            route, labels, name, attempts, firing, resolved = found.groups()
+            notices.append((route, labels, integrations[name], "delivered", int(attempts or 1), sets(firing), sets(resolved)))
         elif found := LOST.fullmatch(line):
-            route, labels, integration, outcome, attempts = found.groups()
-            notices.append((route, labels, integration, outcome, int(attempts), [], []))
+            route, labels, name, outcome, attempts = found.groups()
+            notices.append((route, labels, integrations[name], outcome, int(attempts), [], []))
         elif found := UNSENT.fullmatch(line):
-            notices.append((found[1], found[2], found[3], "nothing", 0, [], []))
+            notices.append((found[1], found[2], integrations[found[3]], "nothing", 0, [], []))
     return sorted(notices)
 
 
@@ -268,8 +278,9 @@ def notices(told: Report, programs: Programs) -> None:
     program, scenarios = programs["am_rehearse"], sorted(EXAMPLES.glob("*.txt"))
     told.at_least(9, len(scenarios), "scenarios")
     for scenario in scenarios:
-        report_of, timeline = scenario.read_text(), text_of(scenario.stem)
-        told.same(scenario.stem, as_lines(reported(report_of)), as_lines(rehearsed(timeline)), "am-run", "am-rehearse")
+        report_of, integrations = scenario.read_text(), positions(json.loads(scenario.with_suffix(".json").read_text()))
+        timeline = rehearsed(text_of(scenario.stem), integrations)
+        told.same(scenario.stem, as_lines(reported(report_of)), as_lines(timeline), "am-run", "am-rehearse")
         told.holds(f"{scenario.stem}, its notices are found", bool(reported(report_of)))
     hourly, often = value_of(program, "repeat-of-an-hour"), value_of(program, "repeat-of-an-hour")
     often["config"]["route"]["repeat_interval"] = "5m"

@@ -1,4 +1,4 @@
-//! Matchers that are written as one text, and what is wrong with one, in words. `am_rehearse` and `console` call it.
+//! Matchers that are written as one text, and what is wrong with one, in words.
 use am_alerts::matcher::{Matcher, MatcherFault};
 use am_cli::fault::FaultKind;
 use am_cli::matcher_text::parts_of_text;

@@ -1,5 +1,5 @@
 -- ExpectationReport: the text on each expectation, by all playbacks of a rehearsal.
-use Rattle.std.specs.Prelude.{ℕ, ◌+◌, ◌-◌, Bool, true, false, ◌&&◌, ◌==◌, nat_le, nat_lt, List, [], ◌∷◌, ◌++◌, codes, decimal, find}
+use Rattle.std.specs.Prelude.{ℕ, ◌+◌, ◌-◌, Bool, true, false, ◌&&◌, ◌==◌, nat_le, nat_lt, List, [], ◌∷◌, ◌++◌, codes, decimal}
 use Rattle.std.specs.Prelude.{Option, Some, None, slice_get, if◌then◌else◌}
 use Rattle.std.specs.List.{flat_map, join_by, list_any}
 use Rattle.std.specs.Option.{option_and_then, option_map_or, option_or}
@@ -11,7 +11,7 @@ use Rattle.am_alerts.specs.declared.matcher.Operator.{Operator}
 use Rattle.am_alerts.specs.declared.matcher.Operator.TheVariants.{Equal, NotEqual, Like, NotLike}
 use Rattle.am_model.specs.declared.config.Config.{Config}
 use Rattle.am_model.specs.declared.config.Integration.{Integration}
-use Rattle.am_model.specs.Configured.{route_of, integration_text}
+use Rattle.am_model.specs.Configured.{integrations_named, route_of}
 use Rattle.am_model.specs.Notice.{NoticeData}
 use Rattle.am_terms.specs.declared.event.Event.{Event}
 use Rattle.am_terms.specs.declared.expectation.Amount.{Amount}
@@ -24,6 +24,7 @@ use Rattle.am_judge.specs.declared.expectation_report.nearest.Alike.TheVariants.
 use Rattle.am_judge.specs.Expectation.{are_as_wanted, count_fitting, fits, has_as_wanted, has_content, has_in_scope, is_for_integration}
 use Rattle.am_terms.specs.Expectation.{wanted_words}
 use Rattle.am_judge.specs.Expectation.{is_for_receiver, is_in_scope, is_met, is_sent_as_wanted}
+use Rattle.am_timeline.specs.IntegrationName.{integration_name, target_name}
 use Rattle.am_timeline.specs.Shown.{text_shown, sets_shown}
 use Rattle.am_timeline.specs.Playback.{PlaybackData, SentData, is_delivered, sent_of}
 use Rattle.am_timeline.specs.Table.{count_text}
@@ -87,31 +88,55 @@ exact_text wanted = sets_text (codes "; firing ") wanted.firing ++ sets_text (co
 unfoldable pub wanted_text : Content → List ℕ
 wanted_text wanted = has_text wanted ++ exact_text wanted ++ wanted_reason_text wanted.reason
 
--- the integration at a position of the receiver of this name, if a configuration has it
-abbrev pub integration_of : Config → List ℕ → ℕ → Option Integration
-integration_of config name position =
-    option_and_then (λ r. slice_get r.integrations position) (find (λ r. bytes_eq r.name name) config.receivers)
+-- whether an integration is of this kind, if one is said
+abbrev pub is_of_kind : Option (List ℕ) → Integration → Bool
+is_of_kind kind i = option_map_or (λ k. bytes_eq i.kind k) kind true
 
--- the kind of that integration in the first playback whose configuration has it; nothing where none has
-abbrev pub kind_of : List PlaybackData → List ℕ → ℕ → List ℕ
-kind_of [] name position = []
-kind_of (p ∷ ps) name position =
-    option_map_or (λ i. i.kind) (integration_of p.config name position) (kind_of ps name position)
+-- whether these integrations have one of the kind at a position
+abbrev pub has_at : Option (List ℕ) → ℕ → List Integration → Bool
+has_at kind position integrations = option_map_or (is_of_kind kind) (slice_get integrations position) false
 
--- a kind, and the position if it is said
-abbrev pub kind_text : List ℕ → Option ℕ → List ℕ
-kind_text kind None = text_shown kind
-kind_text kind (Some position) = text_shown kind ++ codes "/" ++ decimal position
+-- the integrations of the receiver of this name in the first playback whose configuration has that one there; none where none has
+abbrev pub integrations_with : List PlaybackData → List ℕ → Option (List ℕ) → ℕ → List Integration
+integrations_with [] name kind position = []
+integrations_with (p ∷ ps) name kind position =
+    if has_at kind position (integrations_named name p.config.receivers) then integrations_named name p.config.receivers
+    else integrations_with ps name kind position
+
+-- a kind, if it is said
+abbrev pub kind_text : Option (List ℕ) → List ℕ
+kind_text None = []
+kind_text (Some kind) = codes " " ++ text_shown kind
+
+-- a position, if it is said
+abbrev pub position_text : Option ℕ → List ℕ
+position_text None = []
+position_text (Some position) = codes " at position " ++ decimal position
+
+-- the name of the integration at a position of these; where none is there, its kind, if that is said, and its position
+abbrev pub named_part : Option Integration → List Integration → Option (List ℕ) → ℕ → List ℕ
+named_part None integrations kind position = kind_text kind ++ position_text (Some position)
+named_part (Some _) integrations kind position = codes " " ++ integration_name integrations position
+
+-- the name of the integration at a position of these, or else its kind, if that is said, and its position
+abbrev pub named_text : List Integration → Option (List ℕ) → ℕ → List ℕ
+named_text integrations kind position = named_part (slice_get integrations position) integrations kind position
+
+-- which integration of the receiver of this name
+abbrev pub which_text : List PlaybackData → List ℕ → Option (List ℕ) → Option ℕ → List ℕ
+which_text playbacks name kind None = kind_text kind
+which_text playbacks name kind (Some position) = named_text (integrations_with playbacks name kind position) kind position
+
+-- which integration of any receiver; nothing where neither its kind nor its position is said
+abbrev pub any_text : Option (List ℕ) → Option ℕ → List ℕ
+any_text None None = []
+any_text None (Some position) = codes " -> any" ++ position_text (Some position)
+any_text (Some kind) position = codes " -> any" ++ kind_text (Some kind) ++ position_text position
 
 -- whom an expectation is about
 abbrev pub about_text : List PlaybackData → Option (List ℕ) → Option (List ℕ) → Option ℕ → List ℕ
-about_text playbacks None None None = []
-about_text playbacks None None (Some position) = codes " -> any/" ++ decimal position
-about_text playbacks None (Some kind) position = codes " -> any " ++ kind_text kind position
-about_text playbacks (Some name) None None = codes " -> " ++ text_shown name
-about_text playbacks (Some name) None (Some position) =
-    codes " -> " ++ text_shown name ++ codes " " ++ kind_of playbacks name position ++ codes "/" ++ decimal position
-about_text playbacks (Some name) (Some kind) position = codes " -> " ++ text_shown name ++ codes " " ++ kind_text kind position
+about_text playbacks None kind position = any_text kind position
+about_text playbacks (Some name) kind position = codes " -> " ++ text_shown name ++ which_text playbacks name kind position
 
 -- the span of an expectation
 abbrev pub span_text : TimeFormatData → Expectation → List ℕ
@@ -139,7 +164,7 @@ got_alerts_text n = alerts_text (codes "firing ") n.firing ++ alerts_text (resol
 -- who got a notice
 unfoldable pub getter_text : Config → NoticeData → List ℕ
 getter_text config n =
-    codes " -> " ++ text_shown (route_of config n.group).receiver ++ codes " " ++ integration_text config n.group n.integration
+    codes " -> " ++ text_shown (route_of config n.group).receiver ++ codes " " ++ target_name config n.group n.integration
 
 -- by how much a time is before the first of a span, or behind the last; nothing where it is in the span
 abbrev pub early_text : ℕ → ℕ → List ℕ

@@ -20,8 +20,8 @@ pub(crate) struct StoryAlert {
     pub(crate) labels: Labels,
     /// When it fires.
     pub(crate) spans: Vec<Span>,
-    /// Whether a delivered notice has it.
-    pub(crate) is_notified: bool,
+    /// Whether an integration missed a span of it, or the end of one.
+    pub(crate) is_missed: bool,
     /// Whether another alert is inhibited because of it.
     pub(crate) is_source: bool,
     /// Whether a group of it is drawn.
@@ -68,7 +68,7 @@ impl Alerts {
         self.list.push(StoryAlert {
             labels: labels.copy(self.alloc)?,
             spans: Vec::new(self.alloc),
-            is_notified: false,
+            is_missed: false,
             is_source: false,
             is_drawn: false,
             dispatchers: 0,
@@ -88,11 +88,11 @@ impl Alerts {
         }
     }
 
-    /// Notes that a delivered notice has an alert.
-    pub(crate) fn notify(&mut self, labels: &Labels) {
+    /// Notes that an integration missed a span of an alert, or the end of one.
+    pub(crate) fn miss(&mut self, labels: &Labels) {
         if let Some(index) = self.index_of(labels) {
             if let Some(alert) = self.list.get_mut(index) {
-                alert.is_notified = true;
+                alert.is_missed = true;
             }
         }
     }

@@ -93,19 +93,11 @@ fn push_band<C: TimeFormat>(
         pen.push_time(span.from, out)?;
         if span.to > span.from {
             out.push_str(" to ")?;
-            push_end(pen, span.to, out)?;
+            pen.push_until(span.to, out)?;
         }
         out.push_str("</b> ")?;
     }
     out.push_str("</p>\n")
-}
-
-/// Adds when a span ends: with its date where that is after all that the page shows.
-fn push_end<C: TimeFormat>(pen: &Pen<'_, C>, at: u64, out: &mut String) -> Result<(), AllocError> {
-    if at > pen.axis.end() {
-        return pen.push_whole_time(at, out);
-    }
-    pen.push_time(at, out)
 }
 
 fn change_band(alloc: Global, change: &Change<'_>) -> Result<Band, AllocError> {

@@ -99,7 +99,7 @@ impl Totals {
 
     fn add_alert(&mut self, alert: &StoryAlert) {
         self.alerts = self.alerts.saturating_add(1);
-        if !alert.is_notified {
+        if alert.is_missed {
             self.undelivered = self.undelivered.saturating_add(1);
         }
     }

@@ -220,10 +220,10 @@ fn push_member<C: TimeFormat>(
         push_with(" id=\"a", member.alert as u64, out)?;
         out.push_str("\"")?;
     }
-    out.push_str(if alert.is_notified {
-        ">"
-    } else {
+    out.push_str(if alert.is_missed {
         " class=\"u\">"
+    } else {
+        ">"
     })?;
     push_own_labels(pen.alloc, &alert.labels, &fold.labels, out)?;
     push_spans(pen, alert, out)?;
@@ -309,7 +309,7 @@ fn push_cause<C: TimeFormat>(
     match cause {
         Cause::Silenced { until } => {
             out.push_str(" silenced until ")?;
-            pen.push_time(until, out)
+            pen.push_until(until, out)
         }
         Cause::Inhibited { rule, by } => {
             out.push_str(" inhibited by ")?;

@@ -24,7 +24,7 @@ use am_mute::mute::MuteCause;
 use am_seed::Seed;
 use am_terms::event::{Event, PreviewedBegin};
 use am_timeline::filtered::Filter;
-use am_timeline::playback::{Playback, is_put};
+use am_timeline::playback::Playback;
 use std::alloc::{AllocError, Global};
 use std::collections::HashMap;
 
@@ -105,6 +105,9 @@ impl Gathered {
             }
             self.add_playback(position, playback, story.filter)?;
         }
+        for labels in story.missed {
+            self.alerts.miss(labels);
+        }
         Ok(())
     }
 
@@ -129,7 +132,7 @@ impl Gathered {
         self.add_events(&mut dispatcher, playback.events())
     }
 
-    /// Adds the alerts of a history, and what its log has already.
+    /// Adds the alerts of a history.
     fn add_records(&mut self, dispatcher: &mut Dispatcher<'_>) -> Result<(), AllocError> {
         for record in dispatcher.history {
             self.add_record(dispatcher, record)?;
@@ -144,24 +147,7 @@ impl Gathered {
     ) -> Result<(), AllocError> {
         match &record.call {
             Call::Insert { now: _, alert } => self.insert(dispatcher, alert),
-            Call::Load { now: _, row } if is_put(&record.reply) => {
-                self.notify_sets(row.get().firing.as_slice());
-                self.notify_sets(row.get().resolved.as_slice());
-                Ok(())
-            }
             _ => Ok(()),
-        }
-    }
-
-    fn notify_sets(&mut self, sets: &[Labels]) {
-        for labels in sets {
-            self.alerts.notify(labels);
-        }
-    }
-
-    fn notify_alerts(&mut self, alerts: &[Alert]) {
-        for alert in alerts {
-            self.alerts.notify(alert.labels());
         }
     }
 
@@ -451,10 +437,6 @@ impl Gathered {
         notice: &Notice,
         sent: SentItem,
     ) -> Result<(), AllocError> {
-        if sent.is_delivered() {
-            self.notify_alerts(notice.firing.as_slice());
-            self.notify_alerts(notice.resolved.as_slice());
-        }
         let position = self.lane_for(dispatcher, notice.group.copy(self.alloc)?)?;
         match self.lanes.get_mut(position) {
             None => Ok(()),

@@ -9,7 +9,7 @@ pub(crate) struct Lane {
     pub(crate) fold: usize,
     pub(crate) route: String,
     pub(crate) receiver: String,
-    /// The kind and the position of each integration.
+    /// The name of each integration.
     pub(crate) integrations: Vec<String>,
     /// Whether the filter wants its receiver and its route.
     pub(crate) is_named: bool,

@@ -109,7 +109,7 @@ fn push_quiet<C: TimeFormat>(
         QuietCause::NothingFiring => out.push_str(" nothing fires")?,
         QuietCause::RouteMuted { until } => {
             out.push_str(" route muted until ")?;
-            pen.push_time(until, out)?;
+            pen.push_until(until, out)?;
         }
     }
     if quiet.flushes.count > 1 {

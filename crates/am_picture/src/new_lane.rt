@@ -3,6 +3,7 @@ use crate::lane::{Flushes, Lane, nothing_quiet};
 use am_model::config::Config;
 use am_model::group::GroupName;
 use am_timeline::filtered::Filter;
+use am_timeline::integration_name::push_name;
 use std::alloc::{AllocError, Global};
 
 /// Returns which lane of a fold a group has: its route, receiver and integrations.
@@ -62,16 +63,17 @@ fn is_named(filter: &Filter, route: &str, receiver: &str) -> bool {
     wants_route && wants_receiver
 }
 
-/// The kind and the position of each integration of a group's receiver.
+/// The name of each integration of a group's receiver.
 fn integrations_of(
     alloc: Global,
     config: &Config,
     group: &GroupName,
 ) -> Result<Vec<String>, AllocError> {
+    let integrations = config.integrations_of(group);
     let mut names = Vec::new(alloc);
-    for position in 0..config.integrations_of(group).len() {
+    for position in 0..integrations.len() {
         let mut name = String::new(alloc);
-        config.push_integration(group, position, &mut name)?;
+        push_name(integrations, position, &mut name)?;
         names.push(name)?;
     }
     Ok(names)

@@ -75,7 +75,7 @@ impl State {
         }
         for member in fold.members.as_slice() {
             if let Some(alert) = gathered.alerts.as_slice().get(member.alert) {
-                if !alert.is_notified {
+                if alert.is_missed {
                     state.undelivered = state.undelivered.saturating_add(1);
                 }
             }

@@ -74,6 +74,14 @@ impl<'c, C: TimeFormat> Pen<'c, C> {
         self.clock.push_time(at, out)
     }
 
+    /// Adds the time at which something ends: with its date where that is after all that the page shows.
+    pub(crate) fn push_until(&self, at: u64, out: &mut String) -> Result<(), AllocError> {
+        if at > self.axis.end() {
+            return self.push_whole_time(at, out);
+        }
+        self.push_time(at, out)
+    }
+
     /// Adds two times.
     pub(crate) fn push_span(&self, from: u64, to: u64, out: &mut String) -> Result<(), AllocError> {
         self.push_time(from, out)?;

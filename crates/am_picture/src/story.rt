@@ -1,4 +1,5 @@
 //! `Story`: what a page is drawn from. `am_rehearse` makes one.
+use am_alerts::labels::Labels;
 use am_terms::rehearsal::Outage;
 use am_timeline::filtered::Filter;
 use am_timeline::playback::Playback;
@@ -15,6 +16,8 @@ pub struct Story<'s> {
     pub outages: &'s [Outage],
     /// What became of the expectations.
     pub verdicts: &'s [Verdict],
+    /// The label sets with a span of firing that an integration missed, or of which it missed the end.
+    pub missed: &'s [Labels],
     /// The groups that are drawn.
     pub filter: &'s Filter,
     pub texts: Texts<'s>,
@@ -49,6 +52,6 @@ pub struct Verdict {
 pub struct Texts<'s> {
     /// The tables of receivers.
     pub receivers: &'s str,
-    /// The alerts that no delivered notice has.
+    /// The spans of firing that an integration missed.
     pub undelivered: &'s str,
 }

@@ -22,7 +22,7 @@ use am_terms::rehearsal::Outage;
 use am_timeline::playback::Playback;
 use am_timeline::shown::push_text;
 use am_timeline::table::table_text;
-use am_undelivered::report::undelivered_text;
+use am_undelivered::report::undelivered;
 use std::alloc::{AllocError, Global};
 
 /// What the command line wants to see, and the outages of the story, which a page shows.
@@ -147,7 +147,7 @@ fn page_of<C: TimeFormat>(alloc: Global, scene: Scene<'_>, clock: &C) -> Result<
     let changes = changes_with(alloc, scene.heads, lines.as_slice())?;
     let verdicts = verdicts_of(alloc, scene, clock)?;
     let receivers = tables_of(alloc, scene, lines.as_slice(), clock)?;
-    let undelivered = undelivered_text(alloc, scene.playbacks, clock)?;
+    let undelivered = undelivered(alloc, scene.playbacks, clock)?;
     let options = scene.wanted.options;
     let story = Story {
         names: Names {
@@ -161,10 +161,11 @@ fn page_of<C: TimeFormat>(alloc: Global, scene: Scene<'_>, clock: &C) -> Result<
         changes: changes.as_slice(),
         outages: scene.wanted.outages,
         verdicts: verdicts.as_slice(),
+        missed: undelivered.sets.as_slice(),
         filter: &options.filter,
         texts: Texts {
             receivers: receivers.as_str(),
-            undelivered: undelivered.as_str().trim_start(),
+            undelivered: undelivered.text.as_str().trim_start(),
         },
     };
     draw(alloc, &story, clock)

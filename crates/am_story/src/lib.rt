@@ -1,5 +1,4 @@
 //! Stories of what really happened: an answer of Prometheus or Alertmanager, read and written as a story in YAML.
-//! `am_rehearse` calls it.
 #![tactic(auto)]
 
 pub mod alertmanager;

@@ -1,3 +1,5 @@
+-- positions of integrations by their names
+pub mod Names
 -- what is shown of a text from one of its characters on
 pub mod Showing
 -- escaped texts as content of elements

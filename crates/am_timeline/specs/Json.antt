@@ -28,6 +28,7 @@ use Rattle.am_terms.specs.declared.event.Event.{Event}
 use Rattle.am_terms.specs.declared.event.Event.TheVariants.{Begun, Sent}
 use Rattle.am_terms.specs.declared.event.PreviewedBegin.{PreviewedBegin}
 use Rattle.am_terms.specs.TimeFormatData.{TimeFormatData}
+use Rattle.am_timeline.specs.IntegrationName.{target_name}
 use Rattle.am_timeline.specs.Shown.{hex_text}
 use Rattle.am_timeline.specs.Playback.{PlaybackData, SentData, is_delivered, notices_at, sent_of}
 use Rattle.am_timeline.specs.Timeline.{expiry_before, expiry_if_first, is_late, is_on_edge, is_sent_nothing, labels_of, next_flush}
@@ -98,10 +99,11 @@ event_members config times event at group =
 abbrev pub receiver_member : Config → GroupName → Member
 receiver_member config group = text_at (codes "receiver") (route_of config group).receiver
 
--- a group's receiver and an integration of that
+-- a group's receiver and an integration of that: by its kind and position, and by its name
 unfoldable pub integration_members : Config → GroupName → ℕ → List Member
 integration_members config group position =
-    receiver_member config group ∷ text_at (codes "integration") (integration_text config group position) ∷ []
+    receiver_member config group ∷ text_at (codes "integration") (integration_text config group position)
+    ∷ text_at (codes "integration_name") (target_name config group position) ∷ []
 
 -- a reason with a time
 abbrev pub timed_members : List ℕ → List ℕ → ℕ → List Member

@@ -1,5 +1,7 @@
 -- texts and label sets without characters that a terminal would take as a command
 pub mod Shown
+-- what Alertmanager calls an integration of a receiver
+pub mod IntegrationName
 -- what gave the log its entry of a group and an integration last
 pub mod LastEntry
 -- when the entry of the log expired for whose lack a notice is a first one

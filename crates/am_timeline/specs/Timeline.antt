@@ -17,13 +17,14 @@ use Rattle.am_model.specs.declared.preview.Preview.{Preview}
 use Rattle.am_model.specs.declared.reason.Reason.{Reason}
 use Rattle.am_model.specs.declared.reason.Reason.TheVariants.{FirstNotice, NewAlert, AllResolved, NewlyResolved, Repeat, NothingLeft}
 use Rattle.am_model.specs.declared.reason.Reason.TheVariants.{NothingFiring, NotYet, RouteMuted}
-use Rattle.am_model.specs.Configured.{route_of, integration_text}
+use Rattle.am_model.specs.Configured.{route_of}
 use Rattle.am_model.specs.look_back.Reasons.{notifies}
 use Rattle.am_model.specs.Notice.{NoticeData, is_nothing}
 use Rattle.am_terms.specs.declared.event.Event.{Event}
 use Rattle.am_terms.specs.declared.event.Event.TheVariants.{Begun, Sent}
 use Rattle.am_terms.specs.declared.event.PreviewedBegin.{PreviewedBegin}
 use Rattle.am_timeline.specs.Expiry.{expired}
+use Rattle.am_timeline.specs.IntegrationName.{target_name}
 use Rattle.am_timeline.specs.Shown.{text_shown, set_shown, sets_shown}
 use Rattle.am_timeline.specs.Playback.{PlaybackData, SentData, notices_at, notice_for, sent_of}
 use Rattle.am_terms.specs.TimeFormatData.{TimeFormatData, column}
@@ -46,7 +47,7 @@ group_receiver_text config name = group_shown config name ++ codes " -> " ++ tex
 
 -- a group, its receiver and an integration of that
 abbrev pub target_shown : Config → GroupName → ℕ → List ℕ
-target_shown config name position = group_receiver_text config name ++ codes " " ++ integration_text config name position
+target_shown config name position = group_receiver_text config name ++ codes " " ++ target_name config name position
 
 -- why an integration is asked, or why not
 abbrev pub reason_words : Reason → List ℕ

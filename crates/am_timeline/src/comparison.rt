@@ -1,10 +1,10 @@
 //! What the delivered notices of two rehearsals of one story differ in, as text. `am_rehearse` prints it.
 //!
-//! Two notices are the same if they are for one integration of one receiver and say the same alerts. One integration is
-//! the one of the same kind that has as many of its kind before it in its receiver: another kind next to it changes
-//! its position, and nothing here. Of the same notices those of one time are paired first. Of what is left the first of
-//! one rehearsal is paired with the first of the other, and so on: these have moved. An alert is reported if a delivered
-//! notice has it, as firing or as resolved, as for `am_undelivered`. Cost: the notices of both, sorted.
+//! Two notices are the same if they are for one integration of one receiver, by their names, and say the same alerts.
+//! Another kind next to an integration changes its position, and nothing here. Of the same notices those of one time are
+//! paired first. Of what is left the first of one rehearsal is paired with the first of the other, and so on: these have
+//! moved. An alert is reported if a delivered notice has it, as firing or as resolved, as for `am_undelivered`. Cost: the
+//! notices of both, sorted.
 use crate::alerts::push_alerts;
 use crate::groups::push_integration;
 use crate::line::push_sent_reason;
@@ -12,7 +12,6 @@ use crate::playback::Playback;
 use crate::sent::{Sent, expiry_before, sent_of};
 use crate::shown::{push_set, push_text};
 use am_alerts::alert::Alert;
-use am_model::config::{Integration, kind_at};
 use am_model::notice::Notice;
 use am_terms::clock::{TimeFormat, push_column};
 use std::alloc::{AllocError, Global};
@@ -45,10 +44,8 @@ struct SentNotice {
     /// When its sending ended, in milliseconds.
     at: u64,
     receiver: String,
-    /// The receiver and the integration, as they are printed.
+    /// The receiver and the integration's name, as they are printed.
     target: String,
-    /// The receiver and the integration, by its rank within its kind.
-    ranked: String,
     alerts: String,
     /// Why it was sent.
     reason: String,
@@ -147,9 +144,9 @@ pub fn compare_notices<C: TimeFormat>(
 
 /// The same notices follow each other by time, and of one time the old ones come first.
 fn by_content(one: &SentNotice, other: &SentNotice) -> Ordering {
-    one.ranked
+    one.target
         .as_str()
-        .cmp(other.ranked.as_str())
+        .cmp(other.target.as_str())
         .then(one.alerts.as_str().cmp(other.alerts.as_str()))
         .then(one.at.cmp(&other.at))
         .then(number(one.side).cmp(&number(other.side)))
@@ -216,9 +213,7 @@ fn sent_notice_by<C: TimeFormat>(
     )?;
     let mut target = receiver.clone()?;
     target.push(' ')?;
-    let mut ranked = target.clone()?;
     push_integration(config, &notice.group, index, &mut target)?;
-    push_ranked(config.integrations_of(&notice.group), index, &mut ranked)?;
     let mut alerts = String::new(alloc);
     push_alerts("; firing ", notice.firing.as_slice(), &mut alerts)?;
     push_alerts("; resolved ", notice.resolved.as_slice(), &mut alerts)?;
@@ -231,26 +226,9 @@ fn sent_notice_by<C: TimeFormat>(
         at: sent.report.ended,
         receiver,
         target,
-        ranked,
         alerts,
         reason,
     })
-}
-
-/// Adds the kind of the integration at an index, `/`, and how many of its kind come before it.
-fn push_ranked(
-    integrations: &[Integration],
-    index: usize,
-    out: &mut String,
-) -> Result<(), AllocError> {
-    let kind = kind_at(integrations, index);
-    let mut rank = 0usize;
-    for (other, integration) in integrations.iter().enumerate() {
-        if other < index && integration.kind.as_str() == kind {
-            rank = rank.saturating_add(1);
-        }
-    }
-    write!(out, "{kind}/{rank}")
 }
 
 /// Adds the alerts that a delivered notice says, as firing and as resolved.
@@ -280,7 +258,7 @@ fn add_alerts(
 
 /// Returns whether two notices are the same, at whatever time.
 fn is_same(one: &SentNotice, other: &SentNotice) -> bool {
-    one.ranked.as_str() == other.ranked.as_str() && one.alerts.as_str() == other.alerts.as_str()
+    one.target.as_str() == other.target.as_str() && one.alerts.as_str() == other.alerts.as_str()
 }
 
 /// Returns the lines on what differs among notices in the order of `by_content`.

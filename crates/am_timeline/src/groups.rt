@@ -1,8 +1,9 @@
 //! Groups, receivers and integrations, as text. The modules of lines call it.
 ghost use Rattle.std.specs.Prelude.{◌≡◌, ◌++◌, OnOk, string_bytes};
-ghost use Rattle.am_model.specs.Configured.{integration_text};
+ghost use Rattle.am_timeline.specs.IntegrationName.{target_name};
 ghost use Rattle.am_timeline.specs.Timeline.{group_shown, target_shown, group_receiver_text};
 
+use crate::integration_name::push_name;
 use crate::shown::{push_set, push_text};
 use am_model::config::Config;
 use am_model::group::GroupName;
@@ -48,7 +49,7 @@ pub(crate) fn push_group(
     push_set(&group.labels, out)
 }
 
-/// Adds an integration of a group's receiver.
+/// Adds the name of an integration of a group's receiver.
 pub fn push_integration(
     config: &Config,
     group: &GroupName,
@@ -56,7 +57,7 @@ pub fn push_integration(
     out: &mut String,
 ) -> Result<(), AllocError>
     ensures { OnOk result (string_bytes out.new
-        ≡ string_bytes out.old ++ integration_text config.now group.now position) }
+        ≡ string_bytes out.old ++ target_name config.now group.now position) }
 {
-    config.push_integration(group, position, out)
+    push_name(config.integrations_of(group), position, out)
 }

@@ -1,6 +1,7 @@
-//! Worked rows, and the laws of edges, of escaped texts and of last entries. Verifiers read them.
+//! Worked rows, and the laws of edges, of escaped texts, of last entries and of names. Verifiers read them.
 ghost use Rattle.am_timeline.specs.Edges.{EdgesAreOfAge};
 ghost use Rattle.am_timeline.specs.Escaped.{CutIsContent, EscapedIsContent};
+ghost use Rattle.am_timeline.specs.IntegrationName.{NamesFindPositions};
 ghost use Rattle.am_timeline.specs.LastEntry.{LastEntriesAreRows};
 ghost use Rattle.am_timeline.specs.Rows.{TextsAreShown};
 
@@ -23,4 +24,9 @@ pub fn last_entries_are_rows()
 /// States that a flush is on the edge for an integration exactly if its entry is as old as `repeat_interval`. Does nothing.
 pub fn edges_are_of_age()
     ensures { EdgesAreOfAge }
+{}
+
+/// States that the kind and the index in the name of an integration find its position among those of its receiver. Does nothing.
+pub fn names_find_positions()
+    ensures { NamesFindPositions }
 {}

@@ -20,6 +20,7 @@ pub mod finishes;
 mod fold_list;
 mod frame;
 pub mod groups;
+pub mod integration_name;
 pub mod json;
 pub mod law;
 pub mod line;

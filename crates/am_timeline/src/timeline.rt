@@ -1,9 +1,9 @@
 //! The timeline: a line for each event of a rehearsal. `am_rehearse` prints it.
-ghost use Rattle.std.specs.Prelude.{◌≡◌, ◌++◌, [], IfOk, OnOk, string_bytes};
+ghost use Rattle.std.specs.Prelude.{◌≡◌, ◌++◌, [], IfOk, OnOk, codes, string_bytes};
 ghost use Rattle.std.specs.Option.{option_map_or};
 ghost use Rattle.am_timeline.specs.Playback.{sent_of};
 ghost use Rattle.am_timeline.specs.Timeline.{content_text, delivered_text, event_lines, failed_text, late_text, line_for};
-ghost use Rattle.am_timeline.specs.Timeline.{outcome_text, own_lines, past_text, sent_line, timeline_text};
+ghost use Rattle.am_timeline.specs.Timeline.{outcome_text, own_lines, past_text, retries_text, sent_line, timeline_text};
 
 use crate::alerts::push_alerts;
 use crate::begun::push_begun;
@@ -159,6 +159,15 @@ fn push_delivery<C: TimeFormat>(
     let notice = sent.notice;
     push_time(clock, sent.report.ended, "notice  ", out)?;
     push_target(config, &notice.group, notice.integration as usize, out)?;
+    push_delivered(clock, sent, out)
+}
+
+/// Adds after how many attempts a notice was delivered, and whether that was late.
+fn push_delivered<C: TimeFormat>(clock: &C, sent: &Sent, out: &mut String) -> Result<(), AllocError>
+    ensures { OnOk result (string_bytes out.new ≡ string_bytes out.old
+        ++ (codes " delivered" ++ retries_text (C.times clock.now) sent.now.report.attempts sent.now.begin.preview.time
+        ++ late_text (C.times clock.now) sent.now)) }
+{
     out.push_str(" delivered")?;
     push_retries(clock, sent.report.attempts, sent.begin.preview.time(), out)?;
     push_if_late(clock, sent, out)

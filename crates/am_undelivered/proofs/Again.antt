@@ -1,11 +1,11 @@
 -- A flush that is added twice does what it does once.
-use Rattle.std.proofs.Common.{◌≡◌, ◌∙◌, ◌==◌, Bool, true, false, List, [], ◌∷◌, map, Option, Some, None, ap, refl, if◌then◌else◌, nat_lt, not}
-use Rattle.std.specs.Option.{option_map}
+use Rattle.std.proofs.Common.{◌≡◌, ◌∙◌, ◌==◌, Bool, true, false, List, [], ◌∷◌, map, Option, Some, None, ap, refl, if◌then◌else◌, nat_lt, not, ℕ}
+use Rattle.std.specs.Option.{option_map, option_map_or}
 use Rattle.am_alerts.specs.AlertData.{has_come}
 use Rattle.am_alerts.specs.declared.labels.Label.{Label}
 use Rattle.am_undelivered.specs.declared.fate.Fate.{Fate}
 use Rattle.am_undelivered.specs.declared.recipient.Recipient.{Recipient}
-use Rattle.am_undelivered.specs.Spans.{FlushData, SpanData, SpansData, fate_at, flushed, flushed_span, is_for, joined, rank, notified, notified_by}
+use Rattle.am_undelivered.specs.Spans.{FlushData, SpanData, SpansData, fate_at, flushed, flushed_span, joined, rank, notified, notified_by, position_for}
 
 joined_twice : (p x : Fate) → joined (joined p x) x ≡ joined p x
 joined_twice p x = by (nat_lt (rank x) (rank p)) refl
@@ -25,24 +25,26 @@ notified_twice r false fate = ap (λ p. record r { clear = p }) (joined_twice r.
 -- what it came to is the same, since it changes no integration's name
 notified_by_same : (f : FlushData) (labels : List Label) (fires : Bool) (r : Recipient) (fate : Fate)
     → notified_by f labels fires (notified r fires fate)
-    ≡ (if is_for f r then notified (notified r fires fate) fires (fate_at f labels fires r.position) else notified r fires fate)
+    ≡ option_map_or (λ p. notified (notified r fires fate) fires (fate_at f labels fires p)) (position_for f r) (notified r fires fate)
 notified_by_same f labels true r fate = refl
 notified_by_same f labels false r fate = refl
 
 notified_by_twice : (f : FlushData) (labels : List Label) (fires : Bool) (r : Recipient)
     → notified_by f labels fires (notified_by f labels fires r) ≡ notified_by f labels fires r
-notified_by_twice f labels fires r = by (is_for f r) refl
+notified_by_twice f labels fires r = by (position_for f r) refl
   where
-    fate : Fate
-    fate = fate_at f labels fires r.position
+    fate : ℕ → Fate
+    fate p = fate_at f labels fires p
 
-    by : (b : Bool) → is_for f r ≡ b
-        → notified_by f labels fires (if b then notified r fires fate else r) ≡ (if b then notified r fires fate else r)
-    by true e =
-        notified_by_same f labels fires r fate
-        ∙ ap (λ b. if b then notified (notified r fires fate) fires fate else notified r fires fate) e
-        ∙ notified_twice r fires fate
-    by false e = ap (λ b. if b then notified r fires fate else r) e
+    after : Option ℕ → Recipient
+    after o = option_map_or (λ p. notified r fires (fate p)) o r
+
+    by : (o : Option ℕ) → position_for f r ≡ o → notified_by f labels fires (after o) ≡ after o
+    by (Some p) e =
+        notified_by_same f labels fires r (fate p)
+        ∙ ap (λ o. option_map_or (λ q. notified (notified r fires (fate p)) fires (fate q)) o (notified r fires (fate p))) e
+        ∙ notified_twice r fires (fate p)
+    by None e = ap after e
 
 all_twice : (f : FlushData) (labels : List Label) (fires : Bool) (rs : List Recipient)
     → map (notified_by f labels fires) (map (notified_by f labels fires) rs) ≡ map (notified_by f labels fires) rs

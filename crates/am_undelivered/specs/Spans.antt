@@ -18,7 +18,7 @@ use Rattle.am_model.specs.declared.reason.Reason.{Reason}
 use Rattle.am_model.specs.declared.reason.Reason.TheVariants.{FirstNotice, NewAlert, AllResolved, NewlyResolved, Repeat, NothingLeft}
 use Rattle.am_model.specs.declared.reason.Reason.TheVariants.{NothingFiring, NotYet, RouteMuted}
 use Rattle.am_model.specs.declared.record.Record.{Record}
-use Rattle.am_model.specs.Config.{kind_at}
+use Rattle.am_model.specs.Carry.{index_at, position_of}
 use Rattle.am_model.specs.Configured.{integrations_named, route_of}
 use Rattle.am_model.specs.look_back.Entry.{alert_in}
 use Rattle.am_model.specs.look_back.Presence.{goes_to}
@@ -119,28 +119,30 @@ is_unflushed Seen = false
 
 -- ---- the integrations that are to be notified
 
--- an integration that no flush was for yet
+-- an integration that no flush was for yet, with its index among those of its kind
 abbrev pub unflushed : List ℕ → ℕ → Integration → Recipient
-unflushed receiver position i =
-    record { receiver = receiver; kind = i.kind; position = position; resolves = i.send_resolved; page = Unflushed; clear = Unflushed }
+unflushed receiver index i =
+    record { receiver = receiver; kind = i.kind; index = index; resolves = i.send_resolved; page = Unflushed; clear = Unflushed }
 
--- the integrations of a receiver, the first of these at this position
-abbrev pub recipients_from : List ℕ → ℕ → List Integration → List Recipient
-recipients_from receiver position [] = []
-recipients_from receiver position (i ∷ is) = unflushed receiver position i ∷ recipients_from receiver (position + 1) is
+-- those of all integrations of a receiver from a position on
+abbrev pub recipients_from : List ℕ → List Integration → ℕ → List Integration → List Recipient
+recipients_from receiver all position [] = []
+recipients_from receiver all position (i ∷ is) =
+    unflushed receiver (index_at all position) i ∷ recipients_from receiver all (position + 1) is
 
 -- the integrations of the receiver of this name
 abbrev pub recipients_named : Config → List ℕ → List Recipient
-recipients_named config receiver = recipients_from receiver 0 (integrations_named receiver config.receivers)
+recipients_named config receiver =
+    recipients_from receiver (integrations_named receiver config.receivers) 0 (integrations_named receiver config.receivers)
 
 -- the integrations of the receivers to which the routes of a label set lead
 abbrev pub recipients_of : Config → List Label → List Recipient
 recipients_of config labels =
     flat_map (λ position. recipients_named config (route_at config.routes position).receiver) (routes_of config.routes labels)
 
--- whether two integrations are shown alike: by receiver, kind and position
+-- whether two integrations have one receiver and one name
 abbrev pub same_recipient : Recipient → Recipient → Bool
-same_recipient a b = bytes_eq a.receiver b.receiver && (bytes_eq a.kind b.kind && (a.position == b.position))
+same_recipient a b = bytes_eq a.receiver b.receiver && (bytes_eq a.kind b.kind && (a.index == b.index))
 
 -- these integrations, with one at the end unless it is there
 abbrev pub with_recipient : List Recipient → Recipient → List Recipient
@@ -155,11 +157,10 @@ with_recipients all (r ∷ rs) = with_recipients (with_recipient all r) rs
 abbrev pub receiver_of : FlushData → List ℕ
 receiver_of f = (route_of f.config f.preview.group).receiver
 
--- whether a flush is for an integration: the receiver has one of its kind at its position
-abbrev pub is_for : FlushData → Recipient → Bool
-is_for f r =
-    bytes_eq (receiver_of f) r.receiver
-    && bytes_eq (kind_at (integrations_named (receiver_of f) f.config.receivers) r.position) r.kind
+-- the position of an integration in the receiver of a flush, if the flush is for it: its position can change with a reload, its name can't
+abbrev pub position_for : FlushData → Recipient → Option ℕ
+position_for f r =
+    if bytes_eq (receiver_of f) r.receiver then position_of r.kind r.index 0 (integrations_named (receiver_of f) f.config.receivers) else None
 
 -- an integration after a flush that came to this for a label set that fires, or is resolved
 abbrev pub notified : Recipient → Bool → Fate → Recipient
@@ -168,7 +169,7 @@ notified r false fate = record r { clear = joined r.clear fate }
 
 -- an integration after a flush of a group of a label set
 abbrev pub notified_by : FlushData → List Label → Bool → Recipient → Recipient
-notified_by f labels fires r = if is_for f r then notified r fires (fate_at f labels fires r.position) else r
+notified_by f labels fires r = option_map_or (λ position. notified r fires (fate_at f labels fires position)) (position_for f r) r
 
 -- ---- spans of firing
 

@@ -1,5 +1,5 @@
 -- Undelivered: the spans of firing that an integration wasn't notified of, or of whose end, and why.
-use Rattle.std.specs.Prelude.{ℕ, Bool, true, false, not, ◌&&◌, ◌||◌, ◌==◌, List, [], ◌∷◌, ◌++◌, codes, decimal, find, is_some, length}
+use Rattle.std.specs.Prelude.{ℕ, Bool, true, false, not, ◌&&◌, ◌||◌, ◌==◌, List, [], ◌∷◌, ◌++◌, codes, find, is_some, length}
 use Rattle.std.specs.Prelude.{Option, Some, None, slice_get, if◌then◌else◌}
 use Rattle.std.specs.List.{flat_map, list_all}
 use Rattle.std.specs.Option.{option_and_then, option_map, option_map_or}
@@ -8,6 +8,7 @@ use Rattle.am_alerts.specs.declared.labels.Label.{Label}
 use Rattle.am_model.specs.declared.preview.MutedAlert.{MutedAlert}
 use Rattle.am_model.specs.declared.preview.Preview.{Preview}
 use Rattle.am_terms.specs.TimeFormatData.{TimeFormatData}
+use Rattle.am_timeline.specs.IntegrationName.{name_text}
 use Rattle.am_timeline.specs.Playback.{PlaybackData}
 use Rattle.am_timeline.specs.Shown.{set_shown, text_shown}
 use Rattle.am_timeline.specs.Timeline.{cause_text}
@@ -120,9 +121,9 @@ abbrev pub missed_text : List PlaybackData → TimeFormatData → List Label →
 missed_text playbacks times labels over (Page fate) = fate_text playbacks times labels true over fate
 missed_text playbacks times labels over (Clear fate) = codes "resolved unseen: " ++ fate_text playbacks times labels false over fate
 
--- an integration: its receiver, its kind and its position
+-- an integration: its receiver and its name
 abbrev pub recipient_text : Recipient → List ℕ
-recipient_text r = codes " -> " ++ text_shown r.receiver ++ codes " " ++ r.kind ++ codes "/" ++ decimal r.position
+recipient_text r = codes " -> " ++ text_shown r.receiver ++ codes " " ++ name_text r.kind r.index
 
 -- the same, if one is named
 abbrev pub whom_text : Option Recipient → List ℕ

@@ -2,14 +2,14 @@
 ghost use Rattle.std.specs.Prelude.{◌≡◌, ◌+◌, ◌==◌, IfOk, OnOk, drop, false, find, map, option_copied};
 ghost use Rattle.std.specs.Option.{option_map_or};
 ghost use Rattle.am_timeline.specs.Playback.{is_delivered, notices_at};
-ghost use Rattle.am_undelivered.specs.Spans.{fate_at, fate_by, fate_unsent, flush_of, is_for, is_left_out, is_not_yet, listed};
-ghost use Rattle.am_undelivered.specs.Spans.{mute_end, route_muted_until, sent_of};
+ghost use Rattle.am_undelivered.specs.Spans.{fate_at, fate_by, fate_unsent, flush_of, is_left_out, is_not_yet, listed};
+ghost use Rattle.am_undelivered.specs.Spans.{mute_end, position_for, route_muted_until, sent_of};
 
 use crate::fate::Fate;
 use crate::label_sets::LabelSets;
 use crate::recipient::Recipient;
 use am_alerts::labels::Labels;
-use am_model::config::{Config, Integration, kind_at};
+use am_model::config::{Config, Integration};
 use am_model::group::GroupName;
 use am_model::notice::Notice;
 use am_model::outcome::outcome_of;
@@ -19,6 +19,7 @@ use am_seed::Seed;
 use am_terms::event::PreviewedBegin;
 use am_terms::shared_preview::SharedPreview;
 use am_timeline::finishes::Finishes;
+use am_timeline::integration_name::position_of;
 use am_timeline::playback::{Playback, notices_in};
 use std::alloc::{AllocError, Global};
 use std::marker::Model;
@@ -129,12 +130,14 @@ impl<'s> Flush<'s> {
         self.preview.time()
     }
 
-    /// Returns whether it is for an integration.
-    pub(crate) fn is_for(&self, recipient: &Recipient) -> bool
-        ensures { result ≡ is_for self.now recipient.now }
+    /// Returns the position of an integration in the receiver, if the flush is for it.
+    pub(crate) fn position_for(&self, recipient: &Recipient) -> Option<usize>
+        ensures { result ≡ position_for self.now recipient.now }
     {
-        self.receiver == recipient.receiver.as_str()
-            && kind_at(self.integrations, recipient.position) == recipient.kind.as_str()
+        if self.receiver != recipient.receiver.as_str() {
+            return None;
+        }
+        position_of(recipient.kind.as_str(), recipient.index, self.integrations)
     }
 
     /// Returns what it came to for the integration at a position and an alert that fires, or is resolved.

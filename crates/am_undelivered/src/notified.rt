@@ -11,8 +11,8 @@ use am_alerts::labels::Labels;
 pub(crate) fn notify(flush: &Flush<'_>, labels: &Labels, fires: bool, recipient: &mut Recipient)
     ensures { recipient.new ≡ notified_by flush.now labels.now fires recipient.old }
 {
-    if flush.is_for(recipient) {
-        let fate = flush.fate(labels, fires, recipient.position);
+    if let Some(position) = flush.position_for(recipient) {
+        let fate = flush.fate(labels, fires, position);
         add_fate(fires, fate, recipient);
     }
 }

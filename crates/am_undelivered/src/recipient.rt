@@ -9,6 +9,7 @@ use crate::fate::Fate;
 use am_alerts::labels::Labels;
 use am_alerts::text::Text;
 use am_model::config::{Config, Integration};
+use am_timeline::integration_name::index_at;
 use std::alloc::{AllocError, Global};
 
 /// An integration that is to be notified of a span of firing.
@@ -17,8 +18,8 @@ pub struct Recipient {
     /// The name of its receiver.
     pub receiver: Text,
     pub kind: Text,
-    /// Its position in the receiver.
-    pub position: usize,
+    /// Its index among the receiver's integrations of its kind.
+    pub index: usize,
     /// Whether it is notified of resolved alerts too.
     pub resolves: bool,
     /// What the flushes came to at which the alert fired.
@@ -69,26 +70,27 @@ fn add_named(
 {
     let integrations = config.integrations_named(receiver);
     for (position, integration) in integrations.iter().enumerate() {
-        add_integration(alloc, receiver, position, integration, all)?;
+        let index = index_at(integrations, position);
+        add_integration(alloc, receiver, index, integration, all)?;
     }
     Ok(())
 }
 
-/// Adds an integration, unless it is there.
+/// Adds the integration of this index among those of its kind, unless it is there.
 fn add_integration(
     alloc: Global,
     receiver: &str,
-    position: usize,
+    index: usize,
     integration: &Integration,
     all: &mut Vec<Recipient>,
 ) -> Result<(), AllocError>
     ensures { OnOk result (all.new.items
-        ≡ with_recipient all.old.items (unflushed receiver.now position integration.now)) }
+        ≡ with_recipient all.old.items (unflushed receiver.now index integration.now)) }
 {
     let added = Recipient {
         receiver: Text::new(alloc, receiver)?,
         kind: integration.kind.copy(alloc)?,
-        position,
+        index,
         resolves: integration.send_resolved,
         page: Fate::Unflushed,
         clear: Fate::Unflushed,
@@ -106,11 +108,11 @@ fn is_there(added: &Recipient, all: &[Recipient]) -> bool
     all.iter().any(|there| is_same(added, there))
 }
 
-/// Returns whether two integrations are shown alike: by receiver, kind and position.
+/// Returns whether two integrations have one receiver and one name.
 fn is_same(a: &Recipient, b: &Recipient) -> bool
     ensures { result ≡ same_recipient a.now b.now }
 {
     a.receiver.as_str() == b.receiver.as_str()
         && a.kind.as_str() == b.kind.as_str()
-        && a.position == b.position
+        && a.index == b.index
 }

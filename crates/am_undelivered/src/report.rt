@@ -23,12 +23,22 @@ use crate::span::{Span, Spans};
 use crate::watches::Watches;
 use am_alerts::labels::Labels;
 use am_model::preview::MutedAlert;
-use am_terms::clock::{TimeFormat, push_number};
+use am_terms::clock::TimeFormat;
 use am_terms::shared_preview::SharedPreview;
+use am_timeline::integration_name::push_name_of;
 use am_timeline::muted::push_cause;
 use am_timeline::playback::Playback;
 use am_timeline::shown::{push_set, push_text};
 use std::alloc::{AllocError, Global};
+
+/// What integrations missed in a rehearsal.
+#[derive(Drop)]
+pub struct UndeliveredReport {
+    /// An empty line and a line for each span that is missed, or whose end is; nothing where there is none.
+    pub text: String,
+    /// The label sets that have such a line.
+    pub sets: Vec<Labels>,
+}
 
 /// Returns an empty line and a line for each span of firing of which an integration that should have been notified wasn't, or not of
 /// the end; nothing where there is none. The playbacks are those of a rehearsal's dispatchers, one after another.
@@ -41,6 +51,31 @@ pub fn undelivered_text<C: TimeFormat>(
 ) -> Result<String, AllocError>
     ensures { IfOk result (λ text. string_bytes text ≡ undelivered_text playbacks.now (C.times clock.now)) }
 {
+    Ok(undelivered(alloc, playbacks, clock)?.text)
+}
+
+/// Returns what integrations missed: the text of `undelivered_text`, and the label sets with a line in it.
+pub fn undelivered<C: TimeFormat>(
+    alloc: Global,
+    playbacks: &[Playback<'_>],
+    clock: &C,
+) -> Result<UndeliveredReport, AllocError>
+    ensures { IfOk result (λ found. string_bytes found.text ≡ undelivered_text playbacks.now (C.times clock.now)) }
+{
+    let mut sets = Vec::new(alloc);
+    let text = text_and_sets(alloc, playbacks, clock, &mut sets)?;
+    Ok(UndeliveredReport { text, sets })
+}
+
+/// Returns the text of `undelivered_text`, and adds the label sets with a line in it.
+fn text_and_sets<C: TimeFormat>(
+    alloc: Global,
+    playbacks: &[Playback<'_>],
+    clock: &C,
+    sets: &mut Vec<Labels>,
+) -> Result<String, AllocError>
+    ensures { IfOk result (λ text. string_bytes text ≡ undelivered_text playbacks.now (C.times clock.now)) }
+{
     let Some(first) = playbacks.first() else {
         return Ok(String::new(alloc));
     };
@@ -48,10 +83,25 @@ pub fn undelivered_text<C: TimeFormat>(
     let mut lines = String::new(alloc);
     for labels in watches.sets() {
         if let Some(spans) = watches.spans(labels) {
+            let length = lines.len();
             push_spans(playbacks, clock, labels, spans, &mut lines)?;
+            note_set(alloc, labels, length < lines.len(), sets)?;
         }
     }
     behind_empty_line(alloc, lines)
+}
+
+/// Adds a label set, if it has a line.
+fn note_set(
+    alloc: Global,
+    labels: &Labels,
+    has_line: bool,
+    sets: &mut Vec<Labels>,
+) -> Result<(), AllocError> {
+    if has_line {
+        sets.push(labels.copy(alloc)?)?;
+    }
+    Ok(())
 }
 
 fn behind_empty_line(alloc: Global, lines: String) -> Result<String, AllocError>
@@ -283,16 +333,14 @@ fn push_whom(whom: Option<&Recipient>, out: &mut String) -> Result<(), AllocErro
     }
 }
 
-/// Adds an integration: its receiver, its kind and its position.
+/// Adds an integration: its receiver and its name.
 fn push_integration(recipient: &Recipient, out: &mut String) -> Result<(), AllocError>
     ensures { OnOk result (string_bytes out.new ≡ string_bytes out.old ++ recipient_text recipient.now) }
 {
     out.push_str(" -> ")?;
     push_text(recipient.receiver.as_str(), out)?;
     out.push_str(" ")?;
-    out.push_str(recipient.kind.as_str())?;
-    out.push_str("/")?;
-    push_number(recipient.position as u64, out)
+    push_name_of(recipient.kind.as_str(), recipient.index, out)
 }
 
 /// Adds since when an alert fires, or from when to when it fired.

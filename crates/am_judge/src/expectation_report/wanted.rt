@@ -1,17 +1,21 @@
 //! What is expected, as text. `expectation_report` calls it.
-ghost use Rattle.std.specs.Prelude.{◌≡◌, ◌++◌, OnOk, codes, option_copied, string_bytes};
+ghost use Rattle.std.specs.Prelude.{◌≡◌, ◌++◌, OnOk, Some, codes, option_copied, string_bytes};
 ghost use Rattle.std.specs.List.{flat_map, join_by};
-ghost use Rattle.am_judge.specs.ExpectationReport.{about_text, amount_text, exact_text, expected_line, has_text, integration_of};
-ghost use Rattle.am_judge.specs.ExpectationReport.{kind_of, kind_text, listed_text, matcher_shown, matchers_text, notices_wanted};
-ghost use Rattle.am_judge.specs.ExpectationReport.{operator_shown, reason_part, sets_text, span_text, wanted_reason_text, wanted_text};
+ghost use Rattle.am_judge.specs.ExpectationReport.{about_text, amount_text, any_text, exact_text, expected_line, has_at, has_text};
+ghost use Rattle.am_judge.specs.ExpectationReport.{integrations_with, is_of_kind, kind_text, listed_text, matcher_shown, matchers_text};
+ghost use Rattle.am_judge.specs.ExpectationReport.{named_text, notices_wanted, operator_shown, position_text, reason_part, sets_text};
+ghost use Rattle.am_judge.specs.ExpectationReport.{span_text, wanted_reason_text, wanted_text, which_text};
+ghost use Rattle.am_timeline.specs.IntegrationName.{integration_name};
 ghost use Rattle.am_timeline.specs.Shown.{set_shown};
 
 use am_alerts::labels::Labels;
 use am_alerts::matcher::{Matcher, Operator};
 use am_alerts::sequence::Sequence;
-use am_model::config::{Config, Integration};
+use am_alerts::text::Text;
+use am_model::config::Integration;
 use am_terms::clock::{TimeFormat, push_number};
 use am_terms::expectation::{Amount, Content, Expectation, SentReason};
+use am_timeline::integration_name::push_name;
 use am_timeline::playback::Playback;
 use am_timeline::shown::{push_set, push_text};
 use am_timeline::table::push_count;
@@ -67,74 +71,154 @@ fn push_about(
     ensures { OnOk result (string_bytes out.new ≡ string_bytes out.old
         ++ about_text playbacks.now expectation.now.receiver expectation.now.kind expectation.now.integration) }
 {
-    match (
-        &expectation.receiver,
-        &expectation.kind,
-        expectation.integration,
-    ) {
-        (None, None, None) => Ok(()),
-        (None, None, Some(position)) => {
-            out.push_str(" -> any/")?;
-            push_number(u64::from(position), out)
-        }
-        (None, Some(kind), position) => {
-            out.push_str(" -> any ")?;
-            push_kind(kind.as_str(), position, out)
-        }
-        (Some(name), None, None) => {
-            out.push_str(" -> ")?;
-            push_text(name.as_str(), out)
-        }
-        (Some(name), None, Some(position)) => {
+    let kind = &expectation.kind;
+    let position = expectation.integration;
+    match &expectation.receiver {
+        None => push_any(kind, position, out),
+        Some(name) => {
             out.push_str(" -> ")?;
             push_text(name.as_str(), out)?;
-            out.push_str(" ")?;
-            out.push_str(kind_of(playbacks, name.as_str(), position))?;
-            out.push_str("/")?;
-            push_number(u64::from(position), out)
-        }
-        (Some(name), Some(kind), position) => {
-            out.push_str(" -> ")?;
-            push_text(name.as_str(), out)?;
-            out.push_str(" ")?;
-            push_kind(kind.as_str(), position, out)
+            push_which(playbacks, name.as_str(), kind, position, out)
         }
     }
 }
 
-/// Adds a kind, and the position if it is said.
-fn push_kind(kind: &str, position: Option<u32>, out: &mut String) -> Result<(), AllocError>
-    ensures { OnOk result (string_bytes out.new ≡ string_bytes out.old ++ kind_text kind.now position) }
+/// Adds which integration of any receiver; nothing where neither its kind nor its position is said.
+fn push_any(kind: &Option<Text>, position: Option<u32>, out: &mut String) -> Result<(), AllocError>
+    ensures { OnOk result (string_bytes out.new ≡ string_bytes out.old ++ any_text kind.now position) }
 {
-    push_text(kind, out)?;
+    if kind.is_none() && position.is_none() {
+        return Ok(());
+    }
+    out.push_str(" -> any")?;
+    push_kind(kind, out)?;
+    push_position(position, out)
+}
+
+/// Adds which integration of the receiver of this name.
+fn push_which(
+    playbacks: &[Playback<'_>],
+    name: &str,
+    kind: &Option<Text>,
+    position: Option<u32>,
+    out: &mut String,
+) -> Result<(), AllocError>
+    ensures { OnOk result (string_bytes out.new
+        ≡ string_bytes out.old ++ which_text playbacks.now name.now kind.now position) }
+{
+    match position {
+        None => push_kind(kind, out),
+        Some(position) => push_named(
+            integrations_with(playbacks, name, kind, position),
+            kind,
+            position,
+            out,
+        ),
+    }
+}
+
+/// Adds the name of the integration at a position of these, or else its kind, if that is said, and its position.
+#[tactic(auto, using(crate::proofs::Named::unnamed, crate::proofs::Named::named))]
+fn push_named(
+    integrations: &[Integration],
+    kind: &Option<Text>,
+    position: u32,
+    out: &mut String,
+) -> Result<(), AllocError>
+    ensures { OnOk result (string_bytes out.new
+        ≡ string_bytes out.old ++ named_text integrations.now kind.now position) }
+{
+    match integrations.get(position as usize) {
+        None => push_unnamed(kind, position, out),
+        Some(_) => push_name_behind(integrations, position as usize, out),
+    }
+}
+
+/// Adds a kind, if it is said, and a position.
+fn push_unnamed(kind: &Option<Text>, position: u32, out: &mut String) -> Result<(), AllocError>
+    ensures { OnOk result (string_bytes out.new
+        ≡ string_bytes out.old ++ (kind_text kind.now ++ position_text (Some position))) }
+{
+    push_kind(kind, out)?;
+    push_position(Some(position), out)
+}
+
+/// Adds a blank and the name of an integration.
+fn push_name_behind(
+    integrations: &[Integration],
+    position: usize,
+    out: &mut String,
+) -> Result<(), AllocError>
+    ensures { OnOk result (string_bytes out.new
+        ≡ string_bytes out.old ++ (codes " " ++ integration_name integrations.now position)) }
+{
+    out.push_str(" ")?;
+    push_name(integrations, position, out)
+}
+
+/// Adds a kind, if it is said.
+fn push_kind(kind: &Option<Text>, out: &mut String) -> Result<(), AllocError>
+    ensures { OnOk result (string_bytes out.new ≡ string_bytes out.old ++ kind_text kind.now) }
+{
+    match kind {
+        None => Ok(()),
+        Some(kind) => {
+            out.push_str(" ")?;
+            push_text(kind.as_str(), out)
+        }
+    }
+}
+
+/// Adds a position, if it is said.
+fn push_position(position: Option<u32>, out: &mut String) -> Result<(), AllocError>
+    ensures { OnOk result (string_bytes out.new ≡ string_bytes out.old ++ position_text position) }
+{
     match position {
         None => Ok(()),
         Some(position) => {
-            out.push_str("/")?;
+            out.push_str(" at position ")?;
             push_number(u64::from(position), out)
         }
     }
 }
 
-/// The kind of the integration at a position of the receiver of this name, in the first playback whose
-/// configuration has it; empty where none has.
-fn kind_of<'s>(playbacks: &[Playback<'s>], name: &str, position: u32) -> &'s str
-    ensures { result.now ≡ kind_of playbacks.now name.now position }
+/// The integrations of the receiver of this name in the first playback whose configuration has one of this kind at a
+/// position; none where none has.
+fn integrations_with<'s>(
+    playbacks: &[Playback<'s>],
+    name: &str,
+    kind: &Option<Text>,
+    position: u32,
+) -> &'s [Integration]
+    ensures { result.now ≡ integrations_with playbacks.now name.now kind.now position }
 {
     for playback in playbacks {
-        if let Some(integration) = integration_of(playback.config(), name, position) {
-            return integration.kind.as_str();
+        let integrations = playback.config().integrations_named(name);
+        if has_at(kind, position, integrations) {
+            return integrations;
         }
     }
-    ""
+    &[]
 }
 
-/// The integration at a position of the receiver of this name, if a configuration has it.
-fn integration_of<'c>(config: &'c Config, name: &str, position: u32) -> Option<&'c Integration>
-    ensures { option_copied result ≡ integration_of config.now name.now position }
+/// Whether these integrations have one of this kind, if one is said, at a position.
+fn has_at(kind: &Option<Text>, position: u32, integrations: &[Integration]) -> bool
+    ensures { result ≡ has_at kind.now position integrations.now }
 {
-    let receiver = config.receiver(name)?;
-    receiver.integrations.as_slice().get(position as usize)
+    match integrations.get(position as usize) {
+        None => false,
+        Some(integration) => is_of_kind(kind, integration),
+    }
+}
+
+/// Whether an integration is of this kind, if one is said.
+fn is_of_kind(kind: &Option<Text>, integration: &Integration) -> bool
+    ensures { result ≡ is_of_kind kind.now integration.now }
+{
+    match kind {
+        None => true,
+        Some(kind) => integration.kind.as_str() == kind.as_str(),
+    }
 }
 
 /// Adds how many notices are wanted.

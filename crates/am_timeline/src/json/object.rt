@@ -5,6 +5,7 @@ ghost use Rattle.serde_json.specs.View.{members_view, view};
 ghost use Rattle.serde_json.specs.Written.{compact_text, has_float, members_have_float};
 ghost use Rattle.am_alerts.specs.Labels.{label_in};
 ghost use Rattle.am_model.specs.Configured.{integration_text, route_of};
+ghost use Rattle.am_timeline.specs.IntegrationName.{target_name};
 ghost use Rattle.am_timeline.specs.Json.{cause_members, char_uncontrolled, event_members, inhibited_members};
 ghost use Rattle.am_timeline.specs.Json.{integration_members, label_member, members_line, muted_alert_data, muted_data, number_at};
 ghost use Rattle.am_timeline.specs.Json.{put_all, receiver_member, set_data, sets_data, silenced_members, text_at, uncontrolled};
@@ -129,7 +130,7 @@ impl Object {
         self.put_text("receiver", config.route_of(group).receiver.as_str())
     }
 
-    /// Puts a group's receiver and an integration of that.
+    /// Puts a group's receiver and an integration of that: its kind and position, and its name.
     #[tactic(auto, using(crate::proofs::Members::put_more), unfolding(crate::specs::Json::integration_members))]
     pub(super) fn put_integration(
         &mut self,
@@ -143,6 +144,8 @@ impl Object {
         self.put_receiver(config, group)?;
         let integration = integration_text(self.alloc, config, group, position)?;
         self.put_string("integration", integration)?;
+        let name = integration_name(self.alloc, config, group, position)?;
+        self.put_string("integration_name", name)?;
         Ok(())
     }
 
@@ -266,8 +269,21 @@ fn integration_text(
     ensures { IfOk result (λ text. string_bytes text ≡ integration_text config.now group.now position) }
 {
     let mut text = String::new(alloc);
-    push_integration(config, group, position, &mut text)?;
+    config.push_integration(group, position, &mut text)?;
     Ok(text)
+}
+
+fn integration_name(
+    alloc: Global,
+    config: &Config,
+    group: &GroupName,
+    position: usize,
+) -> Result<String, AllocError>
+    ensures { IfOk result (λ name. string_bytes name ≡ target_name config.now group.now position) }
+{
+    let mut name = String::new(alloc);
+    push_integration(config, group, position, &mut name)?;
+    Ok(name)
 }
 
 /// Returns a label set: an object of its names and values.

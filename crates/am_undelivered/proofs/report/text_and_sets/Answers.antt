@@ -3,8 +3,8 @@ use Rattle.std.specs.Option.{option_copied}
 use Rattle.std.proofs.lemmas.Result.{IfOk-weaker}
 use Rattle.am_undelivered.proofs.Lines.{all_lines, lines_more, lines_same}
 use Rattle.am_undelivered.specs.Undelivered.{behind_empty_line}
-use Rattle.am_undelivered.proofs.report.undelivered_text.Goals as goal
-use Rattle.am_undelivered.proofs.report.undelivered_text.Goals.{in-Some-spans+in_ok-push_spans, in_default-spans}
+use Rattle.am_undelivered.proofs.report.text_and_sets.Goals as goal
+use Rattle.am_undelivered.proofs.report.text_and_sets.Goals.{in-Some-spans+in_ok-push_spans+in_ok-note_set, in_default-spans}
 
 pub loop-labels-preserved : goal.loop-labels-preserved
 loop-labels-preserved g c =
@@ -15,7 +15,7 @@ loop-labels-preserved g c =
     let l = c.labels-item.result in
     let within : i < length all = omega arith in
     elim c.match-spans.branch [
-      | in-Some-spans+in_ok-push_spans w ↦
+      | in-Some-spans+in_ok-push_spans+in_ok-note_set w ↦
           ap string_bytes w.lines-is
           ∙ lines_more ps times all i l w.in-Some-spans.spans.now (string_bytes c.loop-labels.lines) (string_bytes w.push_spans.new.out) within c.labels-item.is
           (sym (c.in_ok-watches.ensures.spans l) ∙ sym c.spans.ensures ∙ ap option_copied w.in-Some-spans.is)

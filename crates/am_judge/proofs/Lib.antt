@@ -1,0 +1,2 @@
+-- the name of the integration at a position
+pub mod Named

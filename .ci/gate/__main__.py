@@ -41,6 +41,8 @@ AFTER = [
 KEEPS = "--anew" in subprocess.run(["rt", "help"], capture_output=True, text=True, check=False).stderr
 # With at most so many crates to prove, `rt ci` itself decides how many run at a time, and gives each several processors.
 FEW = 8
+# What nearly all others wait for: am_alerts, am_mute, am_model and this. Proved first, each gets several processors.
+LOW = "am_board"
 # In GB: what a proof takes at most; and the memory from which on wrong bodies are tried while proofs run.
 PROOF, MUCH = 5, 18
 STARTED = time.monotonic()
@@ -65,15 +67,16 @@ class Gate:
         self.failed: list[str] = []
         self.running: dict[str, subprocess.Popen[str]] = {}
         self.has_much = memory() >= MUCH
+        self.anew_low = KEEPS and not anew and LOW in kept.with_above(kept.changed())
         if anew or not KEEPS or len(kept.with_above(kept.changed())) > FEW:
             # (then many wait at a time, and `rt ci` by itself sets up to twice as much memory aside as they take)
             os.environ.setdefault("RT_JOBS", str(max(1, min(processors(), int(memory() / PROOF)))))
 
-    def part(self, words: list[str], name: str, tee: IO[str] | None = None) -> str:
+    def part(self, words: list[str], name: str, tee: IO[str] | None = None, env: dict[str, str] | None = None) -> str:
         """Runs a part to its end, and answers what it said."""
         since, said = time.monotonic(), []
-        with subprocess.Popen(words, cwd=ROOT, stdin=subprocess.DEVNULL, stdout=subprocess.PIPE, stderr=subprocess.STDOUT, text=True,
-                              errors="replace") as ran:
+        with subprocess.Popen(words, cwd=ROOT, env=env, stdin=subprocess.DEVNULL, stdout=subprocess.PIPE, stderr=subprocess.STDOUT,
+                              text=True, errors="replace") as ran:
             self.running[name] = ran
             self.meter.count(ran.pid, name)
             for line in ran.stdout or []:
@@ -122,6 +125,7 @@ class Gate:
             compiled = pool.submit(self.part, ["nice", "-n", "15", ".ci/alertmanager", "--prepare"], ".ci/alertmanager --prepare")
             words = ["nice", "-n", "15", ".ci/wrong-bodies", *self.anew, "--beside", proofs.name, *["--after"] * (not is_wide)]
             tried = pool.submit(self.part, words, ".ci/wrong-bodies")
+            self.prove_low()
             self.part(["rt", "ci", *self.anew * KEEPS], "rt ci", proofs.file)
             if "rt ci" in self.failed:
                 for name in (".ci/first-answer", ".ci/wrong-bodies", ".ci/alertmanager --prepare"):
@@ -134,6 +138,14 @@ class Gate:
         if "rt ci" not in self.failed:
             # (alone, since its times count)
             self.checks(["alertmanager"])
+
+    def prove_low(self) -> None:
+        """Proves the lowest crates with several processors each, if they are to be proved. It saves time and decides nothing:
+        the whole `rt ci` proves again what failed here, and says why."""
+        if self.anew_low:
+            name = f"rt ci {LOW}"
+            self.part(["rt", "ci", LOW], name, env={it: os.environ[it] for it in os.environ if it != "RT_JOBS"})
+            self.failed = [it for it in self.failed if it != name]
 
     def end(self) -> int:
         """Prints the costs, what failed and the total, and answers the status."""

@@ -67,8 +67,9 @@ class Gate:
         self.failed: list[str] = []
         self.running: dict[str, subprocess.Popen[str]] = {}
         self.has_much = memory() >= MUCH
-        self.anew_low = KEEPS and not anew and LOW in kept.with_above(kept.changed())
-        if anew or not KEEPS or len(kept.with_above(kept.changed())) > FEW:
+        changed = kept.with_above(kept.changed())
+        self.proves_low = KEEPS and not anew and LOW in changed
+        if anew or not KEEPS or len(changed) > FEW:
             # (then many wait at a time, and `rt ci` by itself sets up to twice as much memory aside as they take)
             os.environ.setdefault("RT_JOBS", str(max(1, min(processors(), int(memory() / PROOF)))))
 
@@ -142,7 +143,7 @@ class Gate:
     def prove_low(self) -> None:
         """Proves the lowest crates with several processors each, if they are to be proved. It saves time and decides nothing:
         the whole `rt ci` proves again what failed here, and says why."""
-        if self.anew_low:
+        if self.proves_low:
             name = f"rt ci {LOW}"
             self.part(["rt", "ci", LOW], name, env={it: os.environ[it] for it in os.environ if it != "RT_JOBS"})
             self.failed = [it for it in self.failed if it != name]

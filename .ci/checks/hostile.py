@@ -15,6 +15,7 @@ import subprocess
 import sys
 import tempfile
 from pathlib import Path
+from typing import NamedTuple
 
 sys.path.insert(0, str(Path(__file__).resolve().parent.parent))
 from lib import collisions, report
@@ -27,6 +28,8 @@ from lib.stories import HOOK, config
 SHORT = 0.5
 # How much more twice the input may take.
 MOST = 3
+# How often an input that takes too much is tried: what else the machine does adds time, and takes none away.
+TRIES = 3
 
 
 # Patterns.
@@ -64,7 +67,10 @@ def with_pattern(pattern: str) -> Json:
 def patterns(told: Report, programs: Programs) -> None:
     """What becomes of each pattern."""
     for name, wanted, pattern in PATTERNS:
-        ran = programs["am_run"].run(stdin=json.dumps(with_pattern(pattern)), limits=Limits(10, 128 << 20))
+        for _ in range(TRIES):
+            ran = programs["am_run"].run(stdin=json.dumps(with_pattern(pattern)), limits=Limits(10, 128 << 20))
+            if ran.status >= 0:
+                break
         got = str(ran)
         if (ran.status, ran.err) == (2, "am-run: scenario refused at /config/children/0/matchers/0: value\n"):
             got = "rejected"
@@ -205,6 +211,19 @@ def flapping(count: int) -> Json:
     return {"config": own, "until": f"{count}m", "alerts": [{"labels": {"cluster": "eu", "host": "flaps"}, "spans": spans}, *stay]}
 
 
+def set_again(count: int) -> Json:
+    """Lines: so many silences that begin with one matcher. Then each is set again with one of its own, the last one first, and the
+    group is flushed after each."""
+    numbers = range(1, count + 1)
+    alike = [{"silence": {"now": 0, "id": number, "matchers": ['cluster="eu"', f'host="h{number}"'], "ends": 1}} for number in numbers]
+    calls: list[Json] = [{"config": config()}, {"insert": {"now": 0, "labels": {"alertname": "A"}}}, *alike]
+    for ticket, number in enumerate(reversed(numbers), 1):
+        now = {"now": 300_000 * ticket}
+        silence = {"id": number, "matchers": [f'host="h{number}"'], "ends": 10**12 + number}
+        calls += [{"silence": {**now, **silence}}, {"begin": now}, {"finish": {**now, "ticket": ticket}}]
+    return calls
+
+
 def teams(count: int) -> Json:
     """A story with so many receivers, of which every fifth has a route and an alert."""
     hook = [{"url": "http://localhost/"}]
@@ -239,11 +258,12 @@ MADE = {
     "flapping": flapping, "teams": teams, "ruled": ruled,
 }
 # What makes the lines of an input.
-LINES = {"opened": opened}
+LINES = {"opened": opened, "set again": set_again}
 # A name, what makes the input, its size, and the program.
 GROWTH = [
     ("sources that both sides of a rule match", "two-sided", 8000, "am_run"),
-    ("as many silences as fit, of many alerts", "silenced", 8000, "am_rehearse"),
+    ("silences of many alerts", "silenced", 8000, "am_rehearse"),
+    ("silences that are set one by one, and again", "set again", 32000, "am_dispatch"),
     ("as many expectations as may be, of many alerts", "expected", 8000, "am_rehearse"),
     ("a restart after which each log row goes to 64 equal routes", "restarted", 32, "am_rehearse"),
     ("an alert that fires again and again", "flapping", 1000, "am_rehearse"),
@@ -271,8 +291,23 @@ def text_of(made: str, count: int) -> str:
     return json.dumps(MADE[made](count)) if made in MADE else collisions.text(made, count)
 
 
-def cost_of(program: Program, made: str, count: int) -> tuple[str, float, int]:
-    """How a program ends with an input of a size, seconds of a processor, and KiB."""
+class Growth(NamedTuple):
+    """How a program ends with an input, seconds of a processor, and KiB."""
+
+    end: str
+    seconds: float
+    memory: int
+
+    def __str__(self) -> str:
+        return f"{self.end}, {self.seconds:.2f} s, {self.memory} KiB"
+
+    def least(self, other: "Growth") -> "Growth":
+        """The less of each of two runs that end alike."""
+        return Growth(self.end, min(self.seconds, other.seconds), min(self.memory, other.memory)) if self.end == other.end else other
+
+
+def cost_of(program: Program, made: str, count: int) -> Growth:
+    """What a program makes of an input of a size."""
     with tempfile.NamedTemporaryFile("w", suffix=".json") as file, tempfile.TemporaryFile() as answers:
         file.write(text_of(made, count))
         file.flush()
@@ -280,16 +315,25 @@ def cost_of(program: Program, made: str, count: int) -> tuple[str, float, int]:
         found = program.cost(*words, stdin=Path(file.name), stdout=answers.fileno(), stderr=subprocess.DEVNULL)
         answers.seek(0)
         has_error = program.crate == "am_dispatch" and any(line.startswith(b'{"error"') for line in answers)
-    return "an error" if has_error else f"status {found.status}", found.seconds, found.memory
+    return Growth("an error" if has_error else f"status {found.status}", found.seconds, found.memory)
+
+
+def is_linear(once: Growth, twice: Growth) -> bool:
+    """Whether a program reads both inputs to their end, and twice the input takes at most so many times as much."""
+    ends = once.end == twice.end == "status 0"
+    return ends and twice.seconds <= MOST * max(once.seconds, SHORT) and twice.memory <= MOST * once.memory
 
 
 def growth(told: Report, programs: Programs) -> None:
     """Runs programs on an input of a size and of twice the size."""
     for name, made, size, crate in filter(lambda it: told.concerns(it[0]), GROWTH):
-        (end, seconds, memory), (end_twice, more, memory_twice) = (cost_of(programs[crate], made, it) for it in (size, 2 * size))
-        is_right = end == end_twice == "status 0" and more <= MOST * max(seconds, SHORT) and memory_twice <= MOST * memory
-        once, twice = f"{size}: {end}, {seconds:.2f} s, {memory} KiB", f"{2 * size}: {end_twice}, {more:.2f} s, {memory_twice} KiB"
-        told.holds(name, is_right, once, twice)
+        program = programs[crate]
+        once, twice = cost_of(program, made, size), cost_of(program, made, 2 * size)
+        for _ in range(TRIES - 1):
+            if is_linear(once, twice):
+                break
+            once, twice = once.least(cost_of(program, made, size)), twice.least(cost_of(program, made, 2 * size))
+        told.holds(name, is_linear(once, twice), f"{size}: {once}", f"{2 * size}: {twice}")
 
 
 PARTS = {"patterns": patterns, "lists": lists, "growth": growth}

@@ -5,6 +5,8 @@
   its policy. It has exactly one mark for each line of `--output json` on a notification, in the row and the lane of its group, with its
   time, outcome, reason and alerts. Its texts are those of the timeline, and each expectation has its verdict.
 - `hostile`: so has the page of a story with hostile label values, and of one with thousands of alerts, whose page has to stay small.
+- `mutes`: a list of mutes that several alerts have is on the page once. An alert with a link to it is muted as on a page of its own. A
+  page of thousands of such alerts stays small.
 - `filters`: `--receiver`, `--group` and `--alert` leave the rows of the groups that they name.
 - `shown`: the picture of the README, docs/disk-full.svg, is the one that tools/picture draws of its story.
 """
@@ -15,6 +17,7 @@ import re
 import subprocess
 import sys
 import xml.etree.ElementTree as XML
+from collections import Counter
 from pathlib import Path
 from typing import NamedTuple
 
@@ -135,11 +138,11 @@ def numbered(listed: str | None, members: list[Labels]) -> frozenset[Labels]:
 
 
 def mark_of(item: XML.Element, members: list[Labels]) -> Mark:
-    """What a page says of a notification."""
+    """What a page says of a notification. Behind the class of its mark there can be those of its position."""
     said = LINE.match(all_text(item).strip())
     if not said:
         return Mark(all_text(item), "not read", "", 0, "", frozenset(), frozenset())
-    return Mark(said["time"], item.get("class", ""), said["outcome"] or "delivered", int(said["attempts"] or 1),
+    return Mark(said["time"], item.get("class", "").partition(" ")[0], said["outcome"] or "delivered", int(said["attempts"] or 1),
                 said["reason"].partition(" at ")[0], numbered(said["firing"], members), numbered(said["resolved"], members))
 
 
@@ -152,7 +155,7 @@ def marks(page: XML.Element) -> dict[Lane, list[Mark]]:
         members = [group | labels_in(item.text or "") for it in lists for item in it]
         for heading, items in zip(children(row, "h4"), children(row, "ul")):
             route, _, receiver = all_text(heading).partition(" → ")
-            drawn = [mark_of(it, members) for it in items if it.get("class") != "q"]
+            drawn = [mark_of(it, members) for it in items if "q" not in classes(it)]
             if drawn:
                 found.setdefault((group, route, receiver), []).extend(drawn)
     return found
@@ -200,12 +203,33 @@ def check_page(told: Report, program: Program, name: str, story: str | Path, *op
     told.same(f"{name}: status", lines.status, ran.status)
     told.same(f"{name}: safe", [], odd_parts(page, ran.out))
     told.same(f"{name}: notifications", [], differences(wanted_marks(lines.out), marks(page)))
-    texts = "\n".join(all_text(it) for it in page.iter() if name_of(it) == "pre")
+    texts = spread("\n".join(all_text(it) for it in page.iter() if name_of(it) == "pre"))
     known = set(timeline.split("\n")) | {"none", ""} | {re.sub(" +", " ", it) for it in timeline.split("\n")}
     told.same(f"{name}: texts", [], [it for it in texts.split("\n") if it not in known])
+    told.same(f"{name}: undelivered", undelivered_in(timeline), undelivered_in(texts))
     verdicts = re.findall(r"^expect \d.*: (?:not )?met$", timeline, re.MULTILINE)
     told.same(f"{name}: verdicts", sorted(verdicts), sorted(re.findall(r"^expect \d.*: (?:not )?met$", texts, re.MULTILINE)))
     return ran.out
+
+
+def undelivered_in(text: str) -> list[str]:
+    """The lines of a text on what integrations missed, sorted."""
+    return sorted(it for it in text.split("\n") if it.startswith("undelivered {"))
+
+
+def spread(text: str) -> str:
+    """A text with a line for each alert of which it says something together with others."""
+    lines, said = [], ""
+    for line in text.split("\n"):
+        front = re.fullmatch(r"undelivered, \d+ times(: .*)", line)
+        if front:
+            said = front[1]
+        elif said and line.startswith("  {"):
+            lines.append(f"undelivered {line.strip()}{said}")
+        else:
+            lines.append(line)
+            said = ""
+    return "\n".join(lines)
 
 
 def odd_parts(page: XML.Element, text: str) -> list[str]:
@@ -218,7 +242,7 @@ def odd_parts(page: XML.Element, text: str) -> list[str]:
               if len({name_of(other) for other in of_class(page, kind)}) > 1}
     found |= {name_of(it) for it in page.iter()} - ELEMENTS
     found |= {attribute for it in page.iter() for attribute in it.attrib} - ATTRIBUTES
-    found |= {it.get("href", "") for it in page.iter() if not re.fullmatch(r"#a\d+", it.get("href", "#a0"))}
+    found |= {it.get("href", "") for it in page.iter() if not re.fullmatch(r"#[am]\d+", it.get("href", "#a0"))}
     outside = re.sub(r">[^<]*", ">", text)
     found |= set(re.findall(r"\w+://[^\"\s<]*", outside)) - ELSEWHERE
     found |= set(re.findall(r"(?i)<img|<!--|<!\[|javascript:|@import|url\((?!#)", outside))
@@ -263,6 +287,39 @@ def large_story(count: int) -> str:
                        "start": "2026-11-23T06:00:00Z"})
 
 
+def muted_story(count: int, kinds: int, *group_by: str) -> str:
+    """A story of so many alerts of so many kinds that fire for hours while silences and inhibitions of them come and go."""
+    rule = {"source": ["alertname=\"ClusterDown\""], "target": ["severity=\"page\""], "equal": ["cluster"]}
+    own = {**config(group_by, inhibit=[rule]), "limits": {"groups": 16_384, "flushes": 16_384}}
+    alerts = [{"labels": {"alertname": f"Alert{kind % 40}", "cluster": f"eu{kind % 5}", "instance": f"web-{it}:9100", "severity": "page"},
+               "from": f"{kind * 37 % 240}m", "to": f"{kind * 37 % 240 + 420 + kind % 60}m"}
+              for it, kind in ((it, it % kinds) for it in range(count))]
+    sources = [{"labels": {"alertname": "ClusterDown", "cluster": f"eu{it}", "severity": "critical"},
+                "spans": [{"from": f"{60 + 7 * it + 80 * turn}m", "to": f"{90 + 7 * it + 80 * turn}m"} for turn in range(8)]}
+               for it in range(5)]
+    names = ["|".join(f"Alert{kind}" for kind in range(it, 40, 10)) for it in range(10)]
+    silences = [{"matchers": [f"alertname=~\"{names[it]}\""], "from": f"{11 * it + 90 * turn}m", "to": f"{11 * it + 90 * turn + 45}m"}
+                for it in range(0, 10, 2) for turn in range(6)]
+    return json.dumps({"config": own, "until": "12h", "alerts": alerts + sources, "silences": silences, "start": "2026-11-23T06:00:00Z"})
+
+
+def shared_mutes(page: XML.Element) -> dict[str, list[str]]:
+    """The lists of mutes that a page has once, by the links to them."""
+    return {f"#{item.get('id')}": [all_text(it) for it in item] for lists in of_class(page, "k") for item in lists}
+
+
+def mutes(page: XML.Element) -> dict[Labels, list[str]]:
+    """What a page says of the mutes of each alert, where it is or behind a link."""
+    found: dict[Labels, list[str]] = {}
+    lists = shared_mutes(page)
+    for row in of_class(page, "g"):
+        group = labels_in(own_text(children(row, "summary")[0]))
+        for item in (it for each in row.iter() if name_of(each) == "ol" for it in each):
+            own = [all_text(it) for it in children(item, "u")]
+            found[group | labels_in(item.text or "")] = own + [it for link in children(item, "a") for it in lists[link.get("href", "")]]
+    return found
+
+
 def stories(told: Report, programs: Programs) -> None:
     """The page of each stored story."""
     files = sorted(it for it in REHEARSALS.iterdir() if it.suffix in (".json", ".yml"))
@@ -280,9 +337,30 @@ def hostile(told: Report, programs: Programs) -> None:
     told.holds("five thousand alerts: size", len(text.encode()) <= MOST_PAGE, f"{len(text)} bytes, and {MOST_PAGE} are wanted at most")
 
 
+def muted(told: Report, programs: Programs) -> None:
+    """A list of mutes that several alerts have is on the page once. An alert with a link to it is muted as on a page of its own."""
+    program, story = programs["am_rehearse"], muted_story(120, 20, "instance")
+    page = XML.fromstring(check_page(told, program, "muted alerts", story))
+    lists, found = shared_mutes(page), mutes(page)
+    linked = Counter(it.get("href", "") for row in of_class(page, "g") for it in row.iter() if it.get("href", "").startswith("#m"))
+    told.same("muted alerts: links", sorted(lists), sorted(linked))
+    told.at_least(10, len(lists), "lists of mutes")
+    told.holds("muted alerts: lists", len({tuple(it) for it in lists.values()}) == len(lists), "a list is there twice")
+    told.at_least(4, min(linked.values(), default=0), "alerts with a list")
+    some = json.loads(story)
+    some["alerts"] = [it for it in some["alerts"] if it["labels"].get("instance") in (None, "web-7:9100", "web-12:9100")]
+    alone = mutes(XML.fromstring(play(program, json.dumps(some), "html").out))
+    told.same("muted alerts: mutes", alone, {it: found.get(it) for it in alone})
+    # (its other outputs have each muted alert at each flush)
+    text = play(program, muted_story(5_000, 240, "alertname"), "html").out
+    told.same("five thousand muted alerts: safe", [], odd_parts(XML.fromstring(text), text))
+    told.holds("five thousand muted alerts: size", len(text.encode()) <= MOST_PAGE, f"{len(text)} bytes, at most {MOST_PAGE} are wanted")
+
+
 def filters(told: Report, programs: Programs) -> None:
     """A filter leaves the rows of the groups that it names, and no other."""
-    for options in (("--receiver", "on-call"), ("--group", "root"), ("--alert", 'alertname="DatabaseDown"'), ("--receiver", "nobody")):
+    alerts = [("--alert", f'alertname="{it}"') for it in ("DatabaseDown", "Nothing")]
+    for options in (("--receiver", "on-call"), ("--group", "root"), *alerts):
         check_page(told, programs["am_rehearse"], " ".join(options), ROOT / "examples/incidents/merge.yml", "--config",
                    str(ROOT / "examples/incidents/before.yml"), *options)
 
@@ -299,7 +377,7 @@ def shown_page(told: Report, programs: Programs) -> None:
     told.holds(f"docs/{name}.svg: safe", not odd and not bad, f"{odd} {bad}")
 
 
-PARTS = {"stories": stories, "hostile": hostile, "filters": filters, "shown": shown_page}
+PARTS = {"stories": stories, "hostile": hostile, "mutes": muted, "filters": filters, "shown": shown_page}
 
 if __name__ == "__main__":
     report.main(__file__, PARTS, ("am_rehearse",), __doc__)

@@ -352,7 +352,7 @@ def statuses(told: Report, programs: Programs) -> None:
     def case(name: str, ran: Ran, status: int, line: str) -> None:
         told.same(f"status {status}: {name}", Ran(status, "", line + "\n"), ran)
 
-    case("a folder", program.run(stdin=ROOT), 1, "<stdin>: not readable, or longer than 16 MiB")
+    case("a folder", program.run(stdin=ROOT), 1, "<stdin>: not readable, or longer than 64 MiB")
     for text, line, column in NO_JSON:
         case(f"no JSON at {line}:{column}", program.run(stdin=text), 2, f"<stdin>:{line}:{column}: not JSON")
     case("no configuration", program.run(stdin='{"until":"1h"}'), 2, NO_CONFIGURATION)

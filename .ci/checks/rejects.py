@@ -259,15 +259,15 @@ def hostile() -> list[tuple[str, str, int, str]]:
         ("100,000 alerts, of which 65,536 are allowed", few_known, 2, "/alerts/65536: full"),
         ("a hundred faults behind 50,000 alerts", story(alerts=alerts(50_000) + [{}] * 100), 2, "/alerts/50000/labels: missing"),
         ("an outage without an end", story(until="366d", outages=endless), 0, ""),
-        ("300,000 routes", wide, 2, "/alertmanager/route/routes/1023: value"),
+        ("300,000 routes", wide, 2, "/alertmanager/route/routes/16383: value"),
         ("maintenance each millisecond", story(config=short, until="366d", maintain="1ms"), 2, "/until: full"),
     ]
     return [
         ("arrays 100,000 deep", "[" * 100_000, 2, no_json),
         ("arrays 100,000 deep, closed", "[" * 100_000 + "]" * 100_000, 2, no_json),
         ("objects 100,000 deep", '{"config":' * 100_000, 2, no_json),
-        ("16 MiB", json.dumps(story()).ljust(16_777_216), 0, ""),
-        ("16 MiB and a byte", json.dumps(story()).ljust(16_777_217), 1, "not readable"),
+        ("64 MiB", json.dumps(story()).ljust(67_108_864), 0, ""),
+        ("64 MiB and a byte", json.dumps(story()).ljust(67_108_865), 1, "not readable"),
         *((name, json.dumps(value), status, line) for name, value, status, line in written),
     ]
 
@@ -288,15 +288,15 @@ def routes_below(widths: list[int], level: int = 1, **members: Json) -> Json:
 def trees(told: Report, program: Program) -> None:
     """The widest tree that is allowed, which finds one route for an alert that each takes, or with `continue` all of the
     lowest level; and one of a route more, which is rejected at the last that there is no capacity for."""
-    widest = routes_below([3, 4, 4, 4, 4])
+    widest = routes_below([3, 4, 4, 4, 4, 4, 4])
     for name, routes, wanted in [
-        ("1,023 routes five deep", widest, "status 0, 1 notices"),
-        ("1,023 routes five deep, with continue", routes_below([3, 4, 4, 4, 4], **{"continue": True}), "status 0, 768 notices"),
-        ("1,024 routes five deep", [*widest, {}], "status 2, 0 notices /alertmanager/route/routes/3: value"),
+        ("16,383 routes seven deep", widest, "status 0, 1 notices"),
+        ("16,383 routes seven deep, with continue", routes_below([3, 4, 4, 4, 4, 4, 4], **{"continue": True}), "status 0, 12288 notices"),
+        ("16,384 routes seven deep", [*widest, {}], "status 2, 0 notices /alertmanager/route/routes/3: value"),
     ]:
         hooks = [{"name": "team", "webhook_configs": [{"url": "http://localhost/"}]}]
         whole = alertmanager_story(route={"receiver": "team", "routes": routes}, receivers=hooks)
-        labels = {f"level{level}": "x" for level in range(1, 6)}
+        labels = {f"level{level}": "x" for level in range(1, 8)}
         text = json.dumps({**whole, "alerts": [{"labels": labels}], "output": "notices"})
         ran = rehearse(program, text, *PLAY, limits=Limits(1, LIMITS.memory))
         got = " ".join([f"status {ran.status}, {len(ran.out.splitlines())} notices", *faults_in(ran.err)])

@@ -34,15 +34,17 @@ AFTER = [
     "checks/am_run.py examples", "checks/am_run.py statuses", "checks/am_run.py lengths", "checks/formats.py routes",
     "checks/formats.py hours", "checks/rehearse.py commands", "checks/formats.py yaml", "checks/rejects.py",
     "checks/rehearse.py notices", "checks/rehearse.py dispatchers", "checks/rehearse.py statuses", "checks/rehearse.py schema",
-    "checks/hostile.py", "checks/dispatch.py", "checks/live.py", "checks/live_rehearsals.py", "checks/programs.py", "checks/package.py",
+    "checks/hostile.py", "checks/patterns.py listed", "checks/dispatch.py",
+    "checks/live.py", "checks/live_rehearsals.py", "checks/programs.py", "checks/package.py",
     "checks/steps.py", "checks/pages.py quotes",
 ]
 # Whether the kit keeps what it proved; one that doesn't has no word for that, and proves all each time.
 KEEPS = "--anew" in subprocess.run(["rt", "help"], capture_output=True, text=True, check=False).stderr
 # With at most so many crates to prove, `rt ci` itself decides how many run at a time, and gives each several processors.
 FEW = 8
-# What nearly all others wait for: am_alerts, am_mute, am_model and this. Proved first, each gets several processors.
-LOW = "am_board"
+# What nearly all others wait for, in this order. Proved first and one after the other, each gets several processors; at the
+# same time as others, am_alerts would get one. (am_board needs so much memory that it gets one anyway: it begins with the rest.)
+LOW = ("am_alerts", "am_model")
 # In GB: what a proof takes at most; and the memory from which on wrong bodies are tried while proofs run.
 PROOF, MUCH = 5, 18
 STARTED = time.monotonic()
@@ -68,7 +70,7 @@ class Gate:
         self.running: dict[str, subprocess.Popen[str]] = {}
         self.has_much = memory() >= MUCH
         changed = kept.with_above(kept.changed())
-        self.proves_low = KEEPS and not anew and LOW in changed
+        self.low = [it for it in LOW if it in changed] if KEEPS and not anew else []
         if anew or not KEEPS or len(changed) > FEW:
             # (then many wait at a time, and `rt ci` by itself sets up to twice as much memory aside as they take)
             os.environ.setdefault("RT_JOBS", str(max(1, min(processors(), int(memory() / PROOF)))))
@@ -143,9 +145,10 @@ class Gate:
     def prove_low(self) -> None:
         """Proves the lowest crates with several processors each, if they are to be proved. It saves time and decides nothing:
         the whole `rt ci` proves again what failed here, and says why."""
-        if self.proves_low:
-            name = f"rt ci {LOW}"
-            self.part(["rt", "ci", LOW], name, env={it: os.environ[it] for it in os.environ if it != "RT_JOBS"})
+        env = {it: os.environ[it] for it in os.environ if it != "RT_JOBS"}
+        for low in self.low:
+            name = f"rt ci {low}"
+            self.part(["rt", "ci", low], name, env=env)
             self.failed = [it for it in self.failed if it != name]
 
     def end(self) -> int:

@@ -50,6 +50,13 @@ func configCall(value map[string]interface{}) (call, error) {
 	return call{name: "alertmanager", args: args[1 : len(args)-1], answers: []string{"opened"}}, nil
 }
 
+// openCall opens a board whose routes are muted by time. Its value is that of an alertmanager.yml, and what times mean.
+func openCall(value map[string]interface{}) (call, error) {
+	c, err := configCall(value)
+	c.name = "open"
+	return c, err
+}
+
 // matcher is a name, an operator and a value.
 type matcher [3]string
 
@@ -59,6 +66,14 @@ func silenceCall(id int64, matchers []matcher, starts, ends int64) call {
 	args := fmt.Sprintf(`"id":%d,"matchers":%s,"starts":%d,"ends":%d`, id, list, starts, ends)
 	return call{name: "silence", timed: true, args: []byte(args), answers: []string{"silenced"}}
 }
+
+// statusCall asks what mutes a label set.
+func statusCall(labels model.LabelSet) call {
+	return call{name: "status", timed: true, args: []byte(subjectOfLabels(labels)), answers: []string{"status"}}
+}
+
+// shownPrefix parts a label set whose status is asked from an alert that is inserted: a board that ends at the one says nothing of the other.
+const shownPrefix = "status "
 
 // reportCall reports how a notice ended: delivered, refused or expired.
 func reportCall(ticket int64, integration int, outcome string) call {
@@ -83,10 +98,13 @@ func loadCall(r row) (call, error) {
 	return call{name: "load", timed: true, args: append([]byte(`"row":`), value...), answers: []string{"loaded"}}, err
 }
 
-// subjects is what a silence or inserts are about, without numbers and times. Other calls have none.
+// subjects is what a silence, a status or inserts are about, without numbers and times. Other calls have none.
 func (c call) subjects() []string {
-	if c.name == "silence" {
+	switch c.name {
+	case "silence":
 		return []string{between(c.args, `"matchers":`, `,"starts":`)}
+	case "status":
+		return []string{shownPrefix + string(c.args)}
 	}
 	out := make([]string, 0, len(c.items))
 	for _, it := range c.items {

@@ -23,13 +23,13 @@ type session struct {
 	*plan
 	routeNames
 	board *board
+	opens call   // by which the board was opened
+	hours *hours // the time intervals that it has, if any; of upkeep alone
 	// removesGroups: the board has a call that removes empty groups and nothing else.
 	removesGroups bool
-	// mark updates the states that the API shows.
-	mark    func(model.LabelSet)
-	ctx     context.Context
-	cancel  context.CancelFunc
-	sending sync.WaitGroup
+	ctx           context.Context
+	cancel        context.CancelFunc
+	sending       sync.WaitGroup
 }
 
 // dispatcher has the session and all that outlives it. Its locks are held for work in memory alone, with two exceptions, `loading` and
@@ -44,6 +44,8 @@ type dispatcher struct {
 
 	silences *silence.Silences
 	alerts   provider.Alerts
+	marker   types.Marker // the states that the API shows
+	marking  marking
 	book     *logbook
 	history  *historyFile
 	cluster  peers
@@ -78,7 +80,7 @@ func newDispatcher(o *options, m *metrics, sends *notify.Metrics, silences *sile
 	return &dispatcher{
 		program: o.board, timeout: o.boardTimeout, clock: c, logger: log.With(logger, "component", "dispatcher"), metrics: m, sends: sends,
 		silences: silences, book: book, history: history,
-		known: map[model.Fingerprint]*types.Alert{}, refused: map[model.Fingerprint]struct{}{}, mirror: mirror{has: map[string]mirrored{}},
+		known: map[model.Fingerprint]*types.Alert{}, refused: map[model.Fingerprint]struct{}{}, mirror: mirror{has: map[string]mirrored{}, names: map[int64]string{}},
 		wake: make(chan struct{}, 1), isLong: make(chan struct{}, 1), stop: make(chan struct{}),
 	}
 }

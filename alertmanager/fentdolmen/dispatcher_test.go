@@ -28,7 +28,7 @@ func TestAReloadWhileSomethingIsAlwaysDue(t *testing.T) {
 	first := d.session()
 	waitFor(t, func() bool { return d.summary().Groups > 0 })
 	ended := make(chan error)
-	go func() { ended <- d.load(first.plan, first.mark) }()
+	go func() { ended <- d.load(first.plan) }()
 	select {
 	case err := <-ended:
 		if err != nil || d.session() == first {

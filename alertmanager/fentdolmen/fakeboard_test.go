@@ -22,6 +22,8 @@ import (
 //   - `mute`: it answers nothing after its configuration
 //   - `due`, `slow`: fakeDue groups are due, and its summary counts flushes that were finished; `slow` takes its time to begin each
 //   - `always`: as `due`, without an end
+//   - `mutes`: a silence and two rules mute each alert
+//   - `unshown`: it ends at the status of an alert `poison`
 //   - `counts`, `old`: its summary counts calls, and `old` doesn't know the one that removes empty groups alone
 type fakeBoard struct {
 	how string
@@ -31,7 +33,7 @@ type fakeBoard struct {
 }
 
 var fakeAnswers = map[string]string{"silence": "silenced", "report": "reported", "note": "noted", "finish": "finished", "maintain": "maintained",
-	"forget": "forgotten", "load": "loaded", "take_history": "taken", "next_due": "next_due", "summary": "summary", "begin": "nothing_due"}
+	"forget": "forgotten", "load": "loaded", "take_history": "taken", "next_due": "next_due", "summary": "summary", "begin": "nothing_due", "status": "status"}
 
 func (f *fakeBoard) run() {
 	in := bufio.NewScanner(os.Stdin)
@@ -75,6 +77,12 @@ func (f *fakeBoard) answer(name string, args json.RawMessage) (string, bool) {
 			return fault("TooManySilences"), true
 		}
 		return `{"silenced":{"replaced":false}}`, f.how != "silent"
+	case "status":
+		if f.how == "mutes" {
+			return `{"status":{"now":0,"muted":[{"cause":"silenced","id":1,"until":9},{"cause":"inhibited","rule":0,"by":{"alertname":"B"}},` +
+				`{"cause":"inhibited","rule":1,"by":{"alertname":"C"}}],"routes":[]}}`, true
+		}
+		return usual, f.how != "unshown" || !bytes.Contains(args, []byte("poison"))
 	case "begin":
 		if f.how == "full" && f.calls["take_history"] == 0 {
 			return fault("HistoryFull"), true

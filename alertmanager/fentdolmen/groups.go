@@ -23,14 +23,15 @@ func (d *dispatcher) Groups(hasRoute func(*dispatch.Route) bool, hasAlert func(*
 	if err := s.board.ask(groupsCall(), &found); err != nil {
 		level.Error(d.logger).Log("msg", "groups not read", "err", err)
 	}
+	alerts := d.markedOf(found)
 	now := time.Now()
-	for _, g := range found {
+	for i, g := range found {
 		route := s.routes[g.Group.Route]
 		if route == nil || !hasRoute(route) {
 			continue
 		}
 		shown := &dispatch.AlertGroup{Labels: g.Group.Labels, Receiver: route.RouteOpts.Receiver}
-		for _, a := range d.knownOf(g.Alerts) {
+		for _, a := range alerts[i] {
 			if hasAlert(a, now) {
 				shown.Alerts = append(shown.Alerts, a)
 				receivers[a.Fingerprint()] = append(receivers[a.Fingerprint()], shown.Receiver)
@@ -46,6 +47,17 @@ func (d *dispatcher) Groups(hasRoute func(*dispatch.Route) bool, hasAlert func(*
 		sort.Strings(names)
 	}
 	return groups, receivers
+}
+
+// markedOf is the alerts of each group, once their states are the board's.
+func (d *dispatcher) markedOf(groups []boardGroup) (out [][]*types.Alert) {
+	var all []*types.Alert
+	for _, g := range groups {
+		alerts := d.knownOf(g.Alerts)
+		out, all = append(out, alerts), append(all, alerts...)
+	}
+	d.mark(all)
+	return out
 }
 
 // knownOf is the alerts as they were inserted last.

@@ -69,12 +69,8 @@ func wholeLines(file *os.File) (int64, error) {
 	return 0, err
 }
 
-// begin adds the configuration of a new board.
-func (h *historyFile) begin(value object) {
-	c, err := configCall(value)
-	if err != nil {
-		return
-	}
+// begin adds the call that opened a new board.
+func (h *historyFile) begin(c call) {
 	h.mtx.Lock()
 	h.lost = false
 	h.mtx.Unlock()

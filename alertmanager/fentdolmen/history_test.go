@@ -39,7 +39,7 @@ func TestAHistoryThatCantBeWritten(t *testing.T) {
 	for _, it := range [][]byte{large, large, large, []byte("dropped\n")} {
 		h.add(it)
 	}
-	h.begin(object{})
+	h.begin(call{name: "alertmanager"})
 	h.add([]byte("next\n"))
 	go h.run()
 	h.close()

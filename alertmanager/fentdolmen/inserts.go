@@ -23,7 +23,7 @@ func tooLarge(labels model.LabelSet) error {
 	if len(labels) <= mostLabels && bytes <= mostBytes {
 		return nil
 	}
-	return &refusal{"insert", "/insert/labels", "value", fmt.Sprintf("%d labels of %d bytes, and there can be %d of %d", len(labels), bytes, mostLabels, mostBytes)}
+	return &refusal{"insert", "/insert/labels", badValue, fmt.Sprintf("%d labels of %d bytes, and there can be %d of %d", len(labels), bytes, mostLabels, mostBytes)}
 }
 
 // insertItem is the arguments of an insert, with times of the board.
@@ -39,6 +39,11 @@ func insertItem(labels model.LabelSet, now, starts int64, ends *int64) []byte {
 
 // subjectOf is the labels of an insert.
 func subjectOf(item []byte) string { return between(item, `"labels":`, `,"starts":`) }
+
+// subjectOfLabels is the same of a label set.
+func subjectOfLabels(labels model.LabelSet) string {
+	return string(appendLabels([]byte(`"labels":`), labels))
+}
 
 // appendItems appends an array.
 func appendItems(out []byte, items [][]byte) []byte {

@@ -91,7 +91,7 @@ func TestARequestIsTriedAgainAfterTheRemovalForAnother(t *testing.T) {
 
 func TestOneRejectedAlertRejectsNoOther(t *testing.T) {
 	large := "alertname=2,x=" + strings.Repeat("x", mostBytes)
-	for how, rejected := range map[string]string{"the board": "alertname=2,y=" + strings.Repeat("y", 5000), "the program": large} {
+	for how, rejected := range map[string]string{"the board": "alertname=2,y=" + strings.Repeat("y", 20000), "the program": large} {
 		t.Run(how, func(t *testing.T) {
 			d := testDispatcher(t, realBoard(t), oneReceiver)
 			if err := (dispatched{d.alerts, d}).Put(alert("alertname=1"), alert(rejected), alert("alertname=3")); err == nil {
@@ -136,7 +136,7 @@ func TestABoardThatEndsBeforeItsSession(t *testing.T) {
 	d := testDispatcher(t, fake(t, "usual"), oneReceiver)
 	first := d.session()
 	t.Setenv("FAKE_BOARD", "unopened")
-	if d.load(first.plan, first.mark) == nil || d.session() != first || d.isDown() != nil {
+	if d.load(first.plan) == nil || d.session() != first || d.isDown() != nil {
 		t.Error("a board that doesn't open takes over")
 	}
 	waitFor(t, func() bool { return testutil.ToFloat64(d.metrics.restarts) == 1 })

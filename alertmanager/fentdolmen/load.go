@@ -16,19 +16,19 @@ import (
 const mostCalls = 500
 
 // load begins a session with a configuration. With an error nothing has changed, and the old session goes on.
-func (d *dispatcher) load(p *plan, mark func(model.LabelSet)) error {
+func (d *dispatcher) load(p *plan) error {
 	d.loading.Lock()
 	defer d.loading.Unlock()
-	return d.replace(d.session(), p, mark)
+	return d.replace(d.session(), p)
 }
 
 // replace begins a session in place of the old one, if there is one. What can be refused comes first.
-func (d *dispatcher) replace(old *session, p *plan, mark func(model.LabelSet)) error {
+func (d *dispatcher) replace(old *session, p *plan) error {
 	b, err := openBoard(d.program, d.program, d.timeout, d.clock.now, d.broken, d.isHistoryLong)
 	if err != nil {
 		return err
 	}
-	next, err := configured(b, p, mark)
+	next, err := d.configured(b, p)
 	if err != nil {
 		d.count(err)
 		b.close()
@@ -39,7 +39,7 @@ func (d *dispatcher) replace(old *session, p *plan, mark func(model.LabelSet)) e
 	if old != nil {
 		d.endSession(old)
 	}
-	d.history.begin(p.value)
+	d.history.begin(next.opens)
 	d.mirror.reset()
 	// Most rows come before alerts have to wait. Those that peers send meanwhile are in the logbook, and come after.
 	later := d.loadRows(next, 0)
@@ -55,8 +55,8 @@ func (d *dispatcher) replace(old *session, p *plan, mark func(model.LabelSet)) e
 }
 
 // configured gives a new board its configuration, and makes a session of it.
-func configured(b *board, p *plan, mark func(model.LabelSet)) (*session, error) {
-	c, err := configCall(p.value)
+func (d *dispatcher) configured(b *board, p *plan) (*session, error) {
+	c, hours, err := opening(p, d.clock)
 	if err != nil {
 		return nil, err
 	}
@@ -68,7 +68,7 @@ func configured(b *board, p *plan, mark func(model.LabelSet)) (*session, error) 
 	if err != nil {
 		return nil, err
 	}
-	s := &session{plan: p, routeNames: names, board: b, mark: mark}
+	s := &session{plan: p, routeNames: names, board: b, opens: c, hours: hours}
 	if s.removesGroups, err = hasCall(b, removeGroupsCall()); err != nil {
 		return nil, err
 	}
@@ -190,7 +190,7 @@ func (d *dispatcher) broken(b *board, fault error) {
 		if d.isStopped() {
 			return
 		}
-		err := d.replace(s, s.plan, s.mark)
+		err := d.replace(s, s.plan)
 		if err == nil {
 			return
 		}

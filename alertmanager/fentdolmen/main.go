@@ -26,7 +26,6 @@ import (
 	"github.com/prometheus/alertmanager/cluster"
 	"github.com/prometheus/alertmanager/config"
 	"github.com/prometheus/alertmanager/dispatch"
-	"github.com/prometheus/alertmanager/inhibit"
 	"github.com/prometheus/alertmanager/notify"
 	"github.com/prometheus/alertmanager/provider/mem"
 	"github.com/prometheus/alertmanager/silence"
@@ -71,7 +70,6 @@ type program struct {
 	file        *logFile
 	dispatcher  *dispatcher
 	alerts      *mem.Alerts
-	inhibitor   *inhibit.Inhibitor
 	api         *api.API
 	coordinator *config.Coordinator
 	hup         chan os.Signal
@@ -149,7 +147,7 @@ func (p *program) buildDispatcher() error {
 		return err
 	}
 	p.closing(p.alerts.Close)
-	p.dispatcher.alerts = p.alerts
+	p.dispatcher.alerts, p.dispatcher.marker = p.alerts, p.marker
 	p.silences.SetBroadcast(func(message []byte) {
 		p.dispatcher.silencesChanged(message)
 		p.saver.poke()
@@ -222,19 +220,14 @@ func (p *program) apply(conf *config.Config) error {
 	if err != nil {
 		return err
 	}
-	// The API shows the states of alerts by Alertmanager's own inhibitor and silencer. They decide nothing.
-	inhibitor, silencer := inhibit.NewInhibitor(p.alerts, conf.InhibitRules, p.marker, p.logger), silence.NewSilencer(p.silences, p.marker, p.logger)
-	mark := func(labels model.LabelSet) {
-		inhibitor.Mutes(labels)
-		silencer.Mutes(labels)
-	}
-	if err := p.dispatcher.load(newPlan(conf, integrations), mark); err != nil {
+	plan, err := newPlan(conf, integrations)
+	if err != nil {
 		return err
 	}
-	p.inhibitor.Stop()
-	p.inhibitor = inhibitor
-	go inhibitor.Run()
-	p.api.Update(conf, mark)
+	if err := p.dispatcher.load(plan); err != nil {
+		return err
+	}
+	p.api.Update(conf, func(model.LabelSet) {}) // (the states are marked before it asks for them)
 	p.metrics.receivers.Set(float64(len(integrations)))
 	count := 0
 	for _, list := range integrations {

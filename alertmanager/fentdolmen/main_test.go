@@ -48,17 +48,27 @@ func testClock() *clock { return newClock(wallClock, steadyClock) }
 
 const oneReceiver = "route: {receiver: team, group_by: [alertname]}\nreceivers: [{name: team, webhook_configs: [{url: 'http://127.0.0.1:9/'}]}]"
 
-// planOf is the plan of a configuration.
-func planOf(t *testing.T, text string) *plan {
+// confOf is a configuration.
+func confOf(t *testing.T, text string) *config.Config {
 	conf, err := config.Load(text)
 	if err != nil {
 		t.Fatal(err)
 	}
+	return conf
+}
+
+// planOf is the plan of a configuration.
+func planOf(t *testing.T, text string) *plan {
+	conf := confOf(t, text)
 	integrations, err := buildReceivers(conf, usedReceivers(dispatch.NewRoute(conf.Route, nil)), &template.Template{}, log.NewNopLogger())
 	if err != nil {
 		t.Fatal(err)
 	}
-	return newPlan(conf, integrations)
+	p, err := newPlan(conf, integrations)
+	if err != nil {
+		t.Fatal(err)
+	}
+	return p
 }
 
 // testDispatcher is one with a board, whose flushes don't run.
@@ -74,12 +84,13 @@ func testDispatcher(t *testing.T, program, text string) *dispatcher {
 	}
 	o := &options{board: program, boardTimeout: 10 * time.Second}
 	d := newDispatcher(o, newMetrics(reg), notify.NewMetrics(reg), silences, newLogbook(), history, testClock(), logger)
-	alerts, err := mem.NewAlerts(context.Background(), types.NewMarker(reg), time.Hour, d, logger, reg)
+	d.marker = types.NewMarker(reg)
+	alerts, err := mem.NewAlerts(context.Background(), d.marker, time.Hour, d, logger, reg)
 	if err != nil {
 		t.Fatal(err)
 	}
 	d.alerts = alerts
-	if err := d.load(planOf(t, text), func(model.LabelSet) {}); err != nil {
+	if err := d.load(planOf(t, text)); err != nil {
 		t.Fatal(err)
 	}
 	t.Cleanup(func() {

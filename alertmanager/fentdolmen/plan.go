@@ -13,7 +13,6 @@ import (
 	"github.com/prometheus/alertmanager/inhibit"
 	"github.com/prometheus/alertmanager/notify"
 	"github.com/prometheus/alertmanager/pkg/labels"
-	"github.com/prometheus/alertmanager/timeinterval"
 )
 
 type object = map[string]interface{}
@@ -24,9 +23,9 @@ type plan struct {
 	// integrations are by receiver, in the order of positions. receivers are the board's names for Alertmanager's.
 	integrations map[string][]notify.Integration
 	receivers    map[string]string
-	intervals    map[string][]timeinterval.TimeInterval
-	// value is what the board is given.
-	value object
+	// value is what the board is given, and locations are the zones that its time intervals name: nil if no route is muted by time.
+	value     object
+	locations map[string]bool
 }
 
 // routeNames are the board's names of routes, there and back. Several routes can share Alertmanager's key and receiver.
@@ -65,20 +64,11 @@ func usedReceivers(root *dispatch.Route) map[string]bool {
 }
 
 // newPlan makes the plan of a configuration, whose receivers have these integrations.
-func newPlan(conf *config.Config, integrations map[string][]notify.Integration) *plan {
-	p := &plan{
-		root: dispatch.NewRoute(conf.Route, nil), integrations: integrations,
-		receivers: map[string]string{}, intervals: map[string][]timeinterval.TimeInterval{},
-	}
-	for _, it := range conf.MuteTimeIntervals {
-		p.intervals[it.Name] = it.TimeIntervals
-	}
-	for _, it := range conf.TimeIntervals {
-		p.intervals[it.Name] = it.TimeIntervals
-	}
+func newPlan(conf *config.Config, integrations map[string][]notify.Integration) (*plan, error) {
+	p := &plan{root: dispatch.NewRoute(conf.Route, nil), integrations: integrations, receivers: map[string]string{}}
 	receivers := p.boardReceivers(conf)
 	p.value = object{"receivers": receivers, "route": p.boardRoute(p.root), "inhibit_rules": boardRules(conf)}
-	return p
+	return p, p.setIntervals(conf)
 }
 
 // boardReceivers names the receivers for the board: it rejects longer names, and makes those of routes from them.
@@ -123,6 +113,12 @@ func (p *plan) boardRoute(r *dispatch.Route) object {
 	}
 	if r != p.root {
 		value["matchers"], value["continue"] = texts(r.Matchers), r.Continue
+	}
+	if opts.MuteTimeIntervals != nil {
+		value["mute_time_intervals"] = opts.MuteTimeIntervals
+	}
+	if opts.ActiveTimeIntervals != nil {
+		value["active_time_intervals"] = opts.ActiveTimeIntervals
 	}
 	var below []object
 	for _, child := range r.Routes {

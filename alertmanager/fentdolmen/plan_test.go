@@ -143,7 +143,7 @@ func TestRowsReachTheBoard(t *testing.T) {
 		t.Fatal(err)
 	}
 	p := d.session().plan
-	if err := d.load(p, d.session().mark); err != nil {
+	if err := d.load(p); err != nil {
 		t.Fatal(err)
 	}
 	line, err := d.session().board.submit(beginCall()).wait()
@@ -170,7 +170,7 @@ func TestABoardThatDoesntNameRoutes(t *testing.T) {
 	d := testDispatcher(t, fake(t, "usual"), manyRoutes)
 	first := d.session()
 	t.Setenv("FAKE_BOARD", "unnamed")
-	if err := d.load(first.plan, first.mark); err == nil || d.session() != first {
+	if err := d.load(first.plan); err == nil || d.session() != first {
 		t.Error("it is taken: ", err)
 	}
 }

@@ -23,6 +23,7 @@ const (
 	tooManySilences = "TooManySilences"
 	historyFull     = "HistoryFull"
 	noMemory        = "memory"
+	badValue        = "value"   // such as labels above a limit
 	unknown         = "unknown" // no call of this name
 	// untold: the call was made, and its answer is lost. What the dispatcher knows of the board is no longer true.
 	untold = "untold"

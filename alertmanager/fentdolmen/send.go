@@ -46,9 +46,7 @@ func (d *dispatcher) send(s *session, c call, line []byte) {
 			filled = append(filled, n)
 		}
 	}
-	if !f.isMuted(ctx, d) {
-		d.sendAll(ctx, f, filled)
-	}
+	d.sendAll(ctx, f, filled)
 	d.finish(f)
 }
 
@@ -72,16 +70,7 @@ func (f *sending) context() context.Context {
 	ctx = notify.WithGroupKey(ctx, fmt.Sprintf("%s:%s", f.route.Key(), f.Group.Labels))
 	ctx = notify.WithGroupLabels(ctx, f.Group.Labels)
 	ctx = notify.WithReceiverName(ctx, opts.Receiver)
-	ctx = notify.WithRepeatInterval(ctx, opts.RepeatInterval)
-	ctx = notify.WithMuteTimeIntervals(ctx, opts.MuteTimeIntervals)
-	return notify.WithActiveTimeIntervals(ctx, opts.ActiveTimeIntervals)
-}
-
-// isMuted asks Alertmanager's own stages whether a time interval mutes the route: the board accepts no route with one.
-func (f *sending) isMuted(ctx context.Context, d *dispatcher) bool {
-	stages := notify.MultiStage{notify.NewTimeActiveStage(f.intervals), notify.NewTimeMuteStage(f.intervals)}
-	_, left, err := stages.Exec(ctx, d.logger, &types.Alert{})
-	return err == nil && len(left) == 0
+	return notify.WithRepeatInterval(ctx, opts.RepeatInterval)
 }
 
 // sendNotice sends a notice unless a peer has, and reports it.
@@ -93,7 +82,7 @@ func (d *dispatcher) sendNotice(ctx context.Context, f *sending, n notice) {
 	}
 	alerts := d.alertsOf(n)
 	for _, a := range alerts {
-		f.mark(a.Labels)
+		d.show(a.Fingerprint(), status{}) // (nothing mutes it: it is notified of)
 	}
 	ctx = notify.WithFiringAlerts(ctx, make([]uint64, len(n.Firing)))
 	ctx = notify.WithResolvedAlerts(ctx, make([]uint64, len(n.Resolved)))

@@ -16,9 +16,10 @@ import (
 
 // mirror is what the board has of the silences. Its lock is taken under that of the silences: never ask for them with it held.
 type mirror struct {
-	mtx  sync.Mutex
-	has  map[string]mirrored
-	last int64 // the greatest number that was given
+	mtx   sync.Mutex
+	has   map[string]mirrored
+	names map[int64]string // the silences by these numbers
+	last  int64            // the greatest number that was given
 	// isBehind: a silence was rejected that can be accepted later.
 	isBehind bool
 }
@@ -33,14 +34,14 @@ type mirrored struct {
 func (m *mirror) reset() {
 	m.mtx.Lock()
 	defer m.mtx.Unlock()
-	m.has = map[string]mirrored{}
+	m.has, m.names = map[string]mirrored{}, map[int64]string{}
 }
 
 // lacks has a silence passed on again later.
 func (m *mirror) lacks(id string) {
 	m.mtx.Lock()
 	defer m.mtx.Unlock()
-	delete(m.has, id)
+	m.drop(id)
 	m.isBehind = true
 }
 
@@ -59,9 +60,27 @@ func (m *mirror) forget(now time.Time) {
 	defer m.mtx.Unlock()
 	for id, it := range m.has {
 		if it.ends.Before(now.Add(-time.Hour)) {
-			delete(m.has, id)
+			m.drop(id)
 		}
 	}
+}
+
+// drop lets go of a silence, with the lock held.
+func (m *mirror) drop(id string) {
+	delete(m.names, m.has[id].id)
+	delete(m.has, id)
+}
+
+// named returns the silences of these numbers.
+func (m *mirror) named(numbers []int64) (ids []string) {
+	m.mtx.Lock()
+	defer m.mtx.Unlock()
+	for _, it := range numbers {
+		if id, ok := m.names[it]; ok {
+			ids = append(ids, id)
+		}
+	}
+	return ids
 }
 
 // knows returns whether the board has a silence.
@@ -81,6 +100,7 @@ func (m *mirror) number(s *silencepb.Silence) (int64, bool) {
 	if !ok {
 		m.last++
 		old.id = m.last
+		m.names[old.id] = s.Id
 	}
 	m.has[s.Id] = mirrored{old.id, s.UpdatedAt, s.EndsAt}
 	return old.id, true
@@ -182,6 +202,7 @@ func (d *dispatcher) syncSilences(s *session) {
 // followClock passes all silences on again after the wall clock was set: they end when their ends are there by the new one. And the saved
 // log gets the times of the new one.
 func (d *dispatcher) followClock(s *session) {
+	d.renew(s)
 	offset := d.clock.offset()
 	jump := offset - d.followed
 	if jump == 0 {

@@ -51,7 +51,7 @@ func TestSilencesReachTheBoard(t *testing.T) {
 	if err := d.silences.Expire(id); err != nil {
 		t.Fatal(err)
 	}
-	if err := d.load(d.session().plan, d.session().mark); err != nil { // (a new board hasn't what is over)
+	if err := d.load(d.session().plan); err != nil { // (a new board hasn't what is over)
 		t.Fatal(err)
 	}
 	if got := begun(t, d); got != 2 {

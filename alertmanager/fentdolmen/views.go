@@ -67,6 +67,17 @@ type boardGroup struct {
 	Alerts  []boardAlert `json:"alerts"`
 }
 
+// status is what mutes a label set: each silence by its number, and each rule by the alert because of which it does.
+type status struct {
+	Muted []muteCause `json:"muted"`
+}
+
+type muteCause struct {
+	Cause string         `json:"cause"`
+	ID    int64          `json:"id"`
+	By    model.LabelSet `json:"by"`
+}
+
 type nextDue struct {
 	At *int64 `json:"at"`
 }

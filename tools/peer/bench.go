@@ -170,13 +170,19 @@ func flushes(count, groups int) {
 
 func silences(count, groups, silences int) {
 	p := newPeer(nil)
-	for number := 0; number < silences; number++ {
+	set := make([]*silencepb.Silence, silences)
+	for number := range set {
 		host := fmt.Sprintf("host-%05d:9100", number*11)
-		must(p.silences.Set(&silencepb.Silence{
+		set[number] = &silencepb.Silence{
 			StartsAt: time.Now(), EndsAt: time.Now().Add(time.Hour),
 			Matchers: []*silencepb.Matcher{{Name: "instance", Pattern: host}},
-		}))
+		}
 	}
+	timed("new silences", silences, func() {
+		for _, it := range set {
+			must(p.silences.Set(it))
+		}
+	})
 	p.put(spread(count, groups))
 	muted := (count + 10) / 11
 	if silences < muted {

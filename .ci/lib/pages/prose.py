@@ -111,17 +111,19 @@ def link_fault(page: Path, text: str, target: str) -> str | None:
 
 
 def places_of(name: str) -> list[Path]:
-    """The files that a code span of a line `**Defined** ..` names: a definition, an example, or a program of the gate with its part."""
+    """The files that a code span of a line `**Defined** ..` or `**Rejected** ..` names: a definition, a wrong body, an example, or a
+    program of the gate with its part."""
     if re.fullmatch(r"am_\w+/\S+", name.replace(", ", ",")):
-        return [spec_of(it) for it in spread(name)]
+        edits = {it: ROOT / f"crates/{it.replace('/', '/wrong-bodies/', 1)}.edit" for it in spread(name)}
+        return [edit if edit.exists() else spec_of(it) for it, edit in edits.items()]
     return [ROOT / it for it in spread(name.split()[0])] if "/" in name else [*(ROOT / "examples").rglob(name)]
 
 
 def named_faults(text: str) -> Found:
-    """What lines that say where a rule is defined and shown name, and isn't there."""
+    """What lines that say where a rule is defined, shown and broken name, and isn't there."""
     found: Found = []
     for number, line in enumerate(text.splitlines(), 1):
-        for name in re.findall(r"`([^`]+)`", line) if line.startswith("**Defined** in") else []:
+        for name in re.findall(r"`([^`]+)`", line) if line.startswith(("**Defined** in", "**Rejected**")) else []:
             places = [] if name == "outlook" else places_of(name)
             found += [(number, f"no {name}")] * (name != "outlook" and not (places and all(it.exists() for it in places)))
     return found

@@ -38,6 +38,8 @@ pub mod PlainMatches
 pub mod PlainReads
 -- the positions of a label set's routes: they ascend, and each is of a route
 pub mod Positions
+-- a set of the names of routes, which meets a name again where two routes have it
+pub mod RouteNames
 -- a search among the routes of a tree, step by step
 pub mod Searches
 -- spans that are apart: until when one lasts

@@ -13,7 +13,7 @@ use Rattle.std.proofs.lemmas.List.{drop_more, map_more, get_or-map, length-map, 
 use Rattle.std.proofs.lemmas.List.{take-append-le, drop_at, take_at, map_push, length-drop}
 use Rattle.std.proofs.lemmas.List.Elements.{All-append}
 use Rattle.std.proofs.lemmas.List.Sums.{AllPass-from_list_all}
-use Rattle.am_alerts.specs.declared.limits.TheConstants.{MAX_LABEL_BYTES}
+use Rattle.am_alerts.specs.declared.limits.TheConstants.{MAX_NAME_BYTES, MAX_VALUE_BYTES}
 use Rattle.std.proofs.lemmas.List.Folds.{list_any-append}
 use Rattle.std.proofs.lemmas.Str.{IsCharBoundary-before_ascii, IsCharBoundary-after_ascii, IsCharBoundary-from_take}
 use Rattle.am_alerts.specs.declared.labels.Label.{Label}
@@ -303,12 +303,12 @@ pub length-pushed_run : (run new : List ℕ) (l : Label) (c : Cut) → IsPushed 
     → length new ≡ length run + length l.name + length l.value + 2
 length-pushed_run run new l c p = omega (arith, length-pushed run new l c p, p.start_is, p.name_is, p.value_is)
 
-short_label : (l : Label) → is_label l ≡ true → (length l.name ≤ MAX_LABEL_BYTES) × (length l.value ≤ MAX_LABEL_BYTES)
+short_label : (l : Label) → is_label l ≡ true → (length l.name ≤ MAX_NAME_BYTES) × (length l.value ≤ MAX_VALUE_BYTES)
 short_label l e = (grind (arith, nat_tests), grind (arith, nat_tests))
 
 -- a pair of a label set is within the limits
 pub short_pair : (ps : List (Bor (List ℕ) × Bor (List ℕ))) (i : ℕ) (d : Bor (List ℕ) × Bor (List ℕ)) → i < length ps
-    → IsLabelSet (labels_in ps) → (length (label_in (get_or ps i d)).name ≤ 1024) × (length (label_in (get_or ps i d)).value ≤ 1024)
+    → IsLabelSet (labels_in ps) → (length (label_in (get_or ps i d)).name ≤ 1024) × (length (label_in (get_or ps i d)).value ≤ 16384)
 short_pair ps i d within h =
     let l = label_in (get_or ps i d) in
     let all = AllPass-from_list_all is_label (labels_in ps) h.labelled in
@@ -322,7 +322,7 @@ few_pairs ps h = omega (arith, h.few, length-map ps label_in)
 
 -- the run of so many pairs of a label set is short enough for the start of a cut
 pub run_fits : (ps : List (Bor (List ℕ) × Bor (List ℕ))) (i : ℕ) → i < length ps → IsLabelSet (labels_in ps) → (run : List ℕ)
-    → length run ≤ 2050 * i
+    → length run ≤ 17410 * i
     → length run ≤ 4294967295
 run_fits ps i within h run short = omega (arith, few_pairs ps h, short, within)
 
@@ -335,8 +335,8 @@ module _ (ps : List (Bor (List ℕ) × Bor (List ℕ))) (i : ℕ) (d : Bor (List
   pub value_fits : length (get_or ps i d).1.now ≤ 65535
   value_fits = let pair = short_pair ps i d within h in omega (arith, pair.1)
 
-  pub one_more_short : (run : List ℕ) → length run ≤ 2050 * i → (new : List ℕ) (c : Cut) → IsPushed run (label_in (get_or ps i d)) new c
-      → length new ≤ 2050 * (i + 1)
+  pub one_more_short : (run : List ℕ) → length run ≤ 17410 * i → (new : List ℕ) (c : Cut) → IsPushed run (label_in (get_or ps i d)) new c
+      → length new ≤ 17410 * (i + 1)
   one_more_short run short new c p =
       let pair = short_pair ps i d within h in
       omega (arith, length-pushed_run run new (label_in (get_or ps i d)) c p, pair.0, pair.1, short)

@@ -13,7 +13,7 @@ use Rattle.am_alerts.specs.Fault.{first_fault}
 use Rattle.am_alerts.specs.declared.labels.Label.{Label}
 use Rattle.am_alerts.specs.declared.labels.LabelFault.{LabelFault}
 use Rattle.am_alerts.specs.declared.labels.LabelFault.TheVariants.{Empty, BadName, Twice, TooMany, TooLong}
-use Rattle.am_alerts.specs.declared.limits.TheConstants.{MAX_LABELS, MAX_LABEL_BYTES}
+use Rattle.am_alerts.specs.declared.limits.TheConstants.{MAX_LABELS, MAX_NAME_BYTES, MAX_VALUE_BYTES}
 
 -- whether a byte may begin a label name: a letter or `_`
 abbrev pub begins_name : ℕ → Bool
@@ -71,7 +71,7 @@ has_value l = nat_lt 0 (length l.value)
 
 -- whether a name or a value is above its limit
 abbrev pub is_long : Label → Bool
-is_long l = nat_lt MAX_LABEL_BYTES (length l.name) || nat_lt MAX_LABEL_BYTES (length l.value)
+is_long l = nat_lt MAX_NAME_BYTES (length l.name) || nat_lt MAX_VALUE_BYTES (length l.value)
 
 -- why a pair of a name and a value is no label
 abbrev pub pair_fault : Label → Option LabelFault

@@ -1,7 +1,7 @@
 -- The limits and the faults' numbers, by their values.
 use Rattle.std.specs.Prelude.{◌≡◌, [], ◌∷◌}
-use Rattle.am_alerts.specs.declared.limits.TheConstants.{MAX_TIME, MAX_DURATION, MAX_LABELS, MAX_LABEL_BYTES, MAX_MATCHERS, MAX_LABEL_NAMES}
-use Rattle.am_alerts.specs.declared.limits.TheConstants.{MAX_CHILDREN, MAX_ROUTES, MAX_DEPTH, MAX_SPANS}
+use Rattle.am_alerts.specs.declared.limits.TheConstants.{MAX_TIME, MAX_DURATION, MAX_LABELS, MAX_NAME_BYTES, MAX_VALUE_BYTES, MAX_MATCHERS}
+use Rattle.am_alerts.specs.declared.limits.TheConstants.{MAX_LABEL_NAMES, MAX_CHILDREN, MAX_ROUTES, MAX_DEPTH, MAX_SPANS}
 use Rattle.am_alerts.specs.declared.law.TheConstants.{LABEL_FAULTS, ALERT_FAULTS, MATCHER_FAULTS}
 use Rattle.am_alerts.specs.declared.law.TheConstants.{ROUTE_FAULTS, SPANS_FAULTS, DURATION_FAULTS}
 use Rattle.am_alerts.specs.declared.labels.LabelFault.TheVariants as label
@@ -11,18 +11,19 @@ use Rattle.am_alerts.specs.declared.route.RouteFault.TheVariants as route
 use Rattle.am_alerts.specs.declared.duration.DurationFault.TheVariants as duration
 use Rattle.am_alerts.specs.declared.spans.SpansFault.TheVariants as spans
 
--- law: a time is at most 10^15 ms and a duration at most 10^12; 64 labels, names and values of 1,024 bytes, 32 matchers in a list, 64
--- names in a list, 63 children of a root of one level, 1,023 routes below a root, at 64 levels, and 8,192 spans of a route
+-- law: a time is at most 10^15 ms and a duration at most 10^12; 64 labels, names of 1,024 bytes and values of 16,384, 128 matchers in a
+-- list, 64 names in a list, 63 children of a root of one level, 16,383 routes below a root, at 64 levels, and 8,192 spans of a route
 abbrev pub LimitsAre : Type 0
 LimitsAre =
     (MAX_TIME ≡ 1_000_000_000_000_000)
     × (MAX_DURATION ≡ 1_000_000_000_000)
     × (MAX_LABELS ≡ 64)
-    × (MAX_LABEL_BYTES ≡ 1_024)
-    × (MAX_MATCHERS ≡ 32)
+    × (MAX_NAME_BYTES ≡ 1_024)
+    × (MAX_VALUE_BYTES ≡ 16_384)
+    × (MAX_MATCHERS ≡ 128)
     × (MAX_LABEL_NAMES ≡ 64)
     × (MAX_CHILDREN ≡ 63)
-    × (MAX_ROUTES ≡ 1_023)
+    × (MAX_ROUTES ≡ 16_383)
     × (MAX_DEPTH ≡ 64)
     × (MAX_SPANS ≡ 8_192)
 

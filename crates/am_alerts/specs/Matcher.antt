@@ -13,7 +13,7 @@ use Rattle.am_alerts.specs.Pattern.{anchored, is_pattern, has_match}
 use Rattle.am_alerts.specs.Plain.{bar_texts, is_one_of, is_plain_pattern}
 use Rattle.am_alerts.specs.declared.pattern.PatternFault.{PatternFault}
 use Rattle.am_alerts.specs.declared.pattern.PatternFault.TheVariants as pattern
-use Rattle.am_alerts.specs.declared.limits.TheConstants.{MAX_LABEL_BYTES}
+use Rattle.am_alerts.specs.declared.limits.TheConstants.{MAX_NAME_BYTES, MAX_VALUE_BYTES}
 
 -- an operator as it is written
 abbrev pub operator_text : Operator → List ℕ
@@ -79,7 +79,7 @@ match_all ms labels = list_all (λ m. matches_parts m labels) ms
 abbrev pub matcher_fault : MatcherParts → Option MatcherFault
 matcher_fault m =
     if is_label_name m.name
-    then (if nat_lt MAX_LABEL_BYTES (length m.name) || nat_lt MAX_LABEL_BYTES (length m.value) then Some TooLong else None)
+    then (if nat_lt MAX_NAME_BYTES (length m.name) || nat_lt MAX_VALUE_BYTES (length m.value) then Some TooLong else None)
     else Some BadName
 
 -- parts with the pattern that was built for them

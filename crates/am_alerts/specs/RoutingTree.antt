@@ -1,4 +1,5 @@
--- The routing tree.
+-- The routing tree. An alert goes down to the first child that matches, and to the next ones while those before have `continue`;
+-- where no child matches, the route itself gets it.
 use Rattle.std.specs.Prelude.{ℕ, ◌+◌, ◌-◌, Bool, not, ◌&&◌, List, [], ◌∷◌, ◌++◌, length, map, slice_index_or, codes, nat_le, Option, Some}
 use Rattle.std.specs.Prelude.{None}
 use Rattle.std.specs.Prelude.{if◌then◌else◌}

@@ -1,4 +1,4 @@
-//! `Alert`: a label set with a start and an end. Callers insert alerts into a board.
+//! `Alert`: a label set with a start and an end.
 ghost use Rattle.std.specs.Prelude.{◌≡◌, ◌≢◌, ◌≤◌, [], IfOk, IfSome, None};
 ghost use Rattle.am_alerts.specs.AlertData.{alert_fault, alert_of, is_resolved};
 ghost use Rattle.am_alerts.specs.Fault.{ok_unless};

@@ -1,4 +1,4 @@
-//! Durations as texts. Readers of configurations and stories call `read_duration`.
+//! Durations as texts.
 ghost use Rattle.std.specs.Prelude.{◌≡◌, ◌≤◌, [], MatchOption, length, not};
 ghost use Rattle.std.specs.Char.{is_ascii_digit};
 ghost use Rattle.std.specs.List.{prefix_len};

@@ -1,4 +1,4 @@
-//! Pairs of a name and a value, before they are a label set. `Labels::read` checks them.
+//! Pairs of a name and a value, before they are checked and are a label set.
 //!
 //! Cost: the square of the number of pairs that have a value, at most 64.
 ghost use Rattle.std.specs.Prelude.{◌≡◌, ◌&&◌, filter, length, IfOk, bytes_eq};
@@ -7,7 +7,7 @@ ghost use Rattle.am_alerts.specs.Fault.{ok_unless, first_fault};
 ghost use Rattle.am_alerts.specs.Labels.{has_value, has_text_twice, names_of, with_values, label_in, labels_in, pair_fault, set_fault};
 
 use crate::labels::{LabelFault, is_label_name};
-use crate::limits::{MAX_LABEL_BYTES, MAX_LABELS};
+use crate::limits::{MAX_LABELS, MAX_NAME_BYTES, MAX_VALUE_BYTES};
 use std::alloc::{AllocError, Global};
 
 /// Refuses the first pair that is no label, by `BadName`, then by `TooLong`.
@@ -26,7 +26,7 @@ fn check_pair(pair: &(&str, &str)) -> Result<(), LabelFault>
     if !is_label_name(pair.0) {
         return Err(LabelFault::BadName);
     }
-    if pair.0.len() > MAX_LABEL_BYTES || pair.1.len() > MAX_LABEL_BYTES {
+    if pair.0.len() > MAX_NAME_BYTES || pair.1.len() > MAX_VALUE_BYTES {
         return Err(LabelFault::TooLong);
     }
     Ok(())

@@ -1,4 +1,4 @@
-//! The text of a label set. `Labels::push_text` calls it.
+//! The text of a label set.
 ghost use Rattle.std.specs.Prelude.{◌≡◌, ◌++◌, OnOk, OnErr, codes, string_bytes};
 ghost use Rattle.std.specs.List.{join_by};
 ghost use Rattle.std.specs.Char.{encode_utf8};

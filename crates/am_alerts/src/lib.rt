@@ -1,5 +1,4 @@
-//! Label sets, alerts, matchers, routes and durations, as Alertmanager has them. Every other crate
-//! uses it.
+//! Label sets, alerts, matchers, routes and durations, as Alertmanager has them.
 //!
 //! Invariants: the labels of a set are in the order of their names, which differ. Each has a value
 //! and is within the limits. The hash is that of their run. A routing tree has none of the faults

@@ -13,7 +13,7 @@ ghost use Rattle.am_alerts.specs.Matcher.{is_text, operator_text, pattern_of};
 ghost use Rattle.am_alerts.specs.Pattern.{PatternRows, PatternsMatch};
 
 use crate::labels::{Labels, is_label_name};
-use crate::limits::MAX_LABEL_BYTES;
+use crate::limits::{MAX_NAME_BYTES, MAX_VALUE_BYTES};
 use crate::pattern::{Pattern, PatternFault};
 use crate::plain::{is_one_of, is_plain_pattern};
 use crate::sequence::Copied;
@@ -46,7 +46,7 @@ pub struct MatcherParts {
 pub enum MatcherFault {
     #[error("the name is no label name")]
     BadName = 1,
-    #[error("the name or the value has more than 1,024 bytes")]
+    #[error("the name has more than 1,024 bytes, or the value more than 16,384")]
     TooLong = 2,
     /// For its syntax, or for the size that it has once it is built.
     #[error("the pattern is refused")]
@@ -146,11 +146,11 @@ impl From<PatternFault> for MatcherFault {
 }
 
 impl Matcher {
-    /// The matcher of these parts. Refused in this order: `BadName`, `TooLong` (the name or the
-    /// value has more than 1,024 bytes), `BadPattern` (the operator is `Like` or `NotLike`, and
-    /// `^(?:value)$` is no pattern, or one that is too big once it is built), `NoMemory`. Without a
-    /// pattern it takes no memory, and neither with one of plain texts with bars between them, as
-    /// `critical|warning`.
+    /// The matcher of these parts. Refused in this order: `BadName`, `TooLong` (the name has more
+    /// than 1,024 bytes, or the value more than 16,384), `BadPattern` (the operator is `Like` or
+    /// `NotLike`, and `^(?:value)$` is no pattern, or one that is too big once it is built),
+    /// `NoMemory`. Without a pattern it takes no memory, and neither with one of plain texts with
+    /// bars between them, as `critical|warning`.
     pub fn new(alloc: Global, parts: MatcherParts) -> Result<Matcher, MatcherFault>
         ensures refused { IfSome (matcher_fault parts) (λ fault. result ≡ Err fault) }
         ensures value { IfOk result (λ matcher. matcher ≡ parts) }
@@ -162,8 +162,8 @@ impl Matcher {
         if !is_label_name(parts.name.as_str()) {
             return Err(MatcherFault::BadName);
         }
-        if parts.name.as_str().len() > MAX_LABEL_BYTES
-            || parts.value.as_str().len() > MAX_LABEL_BYTES
+        if parts.name.as_str().len() > MAX_NAME_BYTES
+            || parts.value.as_str().len() > MAX_VALUE_BYTES
         {
             return Err(MatcherFault::TooLong);
         }

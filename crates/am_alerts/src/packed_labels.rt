@@ -1,4 +1,4 @@
-//! Labels packed into one run of text, with its hash. `labels` shares them between copies of a set.
+//! Labels packed into one run of text, with its hash. Copies of a set share them.
 //!
 //! The run has the name and the value of each label, each ended by a 0 byte. No byte of a text is
 //! below that end, so lists of labels are equal where their runs are, and ordered as their runs

@@ -1,5 +1,5 @@
-//! Patterns, which are regular expressions in the syntax of the crate `regex`. `matcher` builds
-//! those that aren't plain texts.
+//! Patterns, which are regular expressions in the syntax of the crate `regex`. Those that are plain
+//! texts (`plain`) aren't built.
 //!
 //! A match is stated over the pattern's text: what the grammar reads in `^(?:p)$`, and its leftmost
 //! match. The kit can refuse any pattern for its size, so only tests show that a good one is

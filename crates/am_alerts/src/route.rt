@@ -1,4 +1,4 @@
-//! Routes, and the checks on a root and the routes below it. `routes.rt` makes routing trees of them.
+//! Routes, and the checks on a root and the routes below it.
 //!
 //! Names of routes and grouping names have the form of a label name and no limit on bytes. Names of
 //! receivers and names in `equal` have neither.
@@ -16,6 +16,7 @@ pub use crate::routes::Routes;
 use crate::sequence::Sequence;
 use crate::text::Text;
 use std::alloc::{AllocError, Global};
+use std::collections::BTreeSet;
 use thiserror::Error;
 
 /// The labels by which a route groups.
@@ -89,15 +90,21 @@ impl Route {
     }
 }
 
-/// Why a root and the routes below it make no routing tree. `fits`: whether these are few and are
-/// at few levels.
-pub(crate) fn fault_where(fits: bool, root: &Route, children: &[Child]) -> Option<RouteFault>
+/// Why a root and the routes below it make no routing tree. `twice`: whether two of these have one
+/// name. `fits`: whether those below the root are few and are at few levels.
+pub(crate) fn fault_where(
+    twice: bool,
+    fits: bool,
+    root: &Route,
+    children: &[Child],
+) -> Option<RouteFault>
+    requires { twice ≡ has_route_twice root.now children.now }
     ensures { result ≡ fault_where fits root.now children.now }
 {
     if !has_good_names(root, children) {
         return Some(RouteFault::BadName);
     }
-    if has_route_twice(root, children) {
+    if twice {
         return Some(RouteFault::Twice);
     }
     if !(fits && are_small(root, children)) {
@@ -130,10 +137,29 @@ fn has_grouping_names(route: &Route) -> bool
     }
 }
 
-fn has_route_twice(root: &Route, children: &[Child]) -> bool
+/// Whether two routes have one name. Takes no memory, and compares each two of the children.
+pub(crate) fn has_route_twice(root: &Route, children: &[Child]) -> bool
     ensures { result ≡ has_route_twice root.now children.now }
 {
     has_route(children, root.name.as_str()) || has_child_twice(children)
+}
+
+/// The same by a set of the names, for many routes: a child costs one look-up.
+pub(crate) fn has_name_twice(
+    alloc: Global,
+    root: &Route,
+    children: &[Child],
+) -> Result<bool, AllocError>
+    ensures { IfOk result (λ twice. twice ≡ has_route_twice root.now children.now) }
+{
+    let mut names = BTreeSet::new(alloc);
+    for i in 0..children.len() {
+        let child = &children[children.len() - 1 - i];
+        if !names.insert(child.route.name.as_str())? {
+            return Ok(true);
+        }
+    }
+    Ok(names.contains(root.name.as_str()))
 }
 
 fn has_child_twice(children: &[Child]) -> bool

@@ -1,4 +1,4 @@
-//! Lays a tree of `Node`s out in the order of positions, for `Routes::nested`.
+//! Lays a tree of `Node`s out in the order of positions.
 ghost use Rattle.std.specs.Prelude.{◌≡◌, ◌++◌, IfOk, map, nat_le, unwrap_or};
 ghost use Rattle.am_alerts.specs.Forest.{height, listed};
 ghost use Rattle.am_alerts.specs.Layout.{preorder};

@@ -1,5 +1,5 @@
-//! The routing tree: a root and the routes below it, at any depth. `am_board` finds an alert's groups
-//! by it.
+//! The routing tree: a root and the routes below it, at any depth. It leads an alert to its groups.
+//! The first child that matches gets the alert, and the next ones while those before have `continue`.
 //!
 //! The routes below the root lie in a list, each before those below it. A route is known by its
 //! position there. Cost of `Routes::of`: the routes whose parents match, and their matchers.
@@ -18,7 +18,9 @@ ghost use Rattle.am_alerts.specs.Spans.{muted_at};
 use crate::labels::Labels;
 use crate::limits::{MAX_CHILDREN, MAX_DEPTH, MAX_ROUTES};
 use crate::matcher::all_match;
-use crate::route::{Child, GroupBy, Route, RouteFault, fault_where};
+use crate::route::{
+    Child, GroupBy, Route, RouteFault, fault_where, has_name_twice, has_route_twice,
+};
 use crate::route_layout::{RouteLayout, below_in, is_low, muted_in, push_nodes};
 use crate::sequence::Sequence;
 use crate::spans::Span;
@@ -58,7 +60,7 @@ impl Routes {
     ///   name.
     /// - `Twice`: two routes have one name.
     /// - `TooMany`: there are more than 63 children, or a route has more than 64 grouping names,
-    ///   or a child more than 32 matchers.
+    ///   or a child more than 128 matchers.
     /// - `BadInterval`: a duration is above 10^12, or `group_interval` or `repeat_interval` is
     ///   zero.
     ///
@@ -67,8 +69,9 @@ impl Routes {
         ensures { result ≡ ok_unless (level_fault (tree_of root children.items))
             (tree_of root children.items) }
     {
+        let twice = has_route_twice(&root, children.as_slice());
         let fits = children.len() <= MAX_CHILDREN;
-        match fault_where(fits, &root, children.as_slice()) {
+        match fault_where(twice, fits, &root, children.as_slice()) {
             Some(fault) => Err(fault),
             None => {
                 let layouts = Vec::new(*children.allocator());
@@ -83,7 +86,7 @@ impl Routes {
 
     /// The routing tree of a root, which says everything, and the routes below it, at any depth:
     /// what a route doesn't say it has from the nearest route above it that does. `Unfit`: refused
-    /// as `new` does, but that up to 1,023 routes can be below the root, at up to 64 levels.
+    /// as `new` does, but that up to 16,383 routes can be below the root, at up to 64 levels.
     /// `NoMemory`: out of memory, which may come before the others.
     pub fn nested(alloc: Global, root: Route, routes: Vec<Node>) -> Result<Routes, TreeFault>
         ensures value { IfOk result (λ made. made ≡ nested_of root (forest routes.items)) }
@@ -95,8 +98,9 @@ impl Routes {
         let mut children = Vec::new(alloc);
         let mut layouts = Vec::new(alloc);
         push_nodes(alloc, &mut children, &mut layouts, &root, routes)?;
+        let twice = has_name_twice(alloc, &root, children.as_slice())?;
         let fits = fit(children.len(), low);
-        match fault_where(fits, &root, children.as_slice()) {
+        match fault_where(twice, fits, &root, children.as_slice()) {
             Some(fault) => Err(TreeFault::Unfit(fault)),
             None => Ok(Routes {
                 root,

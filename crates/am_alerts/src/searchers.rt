@@ -1,5 +1,4 @@
-//! A list of matchers that meets many label sets. `am_mute` uses it for the sources of an
-//! inhibition rule.
+//! A list of matchers that meets many label sets, as the source matchers of an inhibition rule do.
 //!
 //! What searches for a pattern is made when the first match needs it, and used again by later ones.
 ghost use Rattle.std.specs.Prelude.{◌≡◌, ◌≤◌, IfOk, IfSome, IsOk, IsTrue, OnErr, OnOk, vec_len};

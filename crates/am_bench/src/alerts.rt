@@ -19,8 +19,8 @@ pub const WARNING: &str = "warning";
 pub const WIDE: &str =
     "/var/lib/containers/eu-west-1/production/platform-monitoring/prometheus-operator-agents/";
 
-/// From each alert to the next in another order: a prime above all numbers of alerts, so each
-/// alert comes once.
+/// From each alert to the next in another order: a prime. So each alert comes once, unless their
+/// number is a multiple of it.
 pub const STRIDE: usize = 104_729;
 
 /// The alerts of a piece.
@@ -130,7 +130,7 @@ fn labels<'a>(
 }
 
 /// The label value of a group.
-fn alertname(alloc: Global, number: usize) -> Result<String, BenchError> {
+pub fn alertname(alloc: Global, number: usize) -> Result<String, BenchError> {
     Ok(format!(in alloc; "A{number:04}")?)
 }
 

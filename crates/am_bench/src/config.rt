@@ -18,6 +18,9 @@ pub const INTERVAL: u64 = 30_000_000;
 /// When a notice is repeated, in milliseconds.
 pub const REPEAT: u64 = 300_000_000;
 
+/// The receiver of the root.
+pub const TEAM: &str = "team";
+
 /// How many routes an alert goes to at most.
 const FAN: usize = 16;
 
@@ -59,7 +62,8 @@ fn routes(alloc: Global, children: Vec<Child>) -> Result<Routes, BenchError> {
     Routes::new(root, children).map_err(|_| BenchError::BadLine)
 }
 
-fn config(routes: Routes, receivers: Receivers, rules: Vec<InhibitRule>) -> Config {
+/// The configuration of these routes, receivers and rules, with the greatest limits.
+pub fn config(routes: Routes, receivers: Receivers, rules: Vec<InhibitRule>) -> Config {
     Config {
         routes,
         receivers,
@@ -70,9 +74,14 @@ fn config(routes: Routes, receivers: Receivers, rules: Vec<InhibitRule>) -> Conf
 }
 
 fn receivers(alloc: Global) -> Result<Receivers, BenchError> {
-    let (name, integrations) = both(text(alloc, "team"), integrations(alloc))?;
-    let receivers = listed(alloc, Receiver { name, integrations })?;
+    let receivers = listed(alloc, receiver(alloc, TEAM)?)?;
     Ok(Receivers::new(alloc, receivers)?)
+}
+
+/// The receiver of this name, with one integration.
+pub fn receiver(alloc: Global, name: &str) -> Result<Receiver, BenchError> {
+    let (name, integrations) = both(text(alloc, name), integrations(alloc))?;
+    Ok(Receiver { name, integrations })
 }
 
 fn integrations(alloc: Global) -> Result<Sequence<Integration>, BenchError> {
@@ -90,7 +99,7 @@ fn integrations(alloc: Global) -> Result<Sequence<Integration>, BenchError> {
 
 /// A route to the receiver, which groups by alertname and cluster.
 pub fn route(alloc: Global, name: &str, group_wait: u64) -> Result<Route, BenchError> {
-    let texts = both(text(alloc, name), text(alloc, "team"));
+    let texts = both(text(alloc, name), text(alloc, TEAM));
     let grouping = names(alloc, &["alertname", "cluster"]);
     let ((name, receiver), grouping) = both(texts, grouping)?;
     Ok(Route {

@@ -15,10 +15,11 @@ use am_board::record::{Forgotten, Maintained, Record};
 use am_mute::silence::Silence;
 use am_retry::Outcome;
 use std::alloc::Global;
+use std::collections::VecDeque;
 use std::time::CpuClock;
 
 /// The id of the board, which its tickets name.
-const BOARD_ID: u64 = 1;
+pub const BOARD_ID: u64 = 1;
 
 /// The pass of each call.
 const PASS: u32 = 0;
@@ -153,6 +154,58 @@ impl Desk {
         }
     }
 
+    /// Begins a flush of so many groups, a millisecond apart, and leaves them open.
+    pub fn begin_many(
+        &mut self,
+        alloc: Global,
+        now: u64,
+        count: usize,
+        tickets: &mut VecDeque<OwnTicket<BOARD_ID>>,
+    ) -> Result<(), Fault> {
+        for number in 0..count {
+            // (the memory for a ticket comes before the ticket)
+            tickets.reserve(1)?;
+            let now = now.saturating_add(number as u64);
+            match self.board.begin(alloc, PASS, now) {
+                Ok(Begun::NothingDue) => return Ok(()),
+                Ok(
+                    Begun::Quiet {
+                        group: _,
+                        removed: _,
+                    },
+                ) => {}
+                Ok(Begun::Flush(ticket)) => tickets.push_back_reserved(OwnTicket::new(ticket)),
+                Err(fault) => return Err(fault),
+            }
+        }
+        Ok(())
+    }
+
+    /// When the next group without an open flush is due.
+    pub fn next_due(&self) -> Option<u64> {
+        self.board.next_due()
+    }
+
+    /// Logs the success of a ticket's first notice. Answers whether it was logged.
+    pub fn note(&mut self, alloc: Global, own: &OwnTicket<BOARD_ID>, now: u64) -> bool {
+        self.board.note(alloc, PASS, own.ticket(), 0, now).is_ok()
+    }
+
+    /// Ends a flush. Answers whether it was open.
+    pub fn finish(&mut self, own: OwnTicket<BOARD_ID>, now: u64) -> bool {
+        self.board.finish_own(PASS, own, now).is_ok()
+    }
+
+    /// Ends these flushes.
+    pub fn finish_all(&mut self, tickets: VecDeque<OwnTicket<BOARD_ID>>, now: u64) {
+        let mut left = tickets;
+        while !left.is_empty() {
+            let own = left.pop_front().unwrap();
+            self.finish(own, now);
+        }
+        left.destroy_empty();
+    }
+
     /// Removes empty groups and expired rows.
     pub fn maintain(&mut self, alloc: Global, now: u64) -> Result<Maintained, Fault> {
         self.board.maintain(alloc, PASS, now)
@@ -170,7 +223,7 @@ impl Desk {
 }
 
 /// Records each notice of a ticket as delivered.
-fn deliver_all(own: &mut OwnTicket<BOARD_ID>, now: u64, tally: &mut Tally) {
+pub fn deliver_all(own: &mut OwnTicket<BOARD_ID>, now: u64, tally: &mut Tally) {
     for index in 0..own.ticket().notices().len() {
         if let Some(notice) = own.ticket().notices().get(index) {
             let alerts = notice.firing.len().saturating_add(notice.resolved.len());

@@ -23,6 +23,13 @@
 //! - `silences ALERTS GROUPS SILENCES`: a first flush of all groups after the silences were set, a
 //!   quiet one, and one after one of the silences was changed. Every eleventh alert has a silence
 //!   that mutes it, as long as there are silences.
+//! - `open FLUSHES GROUPS`: so many groups get a flush that stays open, and all groups are due again.
+//!   Then half of the other groups are flushed in batches of 100: begins, a `next_due` for each, and a note
+//!   and a finish for each of as many of the open flushes, the oldest. Then the other half, and the
+//!   newest. So the number of open flushes stays, to within a batch.
+//! - `receivers RECEIVERS ROUTES`: so many routes at one level, each to one of so many receivers: the
+//!   tree is made, and a board opened; alerts of 1,000 of the routes are inserted; a begin for each, which
+//!   stays open.
 //! - `requests`: calls that promise to take no memory, and some that take it (`requests`). Nothing is
 //!   timed.
 //!
@@ -36,9 +43,11 @@ mod alerts;
 mod config;
 mod desk;
 mod flushes;
+mod hanging;
 mod inhibition;
 mod lanes;
 mod piece;
+mod receivers;
 mod requests;
 mod silences;
 mod storm;

@@ -3,8 +3,10 @@ use crate::alerts::{Load, WIDE};
 use crate::config::{INTERVAL, fanned, patterned, plain};
 use crate::desk::Desk;
 use crate::flushes::run_flushes;
+use crate::hanging::run_hanging;
 use crate::inhibition::run_inhibition;
 use crate::lanes::run_lanes;
+use crate::receivers::run_receivers;
 use crate::silences::run_silences;
 use crate::storm::run_storm;
 use crate::tally::Tally;
@@ -50,6 +52,8 @@ pub fn run_line<R: Print + Eprint + Clock + CpuClock + Threads + Wait + Sync>(
         "storm" => run_storm(rt, alloc, load, words.size()?),
         "desk" => run_lanes(rt, alloc, load, words.size()?),
         "inhibition" => run_inhibition(rt, alloc, first, second),
+        "open" => run_hanging(rt, alloc, first, second),
+        "receivers" => run_receivers(rt, alloc, first, second),
         "silences" => run_silences(rt, alloc, load, words.size()?),
         _ => run_kind(rt, alloc, name, load, &mut words),
     }

@@ -25,24 +25,57 @@ impl Watch {
         }
     }
 
-    /// Ends the step, and says how long it took for each of so many: by the wall's clock, and of a
-    /// processor; and the processor's time of all. Where a clock or the standard error fails nothing is
-    /// reported.
+    /// Ends the step, and reports what it took. Where a clock fails nothing is reported.
     pub fn stop(&self, rt: &(impl Eprint + Clock + CpuClock), step: &str, count: usize) {
-        let ended = look(rt);
-        if let (Some(started), Some(ended)) = (self.started, ended) {
-            let wall = each(ended.wall.duration_since(started.wall), count);
-            let processor = ended.processor.saturating_sub(started.processor);
-            print(rt, step, count, wall, processor);
+        if let Some(took) = self.took(rt) {
+            took.print(rt, step, count);
         }
+    }
+
+    fn took(&self, clock: &(impl Clock + CpuClock)) -> Option<Took> {
+        let (started, ended) = (self.started?, look(clock)?);
+        Some(Took {
+            wall: ended.wall.duration_since(started.wall),
+            processor: ended.processor.saturating_sub(started.processor),
+        })
     }
 }
 
-fn print(rt: &impl Eprint, step: &str, count: usize, wall: u128, processor: Duration) {
-    let (each, all) = (each(processor, count), processor.as_micros());
-    let _ = eprintln!(rt;
-        "{step}: {count}, each {wall} ns, of a processor {each} ns, all {all} us"
-    );
+/// What a step took, or all parts of one that is done in parts.
+#[derive(Clone, Copy)]
+pub struct Took {
+    wall: Duration,
+    processor: Duration,
+}
+
+impl Took {
+    pub fn nothing() -> Took {
+        Took {
+            wall: Duration::ZERO,
+            processor: Duration::ZERO,
+        }
+    }
+
+    /// Adds a part, which this watch was started for. Where a clock fails nothing is added.
+    pub fn add(&mut self, clock: &(impl Clock + CpuClock), watch: &Watch) {
+        if let Some(part) = watch.took(clock) {
+            self.wall = self.wall.saturating_add(part.wall);
+            self.processor = self.processor.saturating_add(part.processor);
+        }
+    }
+
+    /// Says how long it took for each of so many: by the wall's clock, and of a processor; and the
+    /// processor's time of all.
+    pub fn print(&self, rt: &impl Eprint, step: &str, count: usize) {
+        let (wall, each, all) = (
+            each(self.wall, count),
+            each(self.processor, count),
+            self.processor.as_micros(),
+        );
+        let _ = eprintln!(rt;
+            "{step}: {count}, each {wall} ns, of a processor {each} ns, all {all} us"
+        );
+    }
 }
 
 fn look(clock: &(impl Clock + CpuClock)) -> Option<Time> {

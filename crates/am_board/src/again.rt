@@ -1,5 +1,5 @@
 //! Inserts of an alert whose label set is known, and which each of its groups has: the most frequent
-//! call, since a sender sends an alert again and again while it fires. `insert` calls `put_again`.
+//! call, since a sender sends an alert again and again while it fires.
 //!
 //! It is written in place: no label set comes or goes, so the tables, the order and what is noted
 //! stay. Nothing is allocated but capacity of the history. A copy of the alert for each group waits

@@ -1,5 +1,4 @@
-//! Begins: `Board::begin` calls `take_group`, which picks the group and opens a flush or ends it at
-//! once.
+//! Begins: `take_group` picks the group and opens a flush or ends it at once.
 //!
 //! Steps, if the history has capacity (`take_with_space`): `Groups::first_due` picks the group,
 //! `prepare` sorts it and notes what no silence mutes, `plan` finds what is unmuted and whom to

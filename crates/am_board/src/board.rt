@@ -3,7 +3,8 @@
 ghost use Rattle.std.specs.Prelude.{◌≡◌, ◌≢◌, ◌≤◌, ◌↔◌, None, Some, IfOk, IfErr, OnOk, OnErr, IsErrOf};
 ghost use Rattle.std.specs.Option.{option_map};
 ghost use Rattle.am_alerts.specs.Fault.{ok_unless};
-ghost use Rattle.am_model.specs.Causes.{insert_cause, silence_cause, begin_cause, maintain_cause, removal_cause, forget_cause, load_cause, note_cause};
+ghost use Rattle.am_model.specs.Causes.{insert_cause, silence_cause, begin_cause, maintain_cause, removal_cause, forget_cause, load_cause};
+ghost use Rattle.am_model.specs.Causes.{note_cause};
 ghost use Rattle.am_model.specs.Config.{AreAllowed, config_fault};
 ghost use Rattle.am_board.specs.History.{opening, state_at, records_at, IsReplyAt, with_record, reply_of, IsFresh};
 ghost use Rattle.am_board.specs.History.{HandsBack, IsForeign, IsNotOpen};

@@ -1,5 +1,4 @@
-//! Which integrations need an update, and why, by the log (`notify.DedupStage`). `plan` and `preview`
-//! call `decide`.
+//! Which integrations need an update, and why, by the log (`notify.DedupStage`).
 //!
 //! One walk over the integrations finds the reason of each. `update_reason` of `am_nflog` alone
 //! decides: an integration is notified if its reason says so. It compares the label sets where they

@@ -1,5 +1,5 @@
-//! The names of the groups that known alerts go to. `insert` fills and reads this cache. `forget`
-//! drops the names of the alerts that go, and moves the others, since names are by index.
+//! A cache of the names of the groups that known alerts go to. When alerts are forgotten their
+//! names go, and the others move, since names are by index.
 //!
 //! A name in it is the group's own shared copy where the group exists. It is not replaced when the
 //! group goes: the next group of that name takes it over. A group is found by its name each time,

@@ -1,4 +1,4 @@
-//! The set of due times: keys of groups by due time and name. `groups` keeps it.
+//! The set of due times: keys of groups by due time and name.
 //!
 //! A group with an open flush has no key here: a begin that opens one takes the key out, and the
 //! finish puts it back. So a begin never passes over a group that it can't take.

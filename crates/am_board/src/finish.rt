@@ -1,4 +1,4 @@
-//! Finishes: `Board::finish` calls `finish_flush`. It never allocates.
+//! Finishes: `finish_flush` never allocates.
 //!
 //! It walks once over the notified integrations and logs each success that wasn't noted
 //! (`log_rest`). Then it marks the group as one without an open flush and, if all succeeded, takes

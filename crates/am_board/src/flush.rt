@@ -1,5 +1,4 @@
-//! Open flushes, and what they keep for their notes and their finish. `begin` adds one, `finish`
-//! removes it.
+//! Open flushes, and what they keep for their notes and their finish.
 //!
 //! `AlertSets` of an integration are gone once it is noted. Those of the flush stay, and say what
 //! they were.

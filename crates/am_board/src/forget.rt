@@ -1,5 +1,4 @@
-//! Forgetting: `Board::forget` calls `forget_idle`. Known alerts that are resolved and in no group
-//! go, and so do silences that are over.
+//! Forgetting: known alerts that are resolved and in no group go, and so do silences that are over.
 //!
 //! The label sets that are in groups are gathered first, and then looked up: one look-up for each
 //! alert of a group, and two for each known alert that is resolved, since the cached group names

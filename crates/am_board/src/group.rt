@@ -1,4 +1,5 @@
-//! One group: its name, its due time and its alerts.
+//! One group: its name, its due time and its alerts. A new one is due after `group_wait`, or at once for an
+//! alert that started longer ago.
 ghost use Rattle.std.specs.Prelude.{◌≡◌, ◌+◌, ◌<◌, ◌≤◌, ◌&&◌, min, nat_lt, not, false, true, if◌then◌else◌, length, OnOk, Some};
 ghost use Rattle.std.specs.List.{IsDistinct};
 ghost use Rattle.am_model.specs.Begin.{count_resolved, without_resolved};

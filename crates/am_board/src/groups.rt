@@ -1,5 +1,4 @@
-//! All groups: a table by name, the set of due times, and how many have no alerts. `insert`,
-//! `begin`, `finish` and `maintain` change it.
+//! All groups: a table by name, the set of due times, and how many have no alerts.
 //!
 //! Contracts see the list of groups in the order in which they were made. A call changes one group
 //! at an index (`Changes` in specs/Group.antt), never its name. Invariant: each group is under its

@@ -1,6 +1,6 @@
-//! Inserts: `Board::insert` calls `put_alert`. An alert is written in place (`again`) if it is known,
-//! the names of its groups are cached, they are at most 32, and each of them has it. For any other
-//! one `put_routed` finds the groups first and changes the state last.
+//! Inserts: `put_alert` writes an alert in place (`again`) if it is known, the names of its groups are
+//! cached, they are at most 32, and each of them has it. For any other one `put_routed` finds the
+//! groups first and changes the state last.
 //!
 //! Then memory is allocated in this order; before it, `put_again` may have reserved the history, and
 //! then found a group without the alert. First comes the list of routes, unless the names are cached.
@@ -257,7 +257,8 @@ fn put_prepared(
     ensures history { state.new.history ≡ state.old.history }
     ensures routed { (tree : RoutingTree) → AreRouted tree (names_of state.old.groups.items)
         → AreRoutedPlacements tree placements.items → AreRouted tree (names_of state.new.groups.items) }
-    ensures marks { (name : GroupName) → is_marked (marks_of state.new.groups.items) name ≡ is_marked (marks_of state.old.groups.items) name }
+    ensures marks { (name : GroupName)
+        → is_marked (marks_of state.new.groups.items) name ≡ is_marked (marks_of state.old.groups.items) name }
     ensures state { (config : Config) → t ≤ MAX_TIME
         → All (IsPlacementOf config.routes (stamped_alert alert (state.old.inserts + 1))) placements.items
         → map (λ p. p.name) placements.items ≡ names_for config alert.labels

@@ -1,5 +1,5 @@
 //! Known alerts: a table by label set. Contracts see it as the list in the order of arrival, so a
-//! look-up is `position` and a put is `upsert` of the definitions. `insert` and `forget` change it.
+//! look-up is `position` and a put is `upsert` of the definitions.
 //!
 //! Invariant: each alert is under its labels.
 ghost use Rattle.std.specs.Prelude.{◌≡◌, ◌<◌, ◌≤◌, [], count_by, length, not, position, slice_index_or, IfSome, OnOk, Some};

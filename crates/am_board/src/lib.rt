@@ -1,11 +1,10 @@
-//! The dispatcher of one thread: `Board`, its tickets, and the history of every call. Embedders,
-//! `am_desk`, `am_rehearsal` and tests call it.
+//! The dispatcher of one thread: `Board`, its tickets, and the history of every call.
 //!
 //! The definitions are those of `am_model`; this crate has none of its own of what a call replies.
 //! Its modules:
 //!
-//! - `board`, `history`, `ticket`, `preview`, `previewed`, `views`, `logged`, `fault`: the public calls and
-//!   types.
+//! - `board`, `history`, `ticket`, `preview`, `previewed`, `status`, `views`, `logged`, `fault`: the public
+//!   calls and types.
 //! - `state`, `known`, `groups`, `group`, `members`, `silences`, `flush`: the stored state. Contracts see the
 //!   tables as plain lists in the order of arrival, with their capacity.
 //! - `due`, `order`, `noted`, `unsilenced`, `destinations`: indexes and caches, which only save time. No contract above
@@ -50,6 +49,7 @@ pub mod previewed;
 mod silence;
 mod silences;
 mod state;
+pub mod status;
 pub mod ticket;
 mod unmuted;
 mod unsilenced;

@@ -1,5 +1,5 @@
-//! Loads: `Board::load` calls `load_row`, which puts a row that another board's log had into the
-//! log, unless the log has one for its group and integration that is as late.
+//! Loads: `load_row` puts a row that another board's log had into the log, unless the log has one for
+//! its group and integration that is as late.
 //!
 //! The copies for the log and the record come first. The log's own growth is its change, and the
 //! last that can fail. No definition sees which of the log's keys have no row.

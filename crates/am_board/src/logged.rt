@@ -1,5 +1,5 @@
-//! The rows that a note or a finish would log. `am_dispatch` asks before the call, and answers them
-//! once it is made. So a program that keeps the log in a file writes each row as it comes.
+//! The rows that a note or a finish would log. A program that keeps the log in a file asks before the
+//! call, and writes the rows once it is made.
 //!
 //! Both read the open flush, and never the log.
 ghost use Rattle.std.specs.Prelude.{◌≡◌, ◌+◌, ◌<◌, ◌^◌, ◌++◌, ◌∷◌, [], ◌&&◌, not, IfOk, OnOk, map};

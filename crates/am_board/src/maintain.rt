@@ -1,5 +1,5 @@
-//! Maintenance: `Board::maintain` calls `sweep`, which removes groups without alerts and expired
-//! rows. `Board::remove_empty_groups` calls `remove_empty`, which removes such groups alone.
+//! Maintenance: `sweep` removes groups without alerts and expired rows, `remove_empty` removes such
+//! groups alone.
 ghost use Rattle.std.specs.Prelude.{◌≡◌, ℕ, None, MatchResult, vec_len};
 ghost use Rattle.am_model.specs.Causes.{maintain_cause, removal_cause};
 ghost use Rattle.am_model.specs.Records.{entry};
@@ -52,7 +52,8 @@ pub(crate) fn remove_empty(
     requires good { StateInvariant config.now state.old }
     ensures { MatchResult result
         (λ removed. (removal_cause config.now (vec_len state.old.history) (state_of state.old) ≡ None)
-        × ((id : ℕ) → AppliesCall config.now id (entry pass (Call.RemoveEmptyGroups now) (Reply.EmptyGroupsRemoved removed)) state.old state.new))
+        × ((id : ℕ) → AppliesCall config.now id (entry pass (Call.RemoveEmptyGroups now) (Reply.EmptyGroupsRemoved removed))
+        state.old state.new))
         (λ fault. IsAnswer (removal_cause config.now (vec_len state.old.history) (state_of state.old)) fault
         × LeavesUnchanged config.now state.old state.new) }
 {

@@ -1,4 +1,4 @@
-//! Notes: `Board::note` calls `note_success`, which logs one success before its flush is finished.
+//! Notes: `note_success` logs one success before its flush is finished.
 ghost use Rattle.std.specs.Prelude.{◌≡◌, ℕ, ◌+◌, ◌<◌, ◌^◌, true, List, None, Some, slice_get, slice_index_or, map};
 ghost use Rattle.std.specs.Prelude.{vec_len, All, IsPermutation, IsSome, IfOk, IfErr, OnOk, MatchResult};
 ghost use Rattle.std.specs.Option.{option_map};

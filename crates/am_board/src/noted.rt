@@ -1,5 +1,4 @@
-//! Which alerts of a group are noted with the silences. `begin` notes them, and `walk` looks at no
-//! silence for those.
+//! Which alerts of a group are noted with the silences: for those a begin looks at no silence.
 //!
 //! `NotedSilences` has one list of the label sets that no silence mutes (`unsilenced`). A group
 //! stores the index of its first alert there, and its alerts are noted behind one another, in the
@@ -45,7 +44,7 @@ pub(crate) fn note_members(
     requires known { AreIndexes order.now members.now }
     ensures { silences.new ≡ silences.old }
 {
-    let Some(index) = silences.start_noting(last, t, limit) else {
+    let Some(index) = silences.start_noting(last, t, limit, members.len()) else {
         return last;
     };
     if let Ok(members) = ordered(alloc, order, members) {

@@ -1,5 +1,5 @@
-//! The order of a group's alerts by labels, as a list of indexes. `begin` computes it. `members` drops
-//! it when a label set goes.
+//! The order of a group's alerts by labels, as a list of indexes. It is dropped when a label set
+//! goes.
 //!
 //! A label set that comes is last in the group. Its index isn't in the list until the next begin, which
 //! adds it behind the others and sorts. The sort finds that the others are in their order, so they cost

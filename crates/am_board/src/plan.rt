@@ -1,5 +1,5 @@
-//! The flush to open: all that its begin puts into the board and its ticket. `begin` calls `plan`. A
-//! begin with its preview calls `plan_notifying` with the preview.
+//! The flush to open: all that its begin puts into the board and its ticket. `plan` finds whom to
+//! notify, `plan_notifying` is given it.
 //!
 //! Copies are made only where an integration is to be notified. The label sets are made once then:
 //! the open flush and each notified integration share them, so a note or the finish moves them into
@@ -107,7 +107,7 @@ fn plan_of(
 }
 
 /// Returns the flush of a group at `t` that notifies these integrations about what is unmuted, if
-/// there are any. A begin with its preview calls it with what the preview found.
+/// there are any.
 pub(crate) fn plan_notifying(
     alloc: Global,
     config: &Config,

@@ -1,5 +1,4 @@
-//! When a begin takes a group, what it would do, and why. Embedders ask before a begin, and
-//! `previewed` in a begin.
+//! When a begin takes a group, what it would do, and why.
 //!
 //! A preview changes nothing. Where a begin would sort the group, a preview sorts it for itself
 //! alone. It uses what an earlier begin noted of the silences.

@@ -1,9 +1,9 @@
-//! A begin with its preview: `Board::begin_previewed` calls `take_previewed`. `am_rehearsal` begins
-//! so.
+//! A begin with its preview.
 //!
 //! The group is prepared as for any begin, and the preview comes next. The begin goes on with what it
 //! found: what is unmuted, and whom to notify.
-ghost use Rattle.std.specs.Prelude.{◌≡◌, ◌≢◌, ◌+◌, ◌<◌, ◌≤◌, All, None, Ok, IfErr, IfOk, MatchResult, OnErr, length, slice_index_or, vec_len};
+ghost use Rattle.std.specs.Prelude.{◌≡◌, ◌≢◌, ◌+◌, ◌<◌, ◌≤◌, All, None, Ok, IfErr, IfOk, MatchResult, OnErr, length, slice_index_or};
+ghost use Rattle.std.specs.Prelude.{vec_len};
 ghost use Rattle.am_mute.specs.Sources.{AreLearnt};
 ghost use Rattle.am_alerts.specs.RoutingTree.{last_of};
 ghost use Rattle.std.specs.List.{IsDistinct};

@@ -1,4 +1,4 @@
-//! Silences: `Board::silence` calls `put_silence`, which adds one or replaces the one with its id.
+//! Silences: `put_silence` adds one or replaces the one with its id.
 ghost use Rattle.std.specs.Prelude.{◌≡◌, ℕ, ◌<◌, None, IfOk, MatchResult, vec_len};
 ghost use Rattle.std.specs.List.{position};
 ghost use Rattle.am_alerts.specs.Fault.{ok_unless};

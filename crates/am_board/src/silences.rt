@@ -1,5 +1,4 @@
-//! The silences of a board, with the label sets that none of them mutes (`unsilenced`). `silence` and
-//! `forget` change them, `begin` notes label sets, `walk` reads them.
+//! The silences of a board, with the label sets that none of them mutes (`unsilenced`).
 //!
 //! Contracts see the list of silences and its capacity. Invariant: what is noted is true of these
 //! silences. Each change of them forgets it.
@@ -102,8 +101,8 @@ impl NotedSilences {
         self.silences.drop_over(alloc, t)
     }
 
-    /// Returns where the next label set will be noted, unless what was noted from `last` on counts at
-    /// `t` (milliseconds) or there are no silences.
+    /// Returns where the next of so many label sets will be noted, unless what was noted from `last` on
+    /// counts at `t` (milliseconds), there are no silences, or too many for the alerts that came.
     ///
     /// Forgets what is noted if it doesn't count any more, or is more than `limit`. That costs one
     /// walk over the silences.
@@ -112,6 +111,7 @@ impl NotedSilences {
         last: NotedIndex,
         t: u64,
         limit: usize,
+        alerts: usize,
     ) -> Option<NotedIndex>
         ensures { self.new ≡ self.old }
     {
@@ -119,7 +119,7 @@ impl NotedSilences {
         if silences.is_empty() {
             return None;
         }
-        self.noted.start(silences, last, t, limit)
+        self.noted.start(silences, last, t, limit, alerts)
     }
 
     /// Notes a label set behind the others, if no silence mutes it at `t` (milliseconds).

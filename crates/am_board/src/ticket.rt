@@ -80,7 +80,7 @@ impl Ticket {
         self.deadline
     }
 
-    /// Returns the notices by integration, at most 8.
+    /// Returns the notices by integration, at most `MAX_INTEGRATIONS`.
     pub fn notices(&self) -> &[Notice]
         ensures notices { result.now ≡ self.now.notices }
         ensures within { length self.now.notices ≤ MAX_INTEGRATIONS }

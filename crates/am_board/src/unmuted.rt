@@ -1,10 +1,9 @@
 //! What is unmuted in a group: its alerts that are neither silenced nor inhibited, and none where a
-//! time interval mutes its route (the mute stages and the time stages of `notify`). `walk` finds it,
-//! `plan` and `preview` use it.
+//! time interval mutes its route (the mute stages and the time stages of `notify`).
 //!
-//! `UnmutedMembers` are references, which `dedup` decides by. Only where an integration is to be
-//! notified does `plan` make an `Unmuted` of them, and the label sets: a begin that notifies nobody
-//! copies no alert.
+//! `UnmutedMembers` are references, by which it is decided whom to notify. Only where an
+//! integration is to be notified is an `Unmuted` made of them, and the label sets: a begin that
+//! notifies nobody copies no alert.
 ghost use Rattle.std.specs.Prelude.{◌≡◌, ℕ, ◌&&◌, [], IfOk, filter, map};
 ghost use Rattle.std.specs.List.{IsDistinct};
 ghost use Rattle.am_alerts.specs.AlertData.{is_resolved};

@@ -1,4 +1,4 @@
-//! Label sets that no silence mutes, noted one behind the other. `silences` has one list of them.
+//! Label sets that no silence mutes, noted one behind the other.
 //!
 //! Whoever asks for the same label sets again, in the same order, remembers the index of the first.
 //! Each is then compared with the one that is noted at its index, and no silence is looked at. An
@@ -9,6 +9,9 @@
 //! span is active at `since` already, and its matchers are the same. A label set is therefore
 //! matched once for each span, and each note moves `since` to its time. Where a silence comes, is
 //! replaced or goes, the list is emptied, and the next one has another number.
+//!
+//! Another list needs a walk over all silences. Where these are many, it waits until as many alerts
+//! were looked up without one: so changes of silences never cost more than the look-ups do.
 ghost use Rattle.std.specs.Prelude.{◌≡◌, ◌<◌, ◌≤◌, ◌↔◌, List, false, true, All, IsTrue};
 ghost use Rattle.am_mute.specs.Silence.{SilenceData, is_silenced};
 ghost use Rattle.am_mute.specs.Sources.{IsAt};
@@ -17,6 +20,9 @@ ghost use Rattle.am_board.specs.Unsilenced.{AreUnsilenced, StartsOutside};
 use am_alerts::labels::Labels;
 use am_mute::silence::Silence;
 use std::alloc::{AllocError, Global};
+
+/// Up to how many silences are walked over as soon as a list is started.
+const MAX_FREE: usize = 1_024;
 
 /// An index in a list of this number. The default is an index in no list.
 #[derive(Clone, Copy, Default)]
@@ -45,6 +51,8 @@ pub(crate) struct Unsilenced {
     until: u64,
     /// Each list that is started has a number of its own.
     number: u64,
+    /// How many alerts came since the last walk over the silences, while no list was open to them.
+    alerts: usize,
 }
 
 impl Unsilenced {
@@ -57,6 +65,7 @@ impl Unsilenced {
             since: 0,
             until: 0,
             number: 0,
+            alerts: 0,
         }
     }
 
@@ -78,13 +87,15 @@ impl Unsilenced {
 
     /// Returns where the next label set will be noted, unless what was noted from `last` on counts.
     ///
-    /// Starts another list where what is noted doesn't count at `t`, or is more than `limit`.
+    /// Starts another list where what is noted doesn't count at `t`, or is more than `limit`; not yet,
+    /// and so returns nothing, while too few alerts came for so many silences. So many come now.
     pub(crate) fn start(
         &mut self,
         silences: &[Silence],
         last: NotedIndex,
         t: u64,
         limit: usize,
+        alerts: usize,
     ) -> Option<NotedIndex>
         requires { AreUnsilenced silences.now self.old }
         ensures { AreUnsilenced silences.now self.new }
@@ -94,6 +105,10 @@ impl Unsilenced {
             return None;
         }
         if !is_open || limit < self.sets.len() {
+            self.alerts = self.alerts.saturating_add(alerts);
+            if silences.len() > MAX_FREE && self.alerts < silences.len() {
+                return None;
+            }
             self.restart(silences, t);
         }
         Some(NotedIndex {
@@ -107,6 +122,7 @@ impl Unsilenced {
         ensures { AreUnsilenced silences.now self.new }
     {
         self.sets.clear();
+        self.alerts = 0;
         self.since = t;
         self.until = next_change(silences, t);
         self.number = self.number.wrapping_add(1);

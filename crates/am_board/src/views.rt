@@ -92,7 +92,7 @@ fn glance_of(handed: usize, state: &State) -> Glance
 /// How much there is in a state, after so many records that were handed out.
 fn summary_of(handed: usize, state: &State) -> Summary
     requires calls { handed + vec_len state.now.history ≤ MAX_CALLS }
-    requires alerts { sum_by (λ g. length g.members) (state_of state.now).groups ≤ 1_024 * state.now.inserts }
+    requires alerts { sum_by (λ g. length g.members) (state_of state.now).groups ≤ 16_384 * state.now.inserts }
     requires inserts { state.now.inserts ≤ MAX_CALLS }
     ensures { summary_data result ≡ summary_at (handed + vec_len state.now.history) (state_of state.now) }
 {

@@ -1,5 +1,5 @@
 //! The one walk over the alerts of a group, in the order of their labels: which fire, which are
-//! resolved, and what mutes the others (the mute stages of `notify`). `plan` and `preview` call it.
+//! resolved, and what mutes the others (the mute stages of `notify`).
 //!
 //! A preview wants the causes, a plain begin doesn't: to know that an alert is muted costs less than to
 //! know why. A muted alert is found with its index, so a preview lists it where it is in the
@@ -113,7 +113,8 @@ impl<'m> Walk<'m> {
         ensures firing { OnOk result (copies_at t self.new.firing.items
             ≡ copies_at t self.old.firing.items ++ firing_if t member.now.alert (cause_of rules.now (state_of state.now) t member.now)) }
         ensures resolved { OnOk result (copies_at t self.new.resolved.items
-            ≡ copies_at t self.old.resolved.items ++ resolved_if t member.now.alert (cause_of rules.now (state_of state.now) t member.now)) }
+            ≡ copies_at t self.old.resolved.items
+            ++ resolved_if t member.now.alert (cause_of rules.now (state_of state.now) t member.now)) }
         ensures muted { OnOk result (self.new.muted.items
             ≡ self.old.muted.items ++ listed_if wants_causes index (cause_of rules.now (state_of state.now) t member.now)) }
     {

@@ -8,6 +8,8 @@ pub mod Names
 pub mod Decoding
 -- texts of matchers: what is written plainly, with a quote or with an escape
 pub mod MatcherTexts
+-- matchers that are made of written parts
+pub mod Translations
 -- a JSON value says one matcher, one rule, one configuration at most
 pub mod Once
 -- what a configuration without a fault has, and one whose matchers look for no pattern

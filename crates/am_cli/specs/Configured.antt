@@ -1,5 +1,6 @@
 -- What the JSON value of a configuration decodes to, a line for each field.
-use Rattle.std.specs.Prelude.{◌≡◌, ◌≤◌, ◌++◌, ◌&&◌, ℕ, Bool, List, [], ◌∷◌, Some, None, true, false, codes, length, nat_le, IsTrue, MatchOption}
+use Rattle.std.specs.Prelude.{◌≡◌, ◌≤◌, ◌++◌, ◌&&◌, ℕ, Bool, List, [], ◌∷◌, Some, None, true, false, codes, length, nat_le, IsTrue}
+use Rattle.std.specs.Prelude.{MatchOption}
 use Rattle.std.specs.Borrow.{Bor}
 use Rattle.std.specs.List.{list_all, list_any}
 use Rattle.std.specs.Str.{bytes_eq}
@@ -24,7 +25,8 @@ use Rattle.am_mute.specs.Inhibit.{RuleData, rule_fault}
 use Rattle.am_cli.specs.Decoding.{IsText, IsFlag, IsNumber, IsDuration, IsInterval, IsList, IsObject, Has, HasOr}
 use Rattle.am_cli.specs.MatcherText.{IsMatcherText}
 use Rattle.am_cli.specs.Read.{has_only}
-use Rattle.am_cli.specs.declared.config.TheConstants.{FEW_RECEIVERS, FEW_INTEGRATIONS, FEW_RULES}
+use Rattle.am_cli.specs.declared.config.TheConstants.{FEW_BYTES, FEW_INTEGRATIONS, FEW_MATCHERS, FEW_RECEIVERS, FEW_RULES}
+use Rattle.am_cli.specs.Translated.{IsTranslatedFrom}
 use Rattle.am_cli.specs.declared.reader.Mode.{Mode}
 use Rattle.am_cli.specs.declared.reader.Mode.TheVariants.{Lenient, Strict}
 
@@ -37,9 +39,14 @@ abbrev pub text_members : List (Bor (List ℕ) × Bor (List ℕ)) → Members
 text_members [] = no_members
 text_members (p ∷ ps) = member p.0.now (string p.1.now) (text_members ps)
 
--- an array of pairs decodes to them; in strict mode so does an object, whose fields are the pairs
+-- whether the value of a pair is no longer than one of a scenario
+abbrev pub has_short_value : Bor (List ℕ) × Bor (List ℕ) → Bool
+has_short_value pair = nat_le (length pair.1.now) FEW_BYTES
+
+-- an array of pairs decodes to them, in lenient mode if no value is longer than one of a scenario; in strict mode so does an object, whose
+-- fields are the pairs
 abbrev pub DecodesToPairs : Mode → Data → List (Bor (List ℕ) × Bor (List ℕ)) → Type 0
-DecodesToPairs Lenient value pairs = IsList IsPair value pairs
+DecodesToPairs Lenient value pairs = IsList IsPair value pairs × IsTrue (list_all has_short_value pairs)
 DecodesToPairs Strict value pairs = MatchOption (as_object value) (IsList IsPair value pairs) (λ members. members ≡ text_members pairs)
 
 -- the labels of these pairs, which have no fault; those without a value are dropped
@@ -53,10 +60,14 @@ pub record DecodesToLabels (mode : Mode) (value : Data) (labels : List Label) : 
 abbrev pub IsMatcher : Data → MatcherParts → Type 0
 IsMatcher value m = as_array value ≡ Some (item (string m.name) (item (string (operator_text m.op)) (item (string m.value) no_items)))
 
--- in strict mode a text decodes to a matcher too
+-- the parts of a matcher as they are written: one text, or else three
+abbrev pub IsWritten : Data → MatcherParts → Type 0
+IsWritten value m = MatchOption (as_str value) (IsMatcher value m) (λ text. IsMatcherText text m)
+
+-- in lenient mode the value is no longer than one of a scenario; in strict mode a text decodes to a matcher too, and patterns are Go's
 abbrev pub IsMatcherIn : Mode → Data → MatcherParts → Type 0
-IsMatcherIn Lenient value m = IsMatcher value m
-IsMatcherIn Strict value m = MatchOption (as_str value) (IsMatcher value m) (λ text. IsMatcherText text m)
+IsMatcherIn Lenient value m = IsMatcher value m × (length m.value ≤ FEW_BYTES)
+IsMatcherIn Strict value m = IsTranslatedFrom (IsWritten value) m
 
 -- parts of which a matcher can be made
 pub record IsSound (m : MatcherParts) : Type 0 where
@@ -67,12 +78,18 @@ pub record DecodesToMatcher (mode : Mode) (value : Data) (m : MatcherParts) : Ty
   pub written : IsMatcherIn mode value m
   pub sound : IsSound m
 
+-- how many matchers a list may have
+abbrev pub most_matchers : Mode → ℕ
+most_matchers Lenient = FEW_MATCHERS
+most_matchers Strict = MAX_MATCHERS
+
 -- the fields of an object decode to an inhibition rule
 pub record HasRule (mode : Mode) (members : Members) (rule : RuleData) : Type 0 where
   pub only : IsTrue (has_only mode (codes "source" ∷ codes "target" ∷ codes "equal" ∷ []) members)
   pub source : HasOr (IsList (DecodesToMatcher mode)) [] (codes "source") members rule.source
   pub target : HasOr (IsList (DecodesToMatcher mode)) [] (codes "target") members rule.target
   pub equal : HasOr (IsList IsText) [] (codes "equal") members rule.equal
+  pub few : (length rule.source ≤ most_matchers mode) × (length rule.target ≤ most_matchers mode)
   pub sound : rule_fault rule ≡ None
 
 abbrev pub DecodesToRule : Mode → Data → RuleData → Type 0
@@ -120,7 +137,7 @@ pub record HasChild (mode : Mode) (members : Members) (child : Child) : Type 0 w
   pub options : DecodesToOptions members child.route
   pub name : Has IsText (codes "name") members child.route.name
   pub matchers : HasOr (IsList (DecodesToMatcher mode)) [] (codes "matchers") members child.matchers
-  pub few : length child.matchers ≤ MAX_MATCHERS
+  pub few : length child.matchers ≤ most_matchers mode
   pub continues : HasOr IsFlag false (codes "continue") members child.continues
 
 abbrev pub DecodesToChild : Mode → Data → Child → Type 0
@@ -163,7 +180,8 @@ has_few_integrations r = nat_le (length r.integrations) FEW_INTEGRATIONS
 abbrev pub has_few_parts : Mode → Config → Bool
 has_few_parts Strict config = true
 has_few_parts Lenient config =
-    nat_le (length config.receivers) FEW_RECEIVERS && list_all has_few_integrations config.receivers && nat_le (length config.rules) FEW_RULES
+    nat_le (length config.receivers) FEW_RECEIVERS && list_all has_few_integrations config.receivers
+    && nat_le (length config.rules) FEW_RULES
 
 -- the names of limits
 abbrev pub limit_names : List (List ℕ)

@@ -10,5 +10,7 @@ pub mod MatcherText
 pub mod Read
 -- a route, from what is read of it
 pub mod Routed
+-- matchers of Alertmanager's texts, whose patterns are Go's
+pub mod Translated
 -- what JSON values decode to: texts, numbers, answers, lists, and fields with their defaults
 pub mod Decoding

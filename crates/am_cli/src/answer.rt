@@ -1,4 +1,4 @@
-//! The answers to attempts in JSON. Readers of scripts and outages call it.
+//! The answers to attempts in JSON.
 use crate::fault::{FaultKind, InputFault};
 use crate::reader::{FromJson, Reader};
 use am_retry::Answer;

@@ -1,4 +1,4 @@
-//! The configuration of a dispatcher, from JSON. `am_scenario` and `am_rehearse` read theirs by it.
+//! The configuration of a dispatcher, from JSON.
 //!
 //! What is built of several values is checked once, by the type that it becomes. Only when that
 //! fails, `refusal` looks for the pointer of the fault. So a retention of zero is a fault of the
@@ -8,7 +8,8 @@ ghost use Rattle.std.specs.Prelude.{◌≡◌, ◌≢◌, ◌&&◌, IfErr, IfOk,
 ghost use Rattle.std.specs.List.{list_all};
 ghost use Rattle.am_alerts.specs.RoutingTree.{level_fault, tree_of};
 ghost use Rattle.am_model.specs.Config.{config_fault};
-ghost use Rattle.am_cli.specs.Configured.{DecodesToConfig, DecodesToLimits, HasParts, are_at_most, config_compares_texts, has_few_integrations, has_few_parts, limits_in};
+ghost use Rattle.am_cli.specs.Configured.{DecodesToConfig, DecodesToLimits, HasParts, are_at_most, config_compares_texts};
+ghost use Rattle.am_cli.specs.Configured.{has_few_integrations, has_few_parts, limits_in, most_matchers};
 ghost use Rattle.am_cli.specs.Decoding.{IsNumber, IsObject, HasOr};
 ghost use Rattle.am_cli.specs.Read.{Excludes};
 ghost use Rattle.serde_json.specs.View.{members_view, view};
@@ -18,7 +19,7 @@ use crate::fault::InputFault;
 use crate::reader::{FromJson, Mode, Object, Reader};
 use crate::refusal::{refuse_config, refuse_receivers, refuse_routes};
 use crate::route::read_root;
-use am_alerts::limits::MAX_CHILDREN;
+use am_alerts::limits::{MAX_CHILDREN, MAX_MATCHERS};
 use am_alerts::route::{Child, Route, RouteFault, Routes};
 use am_alerts::sequence::Sequence;
 use am_model::config::{
@@ -37,6 +38,12 @@ pub(crate) const FEW_INTEGRATIONS: usize = 8;
 
 /// The greatest number of inhibition rules of a scenario.
 pub(crate) const FEW_RULES: usize = 256;
+
+/// The greatest number of matchers in a list of a scenario.
+pub(crate) const FEW_MATCHERS: usize = 32;
+
+/// How many bytes the value of a label or of a matcher may have in a scenario.
+pub(crate) const FEW_BYTES: usize = 1_024;
 
 /// Reads a configuration. One that no dispatcher may have is refused.
 pub fn read_config(reader: &Reader<'_, '_>) -> Result<Config, InputFault>
@@ -62,6 +69,16 @@ pub(crate) fn limits_in(mode: Mode) -> Limits
     match mode {
         Mode::Lenient => Limits::default(),
         Mode::Strict => Limits::greatest(),
+    }
+}
+
+/// How many matchers a list may have. A scenario of `am-run` keeps that of a small dispatcher.
+pub fn most_matchers(mode: Mode) -> usize
+    ensures { result ≡ most_matchers mode }
+{
+    match mode {
+        Mode::Lenient => FEW_MATCHERS,
+        Mode::Strict => MAX_MATCHERS,
     }
 }
 

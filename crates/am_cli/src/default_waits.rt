@@ -1,5 +1,5 @@
-//! How long a route waits that doesn't say it: Alertmanager's defaults. `route` reads a route of a
-//! story's own configuration with them, and `am_config` one of an `alertmanager.yml`.
+//! How long a route waits that doesn't say it: Alertmanager's defaults, in an `alertmanager.yml`
+//! and in a story's own configuration.
 
 /// How long a new group waits until it is flushed: 30 seconds, in milliseconds.
 pub const GROUP_WAIT: u64 = 30_000;

@@ -1,5 +1,5 @@
-//! `Source` and `Sink`: where an input comes from and where an output goes. The programs' `main`
-//! has those of standard input and output; tests have fake ones.
+//! `Source` and `Sink`: where an input comes from and where an output goes. Programs have those of
+//! standard input and output; tests have fake ones.
 //!
 //! Contracts see the bytes that went through our own calls, in an `IoTrace`. Nothing says that the
 //! system shows the bytes on a screen.

@@ -1,4 +1,4 @@
-//! Durations in JSON. Readers of configurations and stories call it.
+//! Durations in JSON.
 ghost use Rattle.std.specs.Prelude.{◌≡◌, ◌<◌, Ok, IfOk, MatchOption};
 ghost use Rattle.std.specs.Result.{result_ok};
 ghost use Rattle.serde_json.specs.Find.{get_member};

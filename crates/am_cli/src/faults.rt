@@ -1,5 +1,4 @@
-//! The faults of an input, in the order of reading. `am_config` adds those of an `alertmanager.yml` to
-//! them, `am_plans` and `am_input` those of a story.
+//! The faults of an input, in the order of reading.
 use crate::fault::{FaultKind, InputFault};
 use crate::reader::{Object, is_one_of};
 use std::alloc::Global;

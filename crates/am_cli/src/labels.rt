@@ -1,15 +1,17 @@
-//! Label sets in JSON. Readers of alerts and expectations call it.
+//! Label sets in JSON.
 ghost use Rattle.std.specs.Prelude.{◌≡◌, IfErr, IfOk};
 ghost use Rattle.am_alerts.specs.declared.labels.LabelFault.{LabelFault};
 ghost use Rattle.serde_json.specs.View.{view};
-ghost use Rattle.am_cli.specs.Configured.{DecodesToLabels, DecodesToPairs};
+ghost use Rattle.std.specs.List.{list_all};
+ghost use Rattle.am_cli.specs.Configured.{DecodesToLabels, DecodesToPairs, has_short_value};
 ghost use Rattle.am_cli.specs.Read.{Excludes};
 ghost use Rattle.am_cli.specs.declared.fault.InputFault.{InputFault};
 
+use crate::config::FEW_BYTES;
 use crate::fault::{FaultKind, InputFault};
 use crate::reader::{FromJson, Mode, Reader};
 use am_alerts::labels::{LabelFault, Labels, is_label_name};
-use am_alerts::limits::MAX_LABEL_BYTES;
+use am_alerts::limits::{MAX_NAME_BYTES, MAX_VALUE_BYTES};
 
 /// The name of a label and its value: an array of two texts.
 impl<'v> FromJson<'v> for (&'v str, &'v str) {
@@ -58,9 +60,27 @@ fn read_pairs<'v>(reader: &Reader<'v, '_>) -> Result<Vec<(&'v str, &'v str)>, In
     ensures refused { IfErr result (Excludes (DecodesToPairs reader.now.mode (view reader.now.value))) }
 {
     match reader.mode() {
-        Mode::Lenient => reader.list::<(&str, &str)>(),
+        Mode::Lenient => read_lenient_pairs(reader),
         Mode::Strict => read_strict_pairs(reader),
     }
+}
+
+/// The pairs of an array, whose values are no longer than those of a scenario.
+fn read_lenient_pairs<'v>(reader: &Reader<'v, '_>) -> Result<Vec<(&'v str, &'v str)>, InputFault>
+    ensures decoded { IfOk result (λ pairs. DecodesToPairs Mode.Lenient (view reader.now.value) pairs.items) }
+    ensures refused { IfErr result (Excludes (DecodesToPairs Mode.Lenient (view reader.now.value))) }
+{
+    let pairs = reader.list::<(&str, &str)>()?;
+    if !have_short_values(pairs.as_slice()) {
+        return Err(reader.refuse(FaultKind::BadValue));
+    }
+    Ok(pairs)
+}
+
+fn have_short_values(pairs: &[(&str, &str)]) -> bool
+    ensures { result ≡ list_all has_short_value pairs.now }
+{
+    pairs.iter().all(|pair| pair.1.len() <= FEW_BYTES)
 }
 
 /// The members of an object, or else the pairs of an array.
@@ -102,7 +122,7 @@ fn refuse_pairs(reader: &Reader<'_, '_>, pairs: &[(&str, &str)], fault: LabelFau
 fn is_at_fault(before: &[(&str, &str)], name: &str, value: &str, fault: LabelFault) -> bool {
     match fault {
         LabelFault::BadName => !is_label_name(name),
-        LabelFault::TooLong => name.len() > MAX_LABEL_BYTES || value.len() > MAX_LABEL_BYTES,
+        LabelFault::TooLong => name.len() > MAX_NAME_BYTES || value.len() > MAX_VALUE_BYTES,
         LabelFault::Twice => {
             !value.is_empty()
                 && before

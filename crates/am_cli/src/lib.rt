@@ -1,5 +1,5 @@
 //! What the programs share: devices whose bytes contracts see, a JSON reader with pointers, and the
-//! form of a configuration. `am_scenario`, `am_config`, `am_run` and `am_rehearse` call it.
+//! form of a configuration.
 #![tactic(auto)]
 
 mod answer;
@@ -19,3 +19,4 @@ pub mod reader;
 mod refusal;
 mod route;
 pub mod transfer;
+pub mod translated;

@@ -1,20 +1,22 @@
-//! Matchers and inhibition rules in JSON. `config`, and readers of silences, call it.
+//! Matchers and inhibition rules in JSON.
 ghost use Rattle.std.specs.Prelude.{◌≡◌, ◌≢◌, ◌≤◌, [], IfErr, IfOk, IsSomeAnd, IsTrue, List, MatchOption, length};
 ghost use Rattle.serde_json.specs.View.{members_view, view};
 ghost use Rattle.serde_json.specs.Find.{as_str};
 ghost use Rattle.am_alerts.specs.Matcher.{compare_texts, compares_texts, operator_text};
-ghost use Rattle.am_alerts.specs.declared.limits.TheConstants.{MAX_MATCHERS};
 ghost use Rattle.am_alerts.specs.declared.matcher.MatcherParts.{MatcherParts};
 ghost use Rattle.am_alerts.specs.declared.matcher.Operator.{Operator};
-ghost use Rattle.am_cli.specs.Configured.{DecodesToMatcher, IsMatcher, IsSound};
+ghost use Rattle.am_cli.specs.Configured.{DecodesToMatcher, IsMatcher, IsWritten, most_matchers};
 ghost use Rattle.am_cli.specs.Decoding.{HasOr, IsList};
 ghost use Rattle.am_cli.specs.Read.{Excludes};
 ghost use Rattle.am_cli.specs.MatcherText.{IsMatcherText};
 
+use crate::config::{FEW_BYTES, most_matchers};
 use crate::fault::{FaultKind, InputFault};
 use crate::matcher_text::parts_of_text;
 use crate::reader::{FromJson, Mode, Object, Reader};
-use am_alerts::limits::{MAX_LABEL_BYTES, MAX_MATCHERS};
+use crate::translated::translated_matcher;
+use am_alerts::labels::is_label_name;
+use am_alerts::limits::MAX_NAME_BYTES;
 use am_alerts::matcher::{Matcher, MatcherFault, MatcherParts, Operator};
 use am_alerts::text::Text;
 use am_mute::inhibit::{InhibitRule, RuleFault};
@@ -28,7 +30,8 @@ const OPERATOR: usize = 1;
 /// Where the value is.
 const VALUE: usize = 2;
 
-/// Three texts, or in the strict mode also one. A pattern that needs a regex can be refused for its size.
+/// Three texts, or in the strict mode also one. In the strict mode a pattern is Go's. A pattern that
+/// needs a regex can be refused for its size.
 impl<'v> FromJson<'v> for Matcher {
     ghost use Rattle.am_alerts.specs.Matcher.{compares_texts};
     ghost use Rattle.am_cli.specs.Configured.{DecodesToMatcher};
@@ -39,73 +42,95 @@ impl<'v> FromJson<'v> for Matcher {
 
     fn read(reader: &Reader<'v, '_>) -> Result<Matcher, InputFault> {
         match reader.mode() {
-            Mode::Lenient => read_three_texts(reader),
+            Mode::Lenient => read_lenient(reader),
             Mode::Strict => read_strict(reader),
         }
     }
 }
 
-/// One text, or else three.
+/// Three texts, whose pattern is of the kit's `regex`. The value is no longer than one of a scenario.
+fn read_lenient(reader: &Reader<'_, '_>) -> Result<Matcher, InputFault>
+    ensures decoded { IfOk result (DecodesToMatcher Mode.Lenient (view reader.now.value)) }
+    ensures refused { IfErr result (Excludes (λ m.
+        DecodesToMatcher Mode.Lenient (view reader.now.value) m × IsTrue (compares_texts m))) }
+{
+    let parts = three_texts(reader)?;
+    if parts.value.as_str().len() > FEW_BYTES {
+        return Err(reader.refuse(FaultKind::BadValue));
+    }
+    let is_of_name = has_bad_name(&parts);
+    match Matcher::new(reader.alloc(), parts) {
+        Ok(matcher) => Ok(matcher),
+        Err(fault) => Err(refusal(reader, fault, is_of_name)),
+    }
+}
+
+/// One text, or else three, whose pattern is Go's.
 fn read_strict(reader: &Reader<'_, '_>) -> Result<Matcher, InputFault>
     ensures decoded { IfOk result (DecodesToMatcher Mode.Strict (view reader.now.value)) }
     ensures refused { IfErr result (Excludes (λ m.
         DecodesToMatcher Mode.Strict (view reader.now.value) m × IsTrue (compares_texts m))) }
 {
-    if reader.is_text() {
-        return read_one_text(reader);
+    let parts = written(reader)?;
+    let is_of_name = has_bad_name(&parts);
+    match translated_matcher(reader.alloc(), parts) {
+        Ok(matcher) => Ok(matcher),
+        Err(fault) => Err(refusal(reader, fault, is_of_name)),
     }
-    read_three_texts(reader)
 }
 
-fn read_one_text(reader: &Reader<'_, '_>) -> Result<Matcher, InputFault>
-    ensures decoded { IfOk result (λ matcher. IsSomeAnd (as_str (view reader.now.value)) (λ text. IsMatcherText text matcher)) }
-    ensures sound { IfOk result IsSound }
-    ensures refused { IfErr result (Excludes (λ m. IsSomeAnd (as_str (view reader.now.value)) (λ text. IsMatcherText text m)
-        × IsSound m × IsTrue (compares_texts m))) }
+/// The parts of one text, or else of three.
+fn written(reader: &Reader<'_, '_>) -> Result<MatcherParts, InputFault>
+    ensures decoded { IfOk result (IsWritten (view reader.now.value)) }
+    ensures refused { IfErr result (Excludes (IsWritten (view reader.now.value))) }
+{
+    if reader.is_text() {
+        return one_text(reader);
+    }
+    three_texts(reader)
+}
+
+fn one_text(reader: &Reader<'_, '_>) -> Result<MatcherParts, InputFault>
+    ensures decoded { IfOk result (λ m. IsSomeAnd (as_str (view reader.now.value)) (λ text. IsMatcherText text m)) }
+    ensures refused { IfErr result (Excludes (λ m. IsSomeAnd (as_str (view reader.now.value)) (λ text. IsMatcherText text m))) }
 {
     let Some(parts) = parts_of_text(reader.alloc(), reader.text()?)? else {
         return Err(reader.refuse(FaultKind::BadValue));
     };
-    match Matcher::new(reader.alloc(), parts) {
-        Ok(matcher) => Ok(matcher),
-        Err(MatcherFault::NoMemory) => Err(InputFault::NoMemory),
-        Err(_) => Err(reader.refuse(FaultKind::BadValue)),
-    }
+    Ok(parts)
 }
 
-fn read_three_texts(reader: &Reader<'_, '_>) -> Result<Matcher, InputFault>
+fn three_texts(reader: &Reader<'_, '_>) -> Result<MatcherParts, InputFault>
     ensures decoded { IfOk result (IsMatcher (view reader.now.value)) }
-    ensures sound { IfOk result IsSound }
-    ensures refused { IfErr result (Excludes (λ m.
-        IsMatcher (view reader.now.value) m × IsSound m × IsTrue (compares_texts m))) }
+    ensures refused { IfErr result (Excludes (IsMatcher (view reader.now.value))) }
 {
-    let pointer = reader.pointer();
     let (name, operator, value) = reader.three_texts()?;
     let Some(op) = operator_of(operator) else {
-        return Err(reader.refuse_at(&pointer.item(OPERATOR), FaultKind::BadValue));
+        return Err(reader.refuse_at(&reader.pointer().item(OPERATOR), FaultKind::BadValue));
     };
-    let parts = MatcherParts {
+    Ok(MatcherParts {
         name: Text::new(reader.alloc(), name)?,
         op,
         value: Text::new(reader.alloc(), value)?,
-    };
-    match Matcher::new(reader.alloc(), parts) {
-        Ok(matcher) => Ok(matcher),
-        Err(MatcherFault::NoMemory) => Err(InputFault::NoMemory),
-        Err(fault) => Err(reader.refuse_at(
-            &pointer.item(part_at_fault(fault, name)),
-            FaultKind::BadValue,
-        )),
-    }
+    })
 }
 
-/// Which of the three texts is at fault.
-fn part_at_fault(fault: MatcherFault, name: &str) -> usize {
-    match fault {
-        MatcherFault::BadName => NAME,
-        MatcherFault::TooLong if name.len() > MAX_LABEL_BYTES => NAME,
-        _ => VALUE,
+/// Whether the name is no label name, or has too many bytes.
+fn has_bad_name(parts: &MatcherParts) -> bool {
+    let name = parts.name.as_str();
+    !is_label_name(name) || name.len() > MAX_NAME_BYTES
+}
+
+/// The fault of parts that make no matcher, at one of three texts if there are three.
+fn refusal(reader: &Reader<'_, '_>, fault: MatcherFault, is_of_name: bool) -> InputFault {
+    if fault == MatcherFault::NoMemory {
+        return InputFault::NoMemory;
     }
+    if reader.is_text() {
+        return reader.refuse(FaultKind::BadValue);
+    }
+    let part = if is_of_name { NAME } else { VALUE };
+    reader.refuse_at(&reader.pointer().item(part), FaultKind::BadValue)
 }
 
 /// The operator that is written so.
@@ -153,14 +178,16 @@ fn read_side(
 ) -> Result<Vec<Matcher>, InputFault>
     ensures decoded { IfOk result (λ matchers. HasOr (IsList (DecodesToMatcher rule.now.mode)) [] name.now
         (members_view rule.now.members) matchers.items) }
+    ensures few { IfOk result (λ matchers. length matchers.items ≤ most_matchers rule.now.mode) }
     ensures refused { IfErr result (Excludes (λ (matchers : List MatcherParts).
         HasOr (IsList (DecodesToMatcher rule.now.mode)) [] name.now (members_view rule.now.members) matchers
-        × IsTrue (compare_texts matchers) × (length matchers ≤ MAX_MATCHERS))) }
+        × IsTrue (compare_texts matchers) × (length matchers ≤ most_matchers rule.now.mode))) }
 {
     let Some(member) = rule.optional(name) else {
         return Ok(Vec::new(rule.alloc()));
     };
-    if member.array()?.len() > MAX_MATCHERS {
+    let most = most_matchers(rule.mode());
+    if member.array()?.len() > most {
         let side = reader.pointer().member(name);
         return Err(reader.refuse_at(&side, FaultKind::BadValue));
     }

@@ -1,5 +1,4 @@
 //! Matchers as amtool and `alertmanager.yml` write them: `severity="critical"`, `dc=~"a|b"`.
-//! `matcher` and `am_config` read them.
 //!
 //! They are read as Alertmanager's classic parser does: escapes count with quotes and without, and
 //! a backslash that escapes nothing is itself. A comma outside of quotes, a backslash at the end

@@ -1,4 +1,4 @@
-//! Going down a JSON value with its pointer. The modules that read one part each call it.
+//! Going down a JSON value with its pointer.
 //!
 //! A reader carries the value, its pointer and the mode. The strict mode rejects what the
 //! lenient one ignores, and rejects at the value at fault. Of two faults the same one is reported

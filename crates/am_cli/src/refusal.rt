@@ -1,4 +1,4 @@
-//! The pointer of the fault for which a configuration is rejected as a whole. `config` calls it.
+//! The pointer of the fault for which a configuration is rejected as a whole.
 use crate::config::limits_in;
 use crate::fault::{FaultKind, InputFault};
 use crate::reader::{FromJson, Mode, Reader};

@@ -1,4 +1,4 @@
-//! The routing tree of a configuration. `config` calls it.
+//! The routing tree of a configuration.
 //!
 //! In `group_by` a `...` must be alone: a second one is rejected too. Names that are listed twice
 //! count twice for the limit of 64. In the lenient mode `name`, `matchers` and `continue` of the
@@ -13,11 +13,12 @@ ghost use Rattle.am_cli.specs.Decoding.{HasOr};
 ghost use Rattle.am_cli.specs.Read.{Excludes};
 ghost use Rattle.serde_json.specs.View.{members_view, view};
 
+use crate::config::most_matchers;
 use crate::default_waits::{GROUP_INTERVAL, GROUP_WAIT, REPEAT_INTERVAL};
 use crate::duration::{duration_or, interval_or};
 use crate::fault::{FaultKind, InputFault};
 use crate::reader::{FromJson, Object, Reader};
-use am_alerts::limits::{MAX_LABEL_NAMES, MAX_MATCHERS};
+use am_alerts::limits::MAX_LABEL_NAMES;
 use am_alerts::matcher::Matcher;
 use am_alerts::route::{Child, GroupBy, Route};
 use am_alerts::sequence::Sequence;
@@ -116,7 +117,8 @@ impl<'v> FromJson<'v> for Child {
         ])?;
         let options = Options::read(&child)?;
         let name = child.required_text("name")?;
-        let matchers = child.list_up_to::<Matcher>("matchers", MAX_MATCHERS)?;
+        let most = most_matchers(child.mode());
+        let matchers = child.list_up_to::<Matcher>("matchers", most)?;
         let continues = child.flag_or("continue", false)?;
         Ok(Child {
             route: options.named(name),

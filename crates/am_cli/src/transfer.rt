@@ -1,4 +1,4 @@
-//! Reading a whole input and writing a whole text. The programs' runs call it.
+//! Reading a whole input and writing a whole text.
 ghost use Rattle.std.specs.Prelude.{◌≡◌, ◌≤◌, ◌<◌, ◌+◌, ◌++◌, ◌⊎◌, ◌↔◌, length, IfOk, IsErr, OnErr, OnOk, is_ok, if◌then◌else◌};
 ghost use Rattle.am_cli.specs.Bytes.{Breaks};
 
@@ -6,8 +6,8 @@ use crate::device::{Sink, Source};
 use std::alloc::Global;
 use thiserror::Error;
 
-/// How many bytes an input may have: 16 MiB.
-pub const MAX_INPUT: usize = 16_777_216;
+/// How many bytes a file or a line may have: 64 MiB.
+pub const MAX_INPUT: usize = 67_108_864;
 
 /// How many bytes are asked for at once.
 const CHUNK: usize = 8_192;
@@ -15,7 +15,7 @@ const CHUNK: usize = 8_192;
 /// Why an input wasn't read to its end.
 #[derive(Clone, Copy, Debug, PartialEq, Eq, Error)]
 pub enum ReadFault {
-    /// A read failed, or the input has more than 16,777,216 bytes.
+    /// A read failed, or the input has more bytes than it may have.
     #[error("input not readable")]
     Unreadable,
     /// Out of memory.
@@ -28,21 +28,21 @@ pub enum ReadFault {
 #[error("output not writable")]
 pub struct Unwritable;
 
-/// Reads to the end of the input. A read that fails isn't tried again. No more than one byte
-/// beyond the greatest input is asked for.
-pub fn read_all<S: Source>(alloc: Global, source: &mut S) -> Result<Vec<u8>, ReadFault>
+/// Reads to the end of an input that has at most so many bytes. A read that fails isn't tried again.
+/// No more than one byte beyond the greatest input is asked for.
+pub fn read_all<S: Source>(alloc: Global, source: &mut S, most: usize) -> Result<Vec<u8>, ReadFault>
     ensures whole { IfOk result (λ input.
         S.given source.new ≡ S.given source.old ++ input.items) }
     ensures ended { OnOk result (S.ended source.new ≡ S.ended source.old + 1) }
-    ensures reads { S.reads source.new ≤ S.reads source.old + (MAX_INPUT + 1) }
+    ensures reads { S.reads source.new ≤ S.reads source.old + (most + 1) }
     ensures unreadable { (result ≡ Err ReadFault.Unreadable)
         ↔ ((S.failed source.old < S.failed source.new)
-        ⊎ (length (S.given source.old) + MAX_INPUT < length (S.given source.new))) }
+        ⊎ (length (S.given source.old) + most < length (S.given source.new))) }
 {
     let mut input = Vec::new(alloc);
     let mut chunk = [0u8; CHUNK];
     loop {
-        let wanted = CHUNK.min(MAX_INPUT + 1 - input.len());
+        let wanted = CHUNK.min((most - input.len()).saturating_add(1));
         let given = match source.read(&mut chunk[..wanted]) {
             Ok(given) => given,
             Err(_) => return Err(ReadFault::Unreadable),
@@ -50,7 +50,7 @@ pub fn read_all<S: Source>(alloc: Global, source: &mut S) -> Result<Vec<u8>, Rea
         if given == 0 {
             return Ok(input);
         }
-        if input.len() + given > MAX_INPUT {
+        if given > most - input.len() {
             return Err(ReadFault::Unreadable);
         }
         if input.extend_from_slice(&chunk[..given]).is_err() {

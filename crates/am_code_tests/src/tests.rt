@@ -1,6 +1,7 @@
 //! Values that several tests take.
 mod counts;
 mod durations;
+mod hanging;
 mod starving;
 mod workers;
 

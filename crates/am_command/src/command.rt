@@ -182,7 +182,7 @@ const CHECK: [Word; 4] = [
     (
         "FILE",
         Takes::Some,
-        "An alertmanager.yml, a config of our own or a story; - is standard input",
+        "Files with an alertmanager.yml, a config of our own or a story, or folders of them; - is standard input",
     ),
     (
         "config",

@@ -3,13 +3,13 @@ use crate::durations::rewritten;
 use crate::fields::{FIELDS, FieldKind, in_words, kind_in};
 use crate::spelling::Nearest;
 use crate::spot::{Spot, parted};
-use serde_json::Value;
+use serde_json::{Map, Value};
 use std::alloc::{AllocError, Global};
 
 /// How a value is wrong.
 ///
 /// It has the variants of `am_cli`'s `FaultKind`, and `Bounds` has limits of several crates. This crate
-/// uses none of them: it is proved at the same time as they are. `am_console` makes both, by a match
+/// uses none of them: it is proved at the same time as they are. Both are made elsewhere, by a match
 /// over `FaultKind` and from the limits' own constants.
 #[derive(Clone, Copy, PartialEq, Eq)]
 pub enum Wrong {
@@ -68,8 +68,10 @@ pub struct Bounds {
     pub matchers: usize,
     /// Names in a list of label names.
     pub names: usize,
-    /// Bytes of a label's name or value.
-    pub label_bytes: usize,
+    /// Bytes of a label's name.
+    pub name_bytes: usize,
+    /// Bytes of a label's value.
+    pub value_bytes: usize,
     /// Days of a story.
     pub days: usize,
 }
@@ -160,6 +162,9 @@ fn kind_in_words(value: Option<&Value>) -> &'static str {
 
 fn unknown(alloc: Global, spot: &Spot<'_>) -> Result<String, AllocError> {
     let name = spot.name.as_str();
+    if let ("match" | "match_re", Some(labels)) = (name, spot.value.and_then(Value::as_object)) {
+        return in_matchers(alloc, name, labels);
+    }
     if kind_in(name).is_some() {
         return format!(in alloc; "`{name}` doesn't belong here");
     }
@@ -170,6 +175,31 @@ fn unknown(alloc: Global, spot: &Spot<'_>) -> Result<String, AllocError> {
         ),
     }
 }
+
+/// Says how the labels of `match` or `match_re` are written as matchers, where only these can be.
+fn in_matchers(
+    alloc: Global,
+    name: &str,
+    labels: &Map<String, Value>,
+) -> Result<String, AllocError> {
+    let operator = if name == "match" { "=" } else { "=~" };
+    let mut words = format!(in alloc; "`{name}` doesn't belong here; write matchers: [")?;
+    for (index, (label, value)) in labels.iter().take(MAX_SHOWN).enumerate() {
+        if index > 0 {
+            words.push_str(", ")?;
+        }
+        let value = value.as_str().unwrap_or("..");
+        write!(words, "'{label}{operator}\"{value}\"'")?;
+    }
+    if labels.len() > MAX_SHOWN {
+        words.push_str(", ..")?;
+    }
+    words.push(']')?;
+    Ok(words)
+}
+
+/// How many matchers a message writes out.
+const MAX_SHOWN: usize = 3;
 
 /// Returns the name of the known field that is probably meant.
 fn nearest_field(alloc: Global, name: &str) -> Result<Option<&str>, AllocError> {
@@ -273,14 +303,17 @@ fn bad_label(
 ) -> Result<String, AllocError> {
     let name = spot.name.as_str();
     let value = spot.text().unwrap_or("");
-    let label_bytes = bounds.label_bytes;
+    let name_bytes = bounds.name_bytes;
+    let value_bytes = bounds.value_bytes;
     if !is_label_name(name) {
         return format!(in alloc;
             "`{name}` is no label name: it has letters, digits and `_`, and begins with no digit"
         );
     }
-    if name.len() > label_bytes || value.len() > label_bytes {
-        return format!(in alloc; "a label's name and value have at most {label_bytes} bytes each");
+    if name.len() > name_bytes || value.len() > value_bytes {
+        return format!(in alloc;
+            "a label's name has at most {name_bytes} bytes, and its value {value_bytes}"
+        );
     }
     let (above, _) = parted(pointer);
     if above.ends_with("match_re") {
@@ -289,7 +322,7 @@ fn bad_label(
         );
     }
     format!(in alloc;
-        "`{name}` isn't right here: a name has letters, digits and `_`, a value at most {label_bytes} bytes"
+        "`{name}` isn't right here: a name has letters, digits and `_`, a value at most {value_bytes} bytes"
     )
 }
 
@@ -527,8 +560,8 @@ fn too_large(alloc: Global, name: &str, bounds: &Bounds) -> Result<String, Alloc
             bounds.routes, bounds.levels
         ),
         "labels" | "firing" | "resolved" => format!(in alloc;
-            "this is no label set: 1 to {} labels, each with a name and a value of at most {} bytes",
-            bounds.names, bounds.label_bytes
+            "this is no label set: 1 to {} labels, each with a name of at most {} bytes and a value of at most {}",
+            bounds.names, bounds.name_bytes, bounds.value_bytes
         ),
         _ => not_allowed(alloc, name),
     }

@@ -1,20 +1,24 @@
 //! `am-rehearse check`: says what configurations hold, or all that is wrong in them.
 use crate::config::configured;
 use crate::faults::accept;
+use crate::folders::add_files;
 use crate::given::given_to;
 use crate::lint::Warnings;
 use crate::once::accept_inputs;
 use crate::reload_files::read_reload_files;
+use crate::story_warnings::push_story_warnings;
 use crate::times::written_routes;
 use crate::warnings::push_warnings;
 use crate::wrapped::read_configuration;
+use am_alerts::route::Routes;
 use am_command::exit_status::ExitStatus;
 use am_console::console::{Console, Document, shown};
 use am_input::configured::{Configured, read_file};
 use am_input::faults::ReceiversOf;
 use am_input::form::{Form, alertmanager_in, form_of, has_configuration};
 use am_input::input::Overrides;
-use std::alloc::AllocError;
+use am_model::config::Config;
+use std::alloc::{AllocError, Global};
 use std::rt::Files;
 
 /// What `check` changes in a story.
@@ -23,26 +27,26 @@ const NOTHING: Overrides = Overrides {
     until: None,
 };
 
-/// Checks each file, and returns the status: that of the first file that isn't accepted, if there is one. A configuration that
-/// is given takes the place of that of each story.
-pub fn check<R: Files + Eprint + AllocGlobal>(
+/// Checks each file, and those of each folder, and returns the status: that of the first file that isn't accepted, if there is
+/// one. A configuration that is given takes the place of that of each story.
+pub fn check<R: Files + Eprint + AllocGlobal + Clone + Drop>(
     rt: &R,
     console: &mut Console,
-    files: &[&str],
+    paths: &[&str],
     config: Option<&str>,
 ) -> ExitStatus {
-    if let Err(refused) = accept_all(rt, console, files, config) {
+    if let Err(refused) = accept_all(rt, console, paths, config) {
         return refused;
     }
     let Some(path) = config else {
-        return check_each(rt, console, files, None);
+        return check_each(rt, console, paths, None);
     };
     let config = match read_configuration(rt, console, path) {
         Ok(config) => config,
         Err(status) => return status,
     };
     match read_file(rt.alloc(), &config.value, None) {
-        Ok(_configured) => check_each(rt, console, files, Some(&config)),
+        Ok(_configured) => check_each(rt, console, paths, Some(&config)),
         Err(refusal) => console.complain_of_refusal(rt, &config, refusal),
     }
 }
@@ -66,17 +70,17 @@ fn accept_all<R: Eprint + AllocGlobal>(
     accept_inputs(rt, inputs.as_slice())
 }
 
-/// Checks each file, and returns the status.
-fn check_each<R: Files + Eprint + AllocGlobal>(
+/// Checks each file and folder, and returns the status.
+fn check_each<R: Files + Eprint + AllocGlobal + Clone + Drop>(
     rt: &R,
     console: &mut Console,
-    files: &[&str],
+    paths: &[&str],
     config: Option<&Document<'_>>,
 ) -> ExitStatus {
     let mut status = ExitStatus::Done;
     let mut lines = String::new(rt.alloc());
-    for path in files {
-        if let Err(fault) = check_file(rt, console, path, config, &mut lines) {
+    for path in paths {
+        if let Err(fault) = check_path(rt, console, path, config, &mut lines) {
             if status == ExitStatus::Done {
                 status = fault;
             }
@@ -86,6 +90,27 @@ fn check_each<R: Files + Eprint + AllocGlobal>(
         ExitStatus::Done => status,
         unwritten => unwritten,
     }
+}
+
+/// Adds what a file holds, or each file of a folder. The error is the status.
+fn check_path<R: Files + Eprint + AllocGlobal + Clone + Drop>(
+    rt: &R,
+    console: &mut Console,
+    path: &str,
+    config: Option<&Document<'_>>,
+    lines: &mut String,
+) -> Result<(), ExitStatus> {
+    let mut files = Vec::new(rt.alloc());
+    add_files(rt, console, path, &mut files)?;
+    let mut status = Ok(());
+    for file in files.as_slice() {
+        if let Err(fault) = check_file(rt, console, file.as_str(), config, lines) {
+            if status.is_ok() {
+                status = Err(fault);
+            }
+        }
+    }
+    status
 }
 
 /// Adds what a file holds. The error is the status.
@@ -110,10 +135,26 @@ fn check_file<R: Files + Eprint + AllocGlobal>(
     }
     accept(rt, console, &document, ReceiversOf::Given(None), NOTHING)?;
     let file = shown(path);
-    match writeln!(lines, "{file}: accepted; a story without a configuration") {
+    let added = match writeln!(lines, "{file}: accepted; a story without a configuration") {
+        Ok(()) => push_of_story(rt.alloc(), &document, None, lines),
+        Err(refused) => Err(refused),
+    };
+    match added {
         Ok(()) => Ok(()),
         Err(_) => Err(console.complain_of_memory(rt)),
     }
+}
+
+/// Adds the warnings of a story that has no configuration, or these routes of one that is given.
+fn push_of_story(
+    alloc: Global,
+    story: &Document<'_>,
+    routes: Option<&Routes>,
+    lines: &mut String,
+) -> Result<(), AllocError> {
+    let file = shown(story.path);
+    let mut warnings = Warnings::new(alloc, file, story.text.as_slice(), lines)?;
+    push_story_warnings(alloc, &story.value, routes, &mut warnings)
 }
 
 /// Adds what the configuration of a file holds. The error is the status.
@@ -143,10 +184,14 @@ fn check_under<R: Files + Eprint + AllocGlobal>(
     let configured = given_to(rt, console, story, config, NOTHING)?;
     let receivers = ReceiversOf::Given(Some(&configured));
     accept(rt, console, story, receivers, NOTHING)?;
-    drop(configured);
     let file = shown(story.path);
     let config = shown(config.path);
-    match writeln!(lines, "{file}: accepted; a story under {config}") {
+    let added = match writeln!(lines, "{file}: accepted; a story under {config}") {
+        Ok(()) => push_of_story(rt.alloc(), story, Some(&configured.config.routes), lines),
+        Err(refused) => Err(refused),
+    };
+    drop(configured);
+    match added {
         Ok(()) => Ok(()),
         Err(_) => Err(console.complain_of_memory(rt)),
     }
@@ -181,14 +226,30 @@ fn push_summary<R: AllocGlobal>(
         let ignored = configured.ignored;
         write!(lines, "{file}: ignored: {ignored}\n")?;
     }
-    let mut written = Vec::new(rt.alloc());
+    push_warnings_of(rt.alloc(), document, config, lines)
+}
+
+/// Adds the warnings of a file with this configuration.
+fn push_warnings_of(
+    alloc: Global,
+    document: &Document<'_>,
+    config: &Config,
+    lines: &mut String,
+) -> Result<(), AllocError> {
+    let file = shown(document.path);
+    let mut written = Vec::new(alloc);
     if let Some(root) = alertmanager_in(&document.value).and_then(|file| file.get("route")) {
         written.push(root)?;
     }
-    let below = written_routes(rt.alloc(), &document.value)?;
+    let below = written_routes(alloc, &document.value)?;
     for route in below.as_slice() {
         written.push(*route)?;
     }
-    let mut warnings = Warnings::new(rt.alloc(), file, document.text.as_slice(), lines)?;
-    push_warnings(rt.alloc(), config, written.as_slice(), &mut warnings)
+    let mut warnings = Warnings::new(alloc, file, document.text.as_slice(), lines)?;
+    push_warnings(alloc, config, written.as_slice(), &mut warnings)?;
+    if form_of(&document.value) == Form::Story {
+        let routes = Some(&config.routes);
+        push_story_warnings(alloc, &document.value, routes, &mut warnings)?;
+    }
+    Ok(())
 }

@@ -1,4 +1,4 @@
-//! The faults of a story, of which `check`, `compare` and `play` complain.
+//! The faults of a story, and complaints of them.
 use crate::system_zones::SystemZones;
 use am_cli::faults::Faults;
 use am_command::exit_status::ExitStatus;

@@ -1,4 +1,4 @@
-//! What of a configuration is ignored, as people see it. `play`, `compare` and `check` say it.
+//! What of a configuration is ignored, as people see it.
 use am_config::dropped::IgnoredSettings;
 use am_console::console::shown;
 

@@ -5,15 +5,18 @@ use am_alerts::matcher::{Matcher, Operator};
 use am_alerts::route::{Child, Routes};
 use am_alerts::text::Text;
 use std::alloc::{AllocError, Global};
+use std::collections::BTreeMap;
 
 /// A route below the root, as the warnings need it.
-#[derive(Drop)]
+#[derive(Clone, Copy)]
 pub struct Entry<'r> {
     pub child: &'r Child,
     /// The position of the route right above it.
     pub above: usize,
-    /// Its matchers as text.
-    pub matchers: String,
+    /// The first route before it, below the same one, that has its matchers and doesn't continue.
+    pub taker: Option<&'r Child>,
+    /// The first route before it, below the same one, that has its matchers and its receiver.
+    pub alike: Option<&'r Child>,
 }
 
 /// Why a route is never reached, if it isn't.
@@ -29,17 +32,60 @@ pub enum Never<'r> {
 /// Returns the routes below the root.
 pub fn entries_of(alloc: Global, routes: &Routes) -> Result<Vec<Entry<'_>>, AllocError> {
     let route_positions = route_positions(alloc, routes)?;
+    let mut takers = FirstRoutes::new(alloc);
+    let mut alike = FirstRoutes::new(alloc);
     let mut entries = Vec::new(alloc);
     for (child, route_position) in routes.children().iter().zip(route_positions.as_slice()) {
-        let mut matchers = String::new(alloc);
-        push_matchers(child.matchers.as_slice(), &mut matchers)?;
+        let above = route_position.above;
+        let matchers = matchers_below(alloc, above, child)?;
+        let mut with_receiver = String::from_str(alloc, matchers.as_str())?;
+        with_receiver.push_str(child.route.receiver.as_str())?;
         entries.push(Entry {
             child,
-            above: route_position.above,
-            matchers,
+            above,
+            taker: takers.get(matchers.as_str()),
+            alike: alike.get(with_receiver.as_str()),
         })?;
+        if !child.continues {
+            takers.note(matchers, child)?;
+        }
+        alike.note(with_receiver, child)?;
     }
     Ok(entries)
+}
+
+/// The text that routes have in common which are below the same one and have the same matchers.
+fn matchers_below(alloc: Global, above: usize, child: &Child) -> Result<String, AllocError> {
+    let mut text = format!(in alloc; "{above} ")?;
+    push_matchers(child.matchers.as_slice(), &mut text)?;
+    text.push('\n')?;
+    Ok(text)
+}
+
+/// The first route of each text that says what several have in common.
+#[derive(Drop)]
+struct FirstRoutes<'r> {
+    by_text: BTreeMap<String, &'r Child>,
+}
+
+impl<'r> FirstRoutes<'r> {
+    fn new(alloc: Global) -> FirstRoutes<'r> {
+        FirstRoutes {
+            by_text: BTreeMap::new(alloc),
+        }
+    }
+
+    fn get(&self, text: &str) -> Option<&'r Child> {
+        self.by_text.get(text).copied()
+    }
+
+    /// Notes a route, if it is the first of its text.
+    fn note(&mut self, text: String, child: &'r Child) -> Result<(), AllocError> {
+        if self.by_text.get(text.as_str()).is_none() {
+            self.by_text.insert(text, child)?;
+        }
+        Ok(())
+    }
 }
 
 /// Returns why the route at an index is never reached, as far as so many comparisons of matchers show it.
@@ -57,20 +103,26 @@ pub fn never_reached<'r>(
         return Ok(Never::Contradicts);
     }
     for before in entries.iter().take(index) {
+        if *left == 0 {
+            break;
+        }
+        *left = left.saturating_sub(1);
         let takes = before.above == entry.above && !before.child.continues;
         if takes
-            && (before.matchers.as_str() == entry.matchers.as_str()
-                || are_implied(
-                    alloc,
-                    before.child.matchers.as_slice(),
-                    known.as_slice(),
-                    left,
-                )?)
+            && are_implied(
+                alloc,
+                before.child.matchers.as_slice(),
+                known.as_slice(),
+                left,
+            )?
         {
             return Ok(Never::Behind(&before.child.route.name));
         }
     }
-    Ok(Never::Reached)
+    Ok(match entry.taker {
+        None => Never::Reached,
+        Some(before) => Never::Behind(&before.route.name),
+    })
 }
 
 /// Returns the matchers of a route and of those above it.

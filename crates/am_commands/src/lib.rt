@@ -1,10 +1,10 @@
 //! The commands of `am-rehearse` that play nothing, and what `play` and `compare` share with them.
-//! `am_rehearse` calls them.
 #![tactic(auto)]
 
 pub mod check;
 mod config;
 pub mod faults;
+pub mod folders;
 pub mod given;
 pub mod ignored;
 mod implied;
@@ -16,6 +16,7 @@ pub mod reload_files;
 pub mod routes;
 pub mod story;
 mod story_edits;
+mod story_warnings;
 pub mod system_zones;
 mod times;
 mod tree;

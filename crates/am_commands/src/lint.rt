@@ -1,4 +1,5 @@
 //! The names of `check`'s warnings, and which of them a file turns off.
+use am_command::spelling::Nearest;
 use std::alloc::{AllocError, Global};
 
 /// What a warning is about.
@@ -11,10 +12,13 @@ pub enum Lint {
     InhibitWithoutTarget,
     RepeatBelowInterval,
     RepeatOnTheEdge,
+    AbsentGroupLabel,
+    SilenceOfEverything,
+    UnknownWarning,
 }
 
 /// All of them.
-const LINTS: [Lint; 7] = [
+const LINTS: [Lint; 10] = [
     Lint::UnreachableRoute,
     Lint::SharedLogEntries,
     Lint::UnusedReceiver,
@@ -22,6 +26,9 @@ const LINTS: [Lint; 7] = [
     Lint::InhibitWithoutTarget,
     Lint::RepeatBelowInterval,
     Lint::RepeatOnTheEdge,
+    Lint::AbsentGroupLabel,
+    Lint::SilenceOfEverything,
+    Lint::UnknownWarning,
 ];
 
 impl Lint {
@@ -35,6 +42,9 @@ impl Lint {
             Lint::InhibitWithoutTarget => "inhibit-without-target",
             Lint::RepeatBelowInterval => "repeat-below-interval",
             Lint::RepeatOnTheEdge => "repeat-on-the-edge",
+            Lint::AbsentGroupLabel => "absent-group-label",
+            Lint::SilenceOfEverything => "silence-of-everything",
+            Lint::UnknownWarning => "unknown-warning",
         }
     }
 }
@@ -51,22 +61,23 @@ pub struct Warnings<'f> {
 }
 
 impl<'f> Warnings<'f> {
-    /// Returns the warnings of a file with this text, none so far.
+    /// Returns the warnings of a file with this text: so far those of names that no warning has.
     pub fn new(
         alloc: Global,
         file: &'f str,
         text: &[u8],
         lines: &'f mut String,
     ) -> Result<Warnings<'f>, AllocError> {
-        let mut ignored = Vec::new(alloc);
-        if let Ok(text) = std::str::from_utf8(text) {
-            push_ignored(text, &mut ignored)?;
-        }
-        Ok(Warnings {
+        let mut warnings = Warnings {
             file,
-            ignored,
+            ignored: Vec::new(alloc),
             lines,
-        })
+        };
+        if let Ok(text) = std::str::from_utf8(text) {
+            push_ignored(text, &mut warnings.ignored)?;
+            push_unknown(alloc, text, &mut warnings)?;
+        }
+        Ok(warnings)
     }
 
     /// Adds the beginning of a warning, and returns whether there is one: the file can have turned it off.
@@ -87,25 +98,82 @@ impl<'f> Warnings<'f> {
 /// Adds the warnings that comments of a text turn off: behind a `#`, `am-rehearse: ignore` and their names.
 fn push_ignored(text: &str, ignored: &mut Vec<Lint>) -> Result<(), AllocError> {
     for line in text.lines() {
-        let Some((before, names)) = line.split_once(MARK) else {
-            continue;
-        };
-        if before.contains('#') {
-            for name in names.split(' ') {
-                push_named(name, ignored)?;
-            }
+        for word in words_in(line).split(' ') {
+            push_named(word, ignored)?;
         }
     }
     Ok(())
 }
 
-/// Adds the warning of a name, behind which a comma can be, unless it is there.
-fn push_named(name: &str, ignored: &mut Vec<Lint>) -> Result<(), AllocError> {
-    let name = name.trim().strip_suffix(',').unwrap_or(name.trim());
+/// Returns the words behind `am-rehearse: ignore` in the comment of a line; none if it has none.
+fn words_in(line: &str) -> &str {
+    match line.split_once(MARK) {
+        Some((before, words)) if before.contains('#') => words,
+        _ => "",
+    }
+}
+
+/// Returns a name without the comma behind it.
+fn name_in(word: &str) -> &str {
+    let name = word.trim();
+    name.strip_suffix(',').unwrap_or(name)
+}
+
+/// Adds the warning of a name, unless it is there.
+fn push_named(word: &str, ignored: &mut Vec<Lint>) -> Result<(), AllocError> {
+    let name = name_in(word);
     for lint in LINTS {
         if lint.name() == name && !ignored.contains(&lint) {
             ignored.push(lint)?;
         }
     }
     Ok(())
+}
+
+/// Adds a warning for each name that a comment turns off and no warning has. A word that begins with no letter begins a remark.
+fn push_unknown(alloc: Global, text: &str, warnings: &mut Warnings<'_>) -> Result<(), AllocError> {
+    for (index, line) in text.lines().enumerate() {
+        for word in words_in(line).split(' ') {
+            let name = name_in(word);
+            if begins_remark(name) {
+                break;
+            }
+            if !name.is_empty() && LINTS.iter().all(|lint| lint.name() != name) {
+                warn_of_name(alloc, index.saturating_add(1), name, warnings)?;
+            }
+        }
+    }
+    Ok(())
+}
+
+/// Returns whether a word begins what isn't a list of names any more.
+fn begins_remark(word: &str) -> bool {
+    match word.as_bytes().first() {
+        None => false,
+        Some(first) => !first.is_ascii_alphanumeric(),
+    }
+}
+
+/// Adds the warning that a line turns off a name which no warning has.
+fn warn_of_name(
+    alloc: Global,
+    line: usize,
+    name: &str,
+    warnings: &mut Warnings<'_>,
+) -> Result<(), AllocError> {
+    if !warnings.begin(Lint::UnknownWarning)? {
+        return Ok(());
+    }
+    let mut nearest = Nearest::to(name);
+    for lint in LINTS {
+        nearest.consider(alloc, lint.name())?;
+    }
+    write!(
+        warnings.lines,
+        "line {line} turns off `{name}`, and no warning has this name"
+    )?;
+    if let Some(meant) = nearest.found() {
+        write!(warnings.lines, "; did you mean `{meant}`?")?;
+    }
+    warnings.end(Lint::UnknownWarning)
 }

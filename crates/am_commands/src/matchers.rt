@@ -1,4 +1,4 @@
-//! Matchers of a command line, as `--alert` and `--drop` take them. `play` and `story` read them.
+//! Matchers of a command line, as `--alert` and `--drop` take them.
 use am_alerts::matcher::Matcher;
 use am_command::exit_status::ExitStatus;
 use am_console::console::Console;
@@ -32,10 +32,10 @@ fn matcher_in<R: Eprint + AllocGlobal>(
         Ok(matcher) => return Ok(matcher),
         Err(fault) => fault,
     };
-    match words_for(fault) {
-        None => Err(console.complain_of_memory(rt)),
-        Some(words) => {
-            let _ = eprintln!(rt; "am-rehearse: {option}: `{text}` {words}");
+    match words_for(rt.alloc(), text, fault) {
+        Err(_) => Err(console.complain_of_memory(rt)),
+        Ok(words) => {
+            let _ = eprintln!(rt; "am-rehearse: {option}: {words}");
             Err(ExitStatus::Rejected)
         }
     }

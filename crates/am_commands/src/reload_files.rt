@@ -1,4 +1,4 @@
-//! The files that the reloads of a story name. `play`, `compare` and `check` put the configurations in them into the story.
+//! The files that the reloads of a story name. The configurations in them are put into the story.
 use crate::given::given_to;
 use crate::wrapped::read_configuration;
 use am_command::exit_status::ExitStatus;

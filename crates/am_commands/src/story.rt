@@ -45,6 +45,9 @@ fn try_story<R: Files + Eprint + AllocGlobal>(
     if let Some(path) = request.silences {
         incident.silences = silences(rt, console, path)?;
     }
+    if incident.join_repeats(rt.alloc()).is_err() {
+        return Err(console.complain_of_memory(rt));
+    }
     print(rt, console, &incident)
 }
 

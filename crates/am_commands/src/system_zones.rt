@@ -1,4 +1,4 @@
-//! `SystemZones`: the files of time zones of the system, for what `am_input` reads. The commands make it.
+//! `SystemZones`: the files of time zones of the system.
 ghost use Rattle.std.specs.Prelude.{◌<◌};
 
 use am_cli::device::Source;

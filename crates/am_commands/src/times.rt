@@ -1,4 +1,4 @@
-//! The time intervals that the routes of a file name. `tree` and `routes` show them.
+//! The time intervals that the routes of a file name.
 use am_config::written::WrittenRoutes;
 use am_input::form::alertmanager_in;
 use serde_json::Value;

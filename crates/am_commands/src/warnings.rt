@@ -6,6 +6,7 @@ use am_command::durations::push_duration;
 use am_model::config::Config;
 use serde_json::Value;
 use std::alloc::{AllocError, Global};
+use std::collections::{BTreeMap, BTreeSet};
 
 /// Adds a warning for each route that no label set reaches or that shares its log entries, and for receivers, inhibition rules and
 /// waits that can't be meant. `written` has the routes as the file has them, the root first; none where it isn't one of
@@ -17,13 +18,13 @@ pub fn push_warnings(
     warnings: &mut Warnings<'_>,
 ) -> Result<(), AllocError> {
     push_routes(alloc, &config.routes, warnings)?;
-    push_receivers(config, warnings)?;
+    push_receivers(alloc, config, warnings)?;
     push_rules(config, warnings)?;
     push_waits(alloc, &config.routes, written, warnings)
 }
 
 /// Adds a warning for each route that no label set reaches, and for each that has the matchers and the receiver of one before it.
-/// Cost: each route with its siblings, but no more than a million comparisons of matchers.
+/// Cost: each route with its siblings, but no more than a million comparisons; routes with the same matchers are always found.
 fn push_routes(
     alloc: Global,
     routes: &Routes,
@@ -34,7 +35,7 @@ fn push_routes(
     for (index, entry) in entries.iter().enumerate() {
         let name = &entry.child.route.name;
         match never_reached(alloc, entries.as_slice(), index, &mut left)? {
-            Never::Reached => push_shared(entries.as_slice(), index, entry, warnings)?,
+            Never::Reached => push_shared(entry, warnings)?,
             Never::Contradicts => {
                 if warnings.begin(Lint::UnreachableRoute)? {
                     write!(warnings.lines, "no label set reaches route `{name}`: ")?;
@@ -59,44 +60,38 @@ fn push_routes(
     Ok(())
 }
 
-/// How many matchers are compared.
+/// How many routes and matchers are compared.
 const MAX_COMPARED: usize = 1_000_000;
 
-/// Adds a warning on the route at this index, if an earlier sibling has its matchers and its receiver.
-fn push_shared(
-    entries: &[Entry<'_>],
-    index: usize,
-    entry: &Entry<'_>,
-    warnings: &mut Warnings<'_>,
-) -> Result<(), AllocError> {
-    for before in entries.iter().take(index) {
-        let is_same = before.above == entry.above
-            && before.matchers.as_str() == entry.matchers.as_str()
-            && before.child.route.receiver == entry.child.route.receiver;
-        if is_same {
-            if warnings.begin(Lint::SharedLogEntries)? {
-                write!(
-                    warnings.lines,
-                    "routes `{}` and `{}` have the same matchers and receiver, so they share their entries in Alertmanager's notification log",
-                    before.child.route.name, entry.child.route.name
-                )?;
-                warnings.end(Lint::SharedLogEntries)?;
-            }
-            return Ok(());
+/// Adds a warning on a route, if an earlier sibling has its matchers and its receiver.
+fn push_shared(entry: &Entry<'_>, warnings: &mut Warnings<'_>) -> Result<(), AllocError> {
+    if let Some(before) = entry.alike {
+        if warnings.begin(Lint::SharedLogEntries)? {
+            write!(
+                warnings.lines,
+                "routes `{}` and `{}` have the same matchers and receiver, so they share their \
+                 entries in Alertmanager's notification log",
+                before.route.name, entry.child.route.name
+            )?;
+            warnings.end(Lint::SharedLogEntries)?;
         }
     }
     Ok(())
 }
 
 /// Adds a warning for each receiver that no route names.
-fn push_receivers(config: &Config, warnings: &mut Warnings<'_>) -> Result<(), AllocError> {
+fn push_receivers(
+    alloc: Global,
+    config: &Config,
+    warnings: &mut Warnings<'_>,
+) -> Result<(), AllocError> {
+    let mut used = BTreeSet::new(alloc);
+    used.insert(config.routes.root().receiver.as_str())?;
+    for child in config.routes.children() {
+        used.insert(child.route.receiver.as_str())?;
+    }
     for receiver in config.receivers.as_slice() {
-        let is_used = config.routes.root().receiver == receiver.name
-            || config
-                .routes
-                .children()
-                .iter()
-                .any(|child| child.route.receiver == receiver.name);
+        let is_used = used.contains(receiver.name.as_str());
         if !is_used && warnings.begin(Lint::UnusedReceiver)? {
             write!(warnings.lines, "no route has receiver `{}`", receiver.name)?;
             warnings.end(Lint::UnusedReceiver)?;
@@ -118,7 +113,8 @@ fn push_rules(config: &Config, warnings: &mut Warnings<'_>) -> Result<(), AllocE
         if rule.equal().is_empty() && warnings.begin(Lint::InhibitWithoutEqual)? {
             write!(
                 warnings.lines,
-                "inhibition rule {index} has no `equal`: an alert of its source inhibits each of its targets, of whatever cluster or instance"
+                "inhibition rule {index} has no `equal`: an alert of its source inhibits each of its targets, \
+                 of whatever cluster or instance"
             )?;
             warnings.end(Lint::InhibitWithoutEqual)?;
         }
@@ -135,6 +131,29 @@ struct OddWaits<'r> {
     others: usize,
 }
 
+/// The pairs of waits of routes at which repeats come later than they say, or now and then, in the order of their first routes.
+#[derive(Drop)]
+struct OddRoutes<'r> {
+    waits: Vec<OddWaits<'r>>,
+    /// Their indexes, by `group_interval` and `repeat_interval`.
+    indexes: BTreeMap<(u64, u64), usize>,
+}
+
+impl<'r> OddRoutes<'r> {
+    /// Counts a route among those that have its waits.
+    fn add(&mut self, route: &'r Route) -> Result<(), AllocError> {
+        let key = (route.group_interval, route.repeat_interval);
+        let found = self.indexes.get(&key).copied();
+        if let Some(waits) = found.and_then(|index| self.waits.get_mut(index)) {
+            waits.others = waits.others.saturating_add(1);
+            return Ok(());
+        }
+        self.indexes.insert(key, self.waits.len())?;
+        self.waits.push(OddWaits { route, others: 0 })?;
+        Ok(())
+    }
+}
+
 /// Adds a warning for each pair of waits at which repeats come later than a route says, or now and then.
 fn push_waits(
     alloc: Global,
@@ -142,7 +161,10 @@ fn push_waits(
     written: &[&Value],
     warnings: &mut Warnings<'_>,
 ) -> Result<(), AllocError> {
-    let mut odd: Vec<OddWaits<'_>> = Vec::new(alloc);
+    let mut odd = OddRoutes {
+        waits: Vec::new(alloc),
+        indexes: BTreeMap::new(alloc),
+    };
     let mut below = routes.children().iter();
     for (index, value) in written.iter().enumerate() {
         let route = if index == 0 {
@@ -151,28 +173,14 @@ fn push_waits(
             below.next().map(|child| &child.route)
         };
         match route {
-            Some(route) if says_waits(value) && is_odd(route) => add_waits(route, &mut odd)?,
+            Some(route) if says_waits(value) && is_odd(route) => odd.add(route)?,
             _ => {}
         }
     }
-    for waits in &odd {
+    for waits in &odd.waits {
         push_wait(waits, warnings)?;
     }
     Ok(())
-}
-
-/// Counts a route among those that have its waits.
-fn add_waits<'r>(route: &'r Route, odd: &mut Vec<OddWaits<'r>>) -> Result<(), AllocError> {
-    for waits in odd.iter_mut() {
-        if waits.route.repeat_interval == route.repeat_interval
-            && waits.route.group_interval == route.group_interval
-        {
-            waits.others = waits.others.saturating_add(1);
-            return Ok(());
-        }
-    }
-    odd.push(OddWaits { route, others: 0 })
-        .map_err(|_| AllocError)
 }
 
 /// Returns whether a route's repeats come later than it says, or now and then.

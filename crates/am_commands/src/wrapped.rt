@@ -1,9 +1,10 @@
-//! Configurations that are in files of other programs: in a Secret or a ConfigMap of Kubernetes, in the values of a Helm chart, or in
-//! the file of a Mimir tenant. The commands read each configuration with `read_configuration`, which takes it out.
+//! Configurations that are in files of other programs: in a Secret or a ConfigMap of Kubernetes, in the values of a Helm chart, or in the
+//! file of a Mimir tenant. `read_configuration` takes them out.
 use am_command::exit_status::ExitStatus;
 use am_command::explain::FileShape;
 use am_command::request::FaultFormat;
 use am_console::console::{Console, Document, shown};
+use am_console::foreign::chart_config;
 use am_yaml::document::{DocumentFault, read_document};
 use am_yaml::locate::{Part, locate};
 use base64::engine::general_purpose::STANDARD;
@@ -42,10 +43,21 @@ pub fn read_configuration<'p, R: Files + Eprint + AllocGlobal>(
         Some((text, value)) => Ok(Document {
             path,
             text,
-            value,
+            value: without_switch(value),
             shape: FileShape::Fields,
         }),
     }
+}
+
+/// Returns a configuration without `enabled`, by which a chart says whether it makes a file of the rest.
+fn without_switch(value: Value) -> Value {
+    let mut value = value;
+    if let Some(members) = value.as_object_mut() {
+        if members.get("enabled").is_some_and(Value::is_boolean) {
+            let _ = members.remove("enabled");
+        }
+    }
+    value
 }
 
 /// Returns the configuration in a file of another program, if it is one with exactly one.
@@ -65,10 +77,9 @@ fn wrapped_in(file: &Value) -> Option<Wrapped<'_>> {
             is_encoded: false,
         });
     }
-    let value = file.get("alertmanager")?.get("config")?;
-    value.get("route")?;
+    let (list, value) = chart_config(file)?;
     Some(Wrapped {
-        list: "/alertmanager",
+        list,
         name: "config",
         value,
         is_encoded: false,

@@ -1,4 +1,4 @@
-//! The time zones that a configuration names. `config` rejects those that aren't there.
+//! The time zones that a configuration names, and which of them aren't there.
 use am_alerts::text::Text;
 use am_cli::fault::InputFault;
 use am_cli::faults::Faults;

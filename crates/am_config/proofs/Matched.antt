@@ -11,10 +11,9 @@ use Rattle.serde_json.specs.declared.value.Value.{Value}
 use Rattle.am_alerts.specs.declared.matcher.MatcherParts.{MatcherParts}
 use Rattle.am_alerts.specs.declared.matcher.Operator.{Operator}
 use Rattle.am_cli.specs.Decoding.{IsObject}
-use Rattle.am_cli.specs.MatcherText.{IsMatcherText}
 use Rattle.am_cli.specs.declared.faults.Fault.{Fault}
 use Rattle.am_config.specs.Collects.{Adds, Collects}
-use Rattle.am_config.specs.Matchers.{AreInArray, AreInText, AreInTexts, ArePairs, AreWritten, IsPair}
+use Rattle.am_config.specs.Matchers.{AreInArray, AreInText, AreInTexts, ArePairs, AreWritten, IsPair, IsTranslatedText}
 
 pair_more : (op : Operator) (done : List Entry) (ms : List MatcherParts) (e : Entry) (m : MatcherParts)
     → ArePairs op (members_view done) ms → IsPair op (string_bytes e.0) (view e.1) m → ArePairs op (members_view (done ++ e ∷ [])) (ms ++ m ∷ [])
@@ -24,7 +23,7 @@ pair_more op (d ∷ ds) [] e m so_far more = absurd so_far
 pair_more op (d ∷ ds) (n ∷ ns) e m so_far more = (so_far.0, pair_more op ds ns e m so_far.1 more)
 
 written_more : (texts : List (List ℕ)) (ms : List MatcherParts) (text : List ℕ) (m : MatcherParts)
-    → AreWritten texts ms → IsMatcherText text m → AreWritten (texts ++ text ∷ []) (ms ++ m ∷ [])
+    → AreWritten texts ms → IsTranslatedText text m → AreWritten (texts ++ text ∷ []) (ms ++ m ∷ [])
 written_more [] [] text m so_far more = (more, tt)
 written_more [] (n ∷ ns) text m so_far more = absurd so_far
 written_more (t ∷ ts) [] text m so_far more = absurd so_far
@@ -58,7 +57,7 @@ adds_pair op done e m before mid after so_far more pushed =
 -- one more text
 pub adds_written : (texts : List (String Global)) (i : ℕ) (text : String Global) (m : MatcherParts) (before mid after : List MatcherParts)
     → i < length texts → text ≡ get_or texts i text
-    → Adds before mid (AreWritten (map string_bytes (take i texts))) → IsMatcherText (string_bytes text) m → after ≡ mid ++ m ∷ []
+    → Adds before mid (AreWritten (map string_bytes (take i texts))) → IsTranslatedText (string_bytes text) m → after ≡ mid ++ m ∷ []
     → Adds before after (AreWritten (map string_bytes (take (i + 1) texts)))
 adds_written texts i text m before mid after here is so_far more pushed =
     let taken : take (i + 1) texts ≡ take i texts ++ text ∷ [] =

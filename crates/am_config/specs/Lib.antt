@@ -14,3 +14,5 @@ pub mod Rules
 pub mod Routes
 -- the tree of routes that was read
 pub mod Trees
+-- spans of time, later
+pub mod Later

@@ -8,6 +8,7 @@ use Rattle.am_alerts.specs.declared.matcher.Operator.{Operator}
 use Rattle.am_alerts.specs.declared.matcher.Operator.TheVariants.{Equal, Like}
 use Rattle.am_cli.specs.Decoding.{IsObject}
 use Rattle.am_cli.specs.MatcherText.{IsMatcherText}
+use Rattle.am_cli.specs.Translated.{IsTranslatedFrom}
 use Rattle.am_config.specs.Said.{SaysOr, text_in}
 use Rattle.am_config.specs.declared.matchers.MatcherMembers.{MatcherMembers}
 use Rattle.am_config.specs.declared.matchers.Quoting.{Quoting}
@@ -84,12 +85,16 @@ unquoted = record { is_open = false; is_escaped = false }
 abbrev pub matchers_in : List ℕ → List (List ℕ)
 matchers_in text = trimmed (pieces unquoted (unbraced text))
 
+-- a text of a matcher, whose pattern is Go's
+abbrev pub IsTranslatedText : List ℕ → MatcherParts → Type 0
+IsTranslatedText text m = IsTranslatedFrom (IsMatcherText text) m
+
 -- each text is the matcher's of these parts
 abbrev pub AreWritten : List (List ℕ) → List MatcherParts → Type 0
 AreWritten [] [] = Unit {0}
 AreWritten [] (m ∷ ms) = ⊥
 AreWritten (text ∷ texts) [] = ⊥
-AreWritten (text ∷ texts) (m ∷ ms) = IsMatcherText text m × AreWritten texts ms
+AreWritten (text ∷ texts) (m ∷ ms) = IsTranslatedText text m × AreWritten texts ms
 
 -- a text of an array, and its matchers
 abbrev pub AreInText : Data → List MatcherParts → Type 0
@@ -115,9 +120,13 @@ matched_text_in (string text) = Some text
 matched_text_in (array _) = None
 matched_text_in (object _) = None
 
--- a member is a matcher: its name, this operator and the text of its value
+-- the parts of a member: its name, this operator and the text of its value
+abbrev pub IsWrittenPair : Operator → List ℕ → Data → MatcherParts → Type 0
+IsWrittenPair op name value m = (m.name ≡ name) × (m.op ≡ op) × (matched_text_in value ≡ Some m.value)
+
+-- a member is a matcher, whose pattern is Go's
 abbrev pub IsPair : Operator → List ℕ → Data → MatcherParts → Type 0
-IsPair op name value m = (m.name ≡ name) × (m.op ≡ op) × (matched_text_in value ≡ Some m.value)
+IsPair op name value m = IsTranslatedFrom (IsWrittenPair op name value) m
 
 -- the members are these matchers, one by one
 abbrev pub ArePairs : Operator → Members → List MatcherParts → Type 0

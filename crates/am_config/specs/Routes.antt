@@ -1,5 +1,6 @@
 -- The tree of routes of an `alertmanager.yml`. Not stated: the names of routes, and when they are muted.
-use Rattle.std.specs.Prelude.{◌≡◌, ◌≢◌, ◌&&◌, ◌⊎◌, ℕ, Bool, true, false, List, [], ◌∷◌, Option, Some, None, IsSomeAnd, IsTrue, MatchBool, MatchOption, codes}
+use Rattle.std.specs.Prelude.{◌≡◌, ◌≢◌, ◌&&◌, ◌⊎◌, ℕ, Bool, true, false, List, [], ◌∷◌, Option, Some, None, IsSomeAnd, IsTrue, MatchBool}
+use Rattle.std.specs.Prelude.{MatchOption, codes}
 use Rattle.std.specs.Option.{option_map_or}
 use Rattle.std.specs.Str.{bytes_eq}
 use Rattle.serde_json.specs.Data.{Data, Items, no_items, item, Members}
@@ -24,7 +25,8 @@ use Rattle.am_config.specs.Said.{IsTextUnlessEmpty, Says, SaysOr, said}
 abbrev pub route_fields : List (List ℕ)
 route_fields =
     codes "receiver" ∷ codes "group_by" ∷ codes "group_wait" ∷ codes "group_interval" ∷ codes "repeat_interval" ∷ codes "matchers"
-    ∷ codes "match" ∷ codes "match_re" ∷ codes "continue" ∷ codes "mute_time_intervals" ∷ codes "active_time_intervals" ∷ codes "routes" ∷ []
+    ∷ codes "match" ∷ codes "match_re" ∷ codes "continue" ∷ codes "mute_time_intervals" ∷ codes "active_time_intervals"
+    ∷ codes "routes" ∷ []
 
 -- the fields with a route's matchers
 abbrev pub route_matchers : MatcherFields
@@ -109,7 +111,8 @@ default_route = record {
   repeat_interval = 14400000;
 }
 
--- the fields of the root decode to a tree: it names a receiver, has no matchers and no `continue`, and the routes below it inherit its options
+-- the fields of the root decode to a tree: it names a receiver, has no matchers and no `continue`, and the routes below it inherit its
+-- options
 pub record HasTree (members : Members) (tree : RoutingTree) : Type 0 where
   pub known : IsTrue (are_named route_fields members)
   pub options : Options

@@ -1,4 +1,4 @@
-//! Reads a whole `alertmanager.yml`, as JSON. `am_rehearse` calls `read_alertmanager`.
+//! Reads a whole `alertmanager.yml`, as JSON.
 ghost use Rattle.std.specs.Prelude.{◌≡◌, [], IfErr, IfOk, IfSome, None};
 ghost use Rattle.serde_json.specs.View.{view};
 ghost use Rattle.am_cli.specs.Faults.{HasFaults};

@@ -1,5 +1,4 @@
-//! Faults that are collected: what is read without one is what the value says. The readers of an
-//! `alertmanager.yml` call it.
+//! Faults that are collected: what is read without one is what the value says.
 ghost use Rattle.std.specs.Prelude.{◌≡◌, IfOk, IsSome, IsTrue, OnOk, map};
 ghost use Rattle.std.specs.Result.{result_ok};
 ghost use Rattle.serde_json.specs.View.{members_view};

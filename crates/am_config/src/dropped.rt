@@ -1,5 +1,4 @@
-//! The settings of an `alertmanager.yml` that are ignored. `alertmanager` collects them,
-//! `am_rehearse` prints them.
+//! The settings of an `alertmanager.yml` that are ignored.
 use std::fmt;
 
 /// What Alertmanager's configuration says besides what is read. Nothing of it changes which notice

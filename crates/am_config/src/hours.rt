@@ -1,9 +1,10 @@
-//! The clocks of a configuration's time intervals. `am_rehearse` hands them in, `times` calls them.
-ghost use Rattle.std.specs.Prelude.{◌≤◌, IfOk, vec_len};
+//! The clocks of a configuration's time intervals.
+ghost use Rattle.std.specs.Prelude.{◌≡◌, ◌≤◌, IfOk, map, vec_len};
+ghost use Rattle.am_config.specs.Later.{span_later};
 ghost use Rattle.am_config.specs.declared.hours.TheConstants.{MAX_ZONES};
 
 use crate::times::{INTERVALS, LISTS, LOCAL, LOCATION};
-use am_alerts::spans::Spans;
+use am_alerts::spans::{Span, Spans};
 use am_alerts::text::Text;
 use am_cli::fault::{FaultKind, InputFault};
 use am_cli::faults::Faults;
@@ -28,21 +29,25 @@ pub struct NamedZone {
     pub zone: Zone,
 }
 
-/// The clocks of a configuration's time intervals: from when on, how far, and the zones that are
-/// known by name. UTC and the empty name need no zone.
+/// The clocks of a configuration's time intervals, and the zones that are known by name. UTC and the empty name need no zone.
 #[derive(Drop)]
 pub struct Hours {
-    start: Timestamp,
-    horizon: u64,
-    zones: Vec<NamedZone>,
+    /// When the clocks begin.
+    pub start: Timestamp,
+    /// Which time that is, in milliseconds, as the times in which routes are muted count.
+    pub from: u64,
+    /// How long the clocks go on, in milliseconds.
+    pub horizon: u64,
+    /// The zones that are known by name. Of two of one name the first counts.
+    pub zones: Vec<NamedZone>,
 }
 
 impl Hours {
-    /// The clocks of these zones, from a start on to a horizon, in milliseconds from it. Of two zones of
-    /// one name the first counts.
+    /// Returns the clocks of these zones, from a start on to a horizon, in milliseconds from it.
     pub fn new(start: Timestamp, horizon: u64, zones: Vec<NamedZone>) -> Hours {
         Hours {
             start,
+            from: 0,
             horizon,
             zones,
         }
@@ -99,9 +104,17 @@ impl<'h> Clocks<'h> {
         }
     }
 
-    /// The time at which they end.
+    /// How long they go on.
     pub(crate) fn horizon(&self) -> u64 {
         self.hours.horizon
+    }
+
+    /// Spans that count from where the clocks begin, as times count.
+    pub(crate) fn in_time(&self, alloc: Global, spans: Spans) -> Result<Spans, HoursFault> {
+        if self.hours.from == 0 || spans.as_slice().is_empty() {
+            return Ok(spans);
+        }
+        later(alloc, spans.as_slice(), self.hours.from)
     }
 
     /// The index of a zone's clock, behind all others if it is new. None where the zone isn't known, or
@@ -146,6 +159,27 @@ impl<'h> Clocks<'h> {
             }
         }
         expand_all(alloc, timed.as_slice())
+    }
+}
+
+/// These spans, so many milliseconds later.
+fn later(alloc: Global, spans: &[Span], by: u64) -> Result<Spans, HoursFault>
+    ensures { IfOk result (λ moved. moved ≡ map (span_later by) spans.now) }
+{
+    let mut moved = Vec::with_capacity(alloc, spans.len()).map_err(|_| HoursFault::NoMemory)?;
+    for span in spans {
+        moved.push(span_later(*span, by)?)?;
+    }
+    Ok(Spans::new(alloc, moved)?)
+}
+
+/// A span, so many milliseconds later.
+fn span_later(span: Span, by: u64) -> Result<Span, HoursFault>
+    ensures { IfOk result (λ moved. moved ≡ span_later by span) }
+{
+    match (span.from.checked_add(by), span.to.checked_add(by)) {
+        (Some(from), Some(to)) => Ok(Span { from, to }),
+        _ => Err(HoursFault::TooLong),
     }
 }
 

@@ -1,4 +1,4 @@
-//! Inhibition rules of an `alertmanager.yml`. `alertmanager` calls it.
+//! Inhibition rules of an `alertmanager.yml`.
 ghost use Rattle.std.specs.Prelude.{[], IfOk, IsSomeAnd, codes};
 ghost use Rattle.serde_json.specs.View.{members_view, view};
 ghost use Rattle.am_cli.specs.Decoding.{IsList, IsObject};

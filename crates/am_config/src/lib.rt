@@ -1,5 +1,5 @@
 //! Alertmanager's own configuration, as JSON: read as a dispatcher's configuration, or all its
-//! faults with their pointers. `am_rehearse` calls it.
+//! faults with their pointers.
 //!
 //! It follows release 0.25, with the receivers of later ones. The order of reading is fixed, since
 //! the fields of an object come by name and not as the text has them.

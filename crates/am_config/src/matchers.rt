@@ -1,11 +1,11 @@
-//! Matchers of an `alertmanager.yml`. `route` and `inhibit` call it.
+//! Matchers of an `alertmanager.yml`.
 ghost use Rattle.std.specs.Prelude.{◌≡◌, ◌++◌, ℕ, [], List, IfOk, IsTrue, OnOk, map, string_bytes};
 ghost use Rattle.serde_json.specs.View.{members_view, view};
 ghost use Rattle.am_alerts.specs.declared.matcher.Operator.{Operator};
 ghost use Rattle.am_cli.specs.Decoding.{IsObject};
-ghost use Rattle.am_cli.specs.MatcherText.{IsMatcherText};
+ghost use Rattle.am_cli.specs.Translated.{IsTranslated};
 ghost use Rattle.am_config.specs.Collects.{Adds, Collects};
-ghost use Rattle.am_config.specs.Matchers.{AreInArray, AreInText, AreMatchers, ArePairs, IsPair, at_comma, fields_of};
+ghost use Rattle.am_config.specs.Matchers.{AreInArray, AreInText, AreMatchers, ArePairs, IsPair, IsTranslatedText, at_comma, fields_of};
 ghost use Rattle.am_config.specs.Matchers.{matchers_in, unbraced, unless_empty, with_front, without_first};
 ghost use Rattle.std.specs.Str.{trim};
 ghost use Rattle.am_config.specs.Said.{SaysOr};
@@ -20,6 +20,7 @@ use am_cli::fault::{FaultKind, InputFault};
 use am_cli::faults::Faults;
 use am_cli::matcher_text::parts_of_text;
 use am_cli::reader::{Object, Reader};
+use am_cli::translated::translated_matcher;
 use serde_json::Value;
 use std::alloc::{AllocError, Global};
 
@@ -169,7 +170,7 @@ fn matcher_of_pair(
 }
 
 fn matcher_of_text(reader: &Reader<'_, '_>, written: &str) -> Result<Matcher, InputFault>
-    ensures { IfOk result (IsMatcherText written.now) }
+    ensures { IfOk result (IsTranslatedText written.now) }
 {
     match parts_of_text(reader.alloc(), written)? {
         None => Err(reader.refuse(FaultKind::BadValue)),
@@ -177,10 +178,11 @@ fn matcher_of_text(reader: &Reader<'_, '_>, written: &str) -> Result<Matcher, In
     }
 }
 
+/// The matcher of these parts, whose pattern is Go's.
 fn matcher_of(reader: &Reader<'_, '_>, parts: MatcherParts) -> Result<Matcher, InputFault>
-    ensures { IfOk result (λ matcher. matcher ≡ parts) }
+    ensures { IfOk result (IsTranslated parts) }
 {
-    match Matcher::new(reader.alloc(), parts) {
+    match translated_matcher(reader.alloc(), parts) {
         Ok(matcher) => Ok(matcher),
         Err(MatcherFault::NoMemory) => Err(InputFault::NoMemory),
         Err(_) => Err(reader.refuse(FaultKind::BadValue)),

@@ -1,5 +1,5 @@
-//! The names of routes, which Alertmanager doesn't name. `route` gives each one its receiver's
-//! name, with its path where several routes have the receiver.
+//! The names of routes, which Alertmanager doesn't name. Each has its receiver's name, with its
+//! path where several routes have the receiver.
 use crate::scalar::known_text;
 use crate::written::WrittenRoutes;
 use am_alerts::text::Text;
@@ -7,11 +7,12 @@ use am_cli::fault::InputFault;
 use am_cli::reader::Object;
 use serde_json::Value;
 use std::alloc::{AllocError, Global};
+use std::collections::{BTreeMap, BTreeSet};
 
 /// The names that routes have been given.
 #[derive(Drop)]
 pub(crate) struct RouteNames {
-    given: Vec<Text>,
+    given: BTreeSet<String>,
     shared: SharedNames,
 }
 
@@ -19,8 +20,8 @@ impl RouteNames {
     /// The name of the root alone, and which receivers' names the routes of a file share.
     pub(crate) fn of_file(top: &Object<'_, '_>) -> Result<RouteNames, InputFault> {
         let alloc = top.alloc();
-        let mut given = Vec::new(alloc);
-        given.push(Text::new(alloc, "root")?)?;
+        let mut given = BTreeSet::new(alloc);
+        given.insert(String::from_str(alloc, "root")?)?;
         let mut shared = SharedNames::of_root(alloc)?;
         if let Some(root) = top.members().get("route") {
             shared.add_routes(alloc, root)?;
@@ -41,56 +42,42 @@ impl RouteNames {
         if self.shared.has(name.as_str()) {
             push_path(&mut name, path)?;
         }
-        let name = self.free(alloc, Text::from(name))?;
-        self.given.push(name.copy(alloc)?)?;
-        Ok(name)
+        let name = self.free(alloc, name)?;
+        self.given.insert(String::from_str(alloc, name.as_str())?)?;
+        Ok(Text::from(name))
     }
 
-    fn free(&self, alloc: Global, wanted: Text) -> Result<Text, AllocError> {
-        if !self.is_given(wanted.as_str()) {
+    fn free(&self, alloc: Global, wanted: String) -> Result<String, AllocError> {
+        if !self.given.contains(wanted.as_str()) {
             return Ok(wanted);
         }
         for number in 2..=self.given.len().saturating_add(2) {
-            let name = numbered(alloc, &wanted, number)?;
-            if !self.is_given(name.as_str()) {
+            let name = numbered(alloc, wanted.as_str(), number)?;
+            if !self.given.contains(name.as_str()) {
                 return Ok(name);
             }
         }
         Ok(wanted)
     }
-
-    fn is_given(&self, name: &str) -> bool {
-        self.given.iter().any(|given| given.as_str() == name)
-    }
-}
-
-/// How many routes have a name.
-#[derive(Drop)]
-struct NameCount {
-    name: Text,
-    count: usize,
 }
 
 /// The names of the receivers of a file's routes as label names, and how many routes have each.
 #[derive(Drop)]
 struct SharedNames {
-    counts: Vec<NameCount>,
+    counts: BTreeMap<String, usize>,
 }
 
 impl SharedNames {
     /// The root's name alone.
     fn of_root(alloc: Global) -> Result<SharedNames, AllocError> {
-        let mut counts = Vec::new(alloc);
-        let name = Text::new(alloc, "root")?;
-        counts.push(NameCount { name, count: 1 })?;
+        let mut counts = BTreeMap::new(alloc);
+        counts.insert(String::from_str(alloc, "root")?, 1)?;
         Ok(SharedNames { counts })
     }
 
     /// Whether several routes have a name.
     fn has(&self, name: &str) -> bool {
-        self.counts
-            .iter()
-            .any(|known| known.count > 1 && known.name.as_str() == name)
+        self.counts.get(name).is_some_and(|count| *count > 1)
     }
 
     /// Counts the routes below this root. One that names no receiver has that of the route above it.
@@ -109,14 +96,9 @@ impl SharedNames {
 
     /// Counts a route with this receiver.
     fn add(&mut self, alloc: Global, receiver: &str) -> Result<(), AllocError> {
-        let name = Text::from(label_name_of(alloc, receiver)?);
-        for known in self.counts.iter_mut() {
-            if known.name == name {
-                known.count = known.count.saturating_add(1);
-                return Ok(());
-            }
-        }
-        self.counts.push(NameCount { name, count: 1 })?;
+        let name = label_name_of(alloc, receiver)?;
+        let before = self.counts.get(name.as_str()).copied().unwrap_or(0);
+        self.counts.insert(name, before.saturating_add(1))?;
         Ok(())
     }
 }
@@ -143,9 +125,8 @@ fn push_path(name: &mut String, path: &[usize]) -> Result<(), AllocError> {
 }
 
 /// A name with a number behind it.
-fn numbered(alloc: Global, base: &Text, number: usize) -> Result<Text, AllocError> {
-    let base = base.as_str();
-    Ok(Text::from(format!(in alloc; "{base}_{number}")?))
+fn numbered(alloc: Global, base: &str, number: usize) -> Result<String, AllocError> {
+    Ok(format!(in alloc; "{base}_{number}")?)
 }
 
 /// A text in the form of a label name: with `_` for each byte that none has, and in front of a digit

@@ -1,4 +1,4 @@
-//! Fields that can be absent or null. The other modules read theirs by it.
+//! Fields that can be absent or null.
 ghost use Rattle.std.specs.Prelude.{◌≡◌, ◌↔◌, [], Some, None, IfOk, IfSome, IsSome, IsTrue, OnOk, option_map};
 ghost use Rattle.std.specs.Result.{result_ok};
 ghost use Rattle.serde_json.specs.Find.{as_array, get_member};

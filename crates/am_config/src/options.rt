@@ -1,4 +1,4 @@
-//! The options of a route that the routes below it inherit. `route` calls it.
+//! The options of a route that the routes below it inherit.
 ghost use Rattle.std.specs.Prelude.{◌≡◌, IfOk, None, OnOk, codes, false};
 ghost use Rattle.std.specs.List.{list_all, list_any};
 ghost use Rattle.std.specs.Str.{bytes_eq};

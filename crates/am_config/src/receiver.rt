@@ -1,4 +1,4 @@
-//! Receivers and their integrations. `alertmanager` calls it.
+//! Receivers and their integrations.
 ghost use Rattle.std.specs.Prelude.{◌≡◌, ◌≢◌, [], IfOk, IsSomeAnd, OnOk, codes, map};
 ghost use Rattle.serde_json.specs.View.{members_view, view};
 ghost use Rattle.am_cli.specs.Decoding.{HasOr, IsObject};
@@ -20,6 +20,7 @@ use am_model::config::{Integration, MAX_INTEGRATIONS, MAX_RECEIVERS, Receiver};
 use am_settings::kinds::{KINDS, Kind};
 use am_settings::settings::Part;
 use serde_json::{Map, Value};
+use std::collections::BTreeSet;
 
 /// The members of a receiver.
 const MEMBERS: [&str; 19] = [
@@ -53,8 +54,8 @@ struct Context<'v> {
 }
 
 /// The names of all receivers, if they can be given.
-pub(crate) fn receiver_names(top: &Object<'_, '_>) -> Result<Option<Vec<Text>>, InputFault> {
-    let mut names = Vec::new(top.alloc());
+pub(crate) fn receiver_names(top: &Object<'_, '_>) -> Result<Option<BTreeSet<String>>, InputFault> {
+    let mut names = BTreeSet::new(top.alloc());
     let mut unread = Faults::none(top.alloc());
     let Some(member) = non_null(top, "receivers") else {
         return Ok(Some(names));
@@ -65,7 +66,9 @@ pub(crate) fn receiver_names(top: &Object<'_, '_>) -> Result<Option<Vec<Text>>, 
     for (index, value) in items.iter().enumerate() {
         match name_in(&mut unread, &member.item(index, value))? {
             None => return Ok(None),
-            Some(name) => names.push(name)?,
+            Some(name) => {
+                names.insert(String::from_str(top.alloc(), name.as_str())?)?;
+            }
         }
     }
     Ok(Some(names))
@@ -90,6 +93,7 @@ pub(crate) fn read_receivers(
         (HasReceivers (members_view top.now.members) receivers.items)) }
 {
     let mut receivers = Vec::new(top.alloc());
+    let mut names = BTreeSet::new(top.alloc());
     let Some(member) = non_null(top, "receivers") else {
         return Ok(receivers);
     };
@@ -102,20 +106,20 @@ pub(crate) fn read_receivers(
     };
     for (index, value) in items.iter().enumerate() {
         let item = member.item(index, value);
-        let before = receivers.as_slice();
-        let Some(receiver) = read_receiver(faults, dropped, before, &item, context)? else {
+        let Some(receiver) = read_receiver(faults, dropped, &names, &item, context)? else {
             continue;
         };
+        names.insert(String::from_str(top.alloc(), receiver.name.as_str())?)?;
         receivers.push(receiver)?;
     }
     Ok(receivers)
 }
 
-/// Reads a receiver that comes behind these.
+/// Reads a receiver that comes behind those of these names.
 fn read_receiver(
     faults: &mut Faults,
     dropped: &mut IgnoredSettings,
-    before: &[Receiver],
+    before: &BTreeSet<String>,
     reader: &Reader<'_, '_>,
     context: Context<'_>,
 ) -> Result<Option<Receiver>, InputFault>
@@ -148,14 +152,14 @@ fn refuse_many(faults: &mut Faults, reader: &Reader<'_, '_>, count: usize) -> Re
     faults.push(reader.refuse(FaultKind::BadValue))
 }
 
-/// Reads the name of a receiver; one that is before it, or none, is refused.
-fn read_name(before: &[Receiver], receiver: &Object<'_, '_>) -> Result<Text, InputFault>
+/// Reads the name of a receiver; one of these, or none, is refused.
+fn read_name(before: &BTreeSet<String>, receiver: &Object<'_, '_>) -> Result<Text, InputFault>
     ensures name { IfOk result (Says IsScalar (codes "name") (members_view receiver.now.members)) }
     ensures named { IfOk result (λ name. name ≢ []) }
 {
     let member = required(receiver, "name")?;
     let name = required_text(receiver, "name")?;
-    if name.as_str().is_empty() || before.iter().any(|receiver| receiver.name == name) {
+    if name.as_str().is_empty() || before.contains(name.as_str()) {
         return Err(member.refuse(FaultKind::BadValue));
     }
     Ok(name)

@@ -1,6 +1,6 @@
-//! The tree of routes. `alertmanager` calls it.
+//! The tree of routes.
 //!
-//! The first route that the tree has no capacity for is rejected: there are 1,023 already, or it
+//! The first route that the tree has no capacity for is rejected: there are 16,383 already, or it
 //! is more than 64 levels below the root. Routes that it has no capacity for aren't read. An
 //! empty `group_by` below the root is none, as in Alertmanager.
 ghost use Rattle.std.specs.Prelude.{◌≡◌, ◌≢◌, ◌<◌, [], IfOk, IsSomeAnd, IsTrue, None, OnOk, codes, false, length, unwrap_or};
@@ -30,6 +30,7 @@ use am_cli::fault::{FaultKind, InputFault};
 use am_cli::faults::Faults;
 use am_cli::reader::{Object, Reader};
 use std::alloc::{AllocError, Global};
+use std::collections::BTreeSet;
 
 /// The members of a route, the root among them.
 const MEMBERS: [&str; 12] = [
@@ -65,7 +66,7 @@ pub(crate) struct Tree {
 #[derive(Drop)]
 pub(crate) struct Routing<'h> {
     /// The names of the receivers, if they can be given.
-    receivers: Option<Vec<Text>>,
+    receivers: Option<BTreeSet<String>>,
     pub(crate) times: Times<'h>,
     names: RouteNames,
     /// The indexes of the route that is read and of those above it, each in its list; the lowest one behind.
@@ -92,7 +93,7 @@ impl<'h> Routing<'h> {
     pub(crate) fn has_receiver(&self, name: &str) -> bool {
         match &self.receivers {
             None => true,
-            Some(names) => names.iter().any(|known| known.as_str() == name),
+            Some(names) => names.contains(name),
         }
     }
 

@@ -1,4 +1,4 @@
-//! Scalars that Alertmanager reads into a text. The modules that read texts of its own types call it.
+//! Scalars that Alertmanager reads into a text.
 //!
 //! Its reader of YAML keeps such a scalar as the file has it, so `7` is the text `7`. An integer
 //! of JSON is written in plain decimal digits, and the reader of YAML here gives an integer only for

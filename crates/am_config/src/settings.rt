@@ -1,5 +1,4 @@
 //! Faults for what Alertmanager rejects in the settings of `global` and of integrations.
-//! `alertmanager` and `receiver` call it.
 ghost use Rattle.std.specs.Prelude.{OnOk};
 ghost use Rattle.am_config.specs.Collects.{Grows};
 

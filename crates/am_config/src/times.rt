@@ -1,5 +1,4 @@
-//! Time intervals of an `alertmanager.yml`, and the names of them that routes list. `alertmanager`
-//! and `route` call it.
+//! Time intervals of an `alertmanager.yml`, and the names of them that routes list.
 //!
 //! The old list `mute_time_intervals` is read first. The names of both are one set. Where there are
 //! clocks each name's spans are found once, and routes that list the same names share theirs.
@@ -22,7 +21,8 @@ use am_hours::reading::{
     RangeFault, read_days, read_months, read_times, read_weekdays, read_years,
 };
 use serde_json::Value;
-use std::alloc::Global;
+use std::alloc::{AllocError, Global};
+use std::collections::HashMap;
 
 /// The members at the top that define names, and a route's list of names that mute it.
 pub(crate) const LISTS: [&str; 2] = [MUTE, INTERVALS];
@@ -59,7 +59,7 @@ const INTERVAL: [&str; 6] = [
 const RANGE: [&str; 2] = ["start_time", "end_time"];
 
 /// How many names there can be, and how many a route may list.
-const MAX_DEFINITIONS: usize = 64;
+const MAX_DEFINITIONS: usize = 1_024;
 
 /// How many intervals a name may have.
 const MAX_INTERVALS: usize = 32;
@@ -67,21 +67,12 @@ const MAX_INTERVALS: usize = 32;
 /// How many ranges a list of an interval may have.
 const MAX_RANGES: usize = 32;
 
-/// A name, with the spans in which one of its intervals holds.
+/// The spans in which one of a name's intervals holds.
 #[derive(Drop)]
 struct Definition {
-    name: Text,
     spans: Spans,
     /// Whether a route lists it.
     is_listed: bool,
-}
-
-/// The spans of routes that list these names, each by the index of its definition.
-#[derive(Drop)]
-struct Given {
-    mute: Vec<usize>,
-    active: Vec<usize>,
-    muted: Spans,
 }
 
 /// The time intervals of a configuration.
@@ -90,9 +81,12 @@ pub(crate) struct Times<'h> {
     /// None where nobody asks for spans.
     clocks: Option<Clocks<'h>>,
     definitions: Vec<Definition>,
+    /// The index of each definition, by its name.
+    indexes: HashMap<String, usize>,
     /// Whether each definition's name could be read.
     are_listed: bool,
-    given: Vec<Given>,
+    /// The spans of routes, by the names that they list (`lists_key`).
+    given: HashMap<Vec<usize>, Spans>,
 }
 
 impl<'h> Times<'h> {
@@ -105,8 +99,9 @@ impl<'h> Times<'h> {
         let mut times = Times {
             clocks: hours.map(|hours| Clocks::new(top.alloc(), hours)),
             definitions: Vec::new(top.alloc()),
+            indexes: HashMap::new(top.alloc()),
             are_listed: true,
-            given: Vec::new(top.alloc()),
+            given: HashMap::new(top.alloc()),
         };
         for name in LISTS {
             if let Some(member) = non_null(top, name) {
@@ -159,8 +154,9 @@ impl<'h> Times<'h> {
         let name = self.read_name(faults, &definition)?;
         let spans = self.read_intervals(faults, &definition)?;
         if let Some(name) = name {
+            let key = String::from_str(definition.alloc(), name.as_str())?;
+            self.indexes.insert(key, self.definitions.len())?;
             self.definitions.push(Definition {
-                name,
                 spans,
                 is_listed: false,
             })?;
@@ -186,9 +182,7 @@ impl<'h> Times<'h> {
     }
 
     fn index_of(&self, name: &str) -> Option<usize> {
-        self.definitions
-            .iter()
-            .position(|definition| definition.name.as_str() == name)
+        self.indexes.get(name).copied()
     }
 
     /// Reads the intervals of a definition, and finds the spans in which one of them holds. Too many spans
@@ -362,19 +356,15 @@ impl<'h> Times<'h> {
         mute: Vec<usize>,
         active: Vec<usize>,
     ) -> Result<Spans, HoursFault> {
-        for given in &self.given {
-            if given.mute == mute && given.active == active {
-                return Ok(given.muted.share()?);
-            }
+        let key = lists_key(alloc, &mute, &active)?;
+        if let Some(muted) = self.given.get(&key) {
+            return Ok(muted.share()?);
         }
         let muted = self.found_muted(alloc, &mute, &active)?;
         let shared = muted.share()?;
-        let given = Given {
-            mute,
-            active,
-            muted,
-        };
-        self.given.push(given).map_err(|_| HoursFault::NoMemory)?;
+        self.given
+            .insert(key, muted)
+            .map_err(|_| HoursFault::NoMemory)?;
         Ok(shared)
     }
 
@@ -389,7 +379,8 @@ impl<'h> Times<'h> {
             Some(clocks) => {
                 let muting = self.spans_of(alloc, mute)?;
                 let acting = self.spans_of(alloc, active)?;
-                muted(alloc, clocks.horizon(), &muting, &acting)
+                let spans = muted(alloc, clocks.horizon(), &muting, &acting)?;
+                clocks.in_time(alloc, spans)
             }
         }
     }
@@ -406,6 +397,15 @@ impl<'h> Times<'h> {
         }
         Ok(spans)
     }
+}
+
+/// The key of a route's lists of names, each by the index of its definition: with a number between
+/// them that no definition has.
+fn lists_key(alloc: Global, mute: &[usize], active: &[usize]) -> Result<Vec<usize>, AllocError> {
+    let mut key = Vec::from_slice(alloc, mute)?;
+    key.push(usize::MAX)?;
+    key.extend_from_slice(active)?;
+    Ok(key)
 }
 
 /// These spans; where there are too many this value is refused.

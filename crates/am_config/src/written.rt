@@ -1,6 +1,5 @@
-//! The routes below the root of a file, as it has them, before they are read: the one walk over them
-//! that rejects nothing. `names` counts their receivers by it, and the command `routes` shows their
-//! time intervals. `route` walks over them too, since it rejects what is wrong in one.
+//! The routes below the root of a file, as it has them, before they are read: the one walk over
+//! them that rejects nothing.
 use am_alerts::limits::{MAX_DEPTH, MAX_ROUTES};
 use serde_json::Value;
 use std::alloc::{AllocError, Global};
@@ -8,7 +7,7 @@ use std::alloc::{AllocError, Global};
 /// The routes below a root, in the order of their positions, which begin at 1: each route comes before
 /// those below it, and these before the next one on its level.
 ///
-/// They are the first 1,023 that are no more than 64 levels below the root: further ones aren't read.
+/// They are the first 16,383 that are no more than 64 levels below the root: further ones aren't read.
 #[derive(Drop)]
 pub struct WrittenRoutes<'v> {
     routes: Vec<&'v Value>,

@@ -1,6 +1,7 @@
 //! The limits that complaints name.
 use am_alerts::limits::{
-    MAX_CHILDREN, MAX_DEPTH, MAX_LABEL_BYTES, MAX_LABEL_NAMES, MAX_MATCHERS, MAX_ROUTES,
+    MAX_CHILDREN, MAX_DEPTH, MAX_LABEL_NAMES, MAX_MATCHERS, MAX_NAME_BYTES, MAX_ROUTES,
+    MAX_VALUE_BYTES,
 };
 use am_cli::fault::FaultKind;
 use am_command::explain::{Bounds, Wrong};
@@ -21,7 +22,8 @@ pub fn bounds() -> Bounds {
         rules: MAX_RULES,
         matchers: MAX_MATCHERS,
         names: MAX_LABEL_NAMES,
-        label_bytes: MAX_LABEL_BYTES,
+        name_bytes: MAX_NAME_BYTES,
+        value_bytes: MAX_VALUE_BYTES,
         days: (MAX_UNTIL / DAY) as usize,
     }
 }

@@ -1,5 +1,4 @@
 //! What is wrong with a route, a receiver or an alert, in words, where the pointer alone doesn't say which of several causes it is.
-//! `console` calls it.
 use am_cli::fault::FaultKind;
 use serde_json::Value;
 use std::alloc::{AllocError, Global};

@@ -133,6 +133,9 @@ impl Console {
             Ok(Some(words)) => return self.complain_in_words(rt, document, "", words.as_str()),
             Err(_) => return self.complain_of_memory(rt),
         }
+        if is_configuration(&document.value, faults.as_slice()) {
+            return self.complain_in_words(rt, document, "", NO_STORY);
+        }
         let said = match in_order(rt.alloc(), document, faults.as_slice()) {
             Ok(ordered) => self.complain_of_each(rt, document, ordered.as_slice()),
             Err(refused) => Err(refused),
@@ -282,6 +285,18 @@ impl Console {
         let _ = eprintln!(rt; "{line}");
         Ok(())
     }
+}
+
+/// What is said of a configuration where a story is wanted.
+const NO_STORY: &str =
+    "this is a configuration, not a story; give it with --config, and a story of its alerts";
+
+/// Returns whether a file with these faults is a configuration where a story is wanted: it has routes and receivers, which no
+/// story has.
+fn is_configuration(file: &Value, faults: &[Fault]) -> bool {
+    let is_story_wanted = faults.iter().any(|fault| fault.pointer.as_str() == "/route"
+        && fault.fault_kind == FaultKind::Unknown);
+    is_story_wanted && file.get("receivers").is_some()
 }
 
 /// Returns what is wrong with the value at a JSON pointer, in words.

@@ -1,4 +1,4 @@
-//! What is wrong with a reload or a restart of a story, in words. `console` asks here before `am_command`.
+//! What is wrong with a reload or a restart of a story, in words.
 use am_alerts::duration::read_duration;
 use am_cli::fault::FaultKind;
 use am_plans::dispatcher_change::MAX_DISPATCHER_CHANGES;

@@ -36,7 +36,7 @@ pub enum FileFault {
     Missing,
     Denied,
     Unopened,
-    /// A read failed, or the file has more than 16 MiB.
+    /// A read failed, or the file has more than 64 MiB.
     Unreadable,
     NoMemory,
 }
@@ -48,7 +48,7 @@ impl FileFault {
             FileFault::Missing => "there is no such file",
             FileFault::Denied => "the file may not be read",
             FileFault::Unopened => "the file can't be opened",
-            FileFault::Unreadable => "not readable, or longer than 16 MiB",
+            FileFault::Unreadable => "not readable, or longer than 64 MiB",
             FileFault::NoMemory => "out of memory",
         }
     }

@@ -1,4 +1,4 @@
-//! Files of other programs that hold a configuration, or alerts. `console` says how to take these out.
+//! Files of other programs that hold a configuration, or alerts, and how to take these out.
 use serde_json::Value;
 use std::alloc::{AllocError, Global};
 
@@ -10,8 +10,12 @@ pub fn foreign_words(alloc: Global, value: &Value) -> Result<Option<String>, All
             let how = in_kubernetes(kind);
             return Ok(Some(format!(in alloc; "this is a Kubernetes {kind}; {how}")?));
         }
-        _ if is_helm(value) => {
-            "these are the values of a Helm chart; take the configuration out: yq '.alertmanager.config'"
+        _ if chart_config(value).is_some() => {
+            let (above, _) = chart_config(value).unwrap_or(("", value));
+            let path = above.replace(alloc, "/", ".")?;
+            return Ok(Some(format!(in alloc;
+                "these are the values of a Helm chart; take the configuration out: yq '{path}.config'"
+            )?));
         }
         _ if has_text(value, "alertmanager_config") => {
             "this is the file of a Mimir tenant; take the configuration out: yq '.alertmanager_config'"
@@ -38,13 +42,23 @@ fn in_kubernetes(kind: &str) -> &'static str {
     }
 }
 
-/// Returns whether a value is that of a chart's values: a configuration in `alertmanager.config`.
-fn is_helm(value: &Value) -> bool {
-    value
-        .get("alertmanager")
-        .and_then(|chart| chart.get("config"))
-        .and_then(|config| config.get("route"))
-        .is_some()
+/// The fields of a story that has a configuration of our own in `config`.
+const OF_STORIES: [&str; 5] = ["until", "alerts", "silences", "outages", "expect"];
+
+/// Returns the configuration in the values of a Helm chart, and the JSON pointer of what has it as `config`: `alertmanager`
+/// where the chart has more than Alertmanager, and else the file itself. So has a story, whose configuration is one of our own.
+pub fn chart_config(file: &Value) -> Option<(&'static str, &Value)> {
+    if let Some(chart) = file.get("alertmanager") {
+        let config = chart.get("config")?;
+        config.get("route")?;
+        return Some(("/alertmanager", config));
+    }
+    let config = file.get("config")?;
+    config.get("route")?;
+    let is_own = config.get("children").is_some()
+        || config.pointer("/receivers/0/integrations").is_some()
+        || OF_STORIES.iter().any(|name| file.get(*name).is_some());
+    if is_own { None } else { Some(("", config)) }
 }
 
 fn has_text(value: &Value, name: &str) -> bool {

@@ -1,4 +1,4 @@
-//! What the commands of `am-rehearse` read from and print to. `am_commands` and `am_rehearse` call it.
+//! What the commands of `am-rehearse` read from and print to.
 //!
 //! A command reads its files, and prints each fault to standard error, with file, line and column.
 //! It returns the status with which the program ends.
@@ -9,7 +9,7 @@ mod config_words;
 pub mod console;
 mod dispatcher_change_words;
 pub mod files;
-mod foreign;
+pub mod foreign;
 pub mod matcher_words;
 pub mod progress;
 mod setting_words;

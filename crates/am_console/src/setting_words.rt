@@ -1,4 +1,4 @@
-//! What is wrong with the settings of `global` and of integrations, in words. `console` calls it.
+//! What is wrong with the settings of `global` and of integrations, in words.
 use am_cli::fault::FaultKind;
 use am_command::spelling::Nearest;
 use am_settings::explained::reason_for;

@@ -1,4 +1,4 @@
-//! A text that is read whole from a source, with its value. `files` reads files and standard input by it.
+//! A text that is read whole from a source, with its value.
 ghost use Rattle.std.specs.Prelude.{◌≡◌, ◌≤◌, ◌<◌, ◌+◌, ◌⊎◌, ◌↔◌, IfErr, IfOk, OnOk, length};
 ghost use Rattle.serde_json.specs.View.{view};
 ghost use Rattle.am_cli.specs.declared.transfer.TheConstants.{MAX_INPUT};
@@ -20,7 +20,7 @@ pub struct SourceText {
 /// Why a source has no value.
 #[derive(Clone, Copy)]
 pub enum SourceFault {
-    /// A read failed, or the text has more than 16,777,216 bytes.
+    /// A read failed, or the text has more than 67,108,864 bytes.
     Unreadable,
     /// The text is neither JSON nor YAML.
     NotRead { fault: DocumentFault },
@@ -62,7 +62,7 @@ impl From<DocumentFault> for SourceFault {
 ///
 /// # Errors
 ///
-/// `Unreadable` exactly if a read failed, or gave more than 16,777,216 bytes. `NotRead` only for a text that is no JSON.
+/// `Unreadable` exactly if a read failed, or gave more than 67,108,864 bytes. `NotRead` only for a text that is no JSON.
 pub fn read_source<S: Source>(alloc: Global, source: &mut S) -> Result<SourceText, SourceFault>
     ensures reads { S.reads source.new ≤ S.reads source.old + (MAX_INPUT + 1) }
     ensures unreadable { (result ≡ Err SourceFault.Unreadable)
@@ -74,7 +74,7 @@ pub fn read_source<S: Source>(alloc: Global, source: &mut S) -> Result<SourceTex
     ensures refused { IfErr result
         (RefusesSource (S.given source.old) (S.given source.new) (S.ended source.old) (S.ended source.new)) }
 {
-    let text = read_all(alloc, source)?;
+    let text = read_all(alloc, source, MAX_INPUT)?;
     let value = read_document(alloc, text.as_slice())?;
     Ok(SourceText { text, value })
 }

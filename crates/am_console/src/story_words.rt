@@ -1,4 +1,4 @@
-//! What is wrong with a story's expectations, in words. `console` asks here before `am_command`.
+//! What is wrong with a story's expectations, in words.
 use am_alerts::duration::read_duration;
 use am_alerts::limits::MAX_MATCHERS;
 use am_cli::fault::{FaultKind, InputFault};

@@ -1,4 +1,4 @@
-//! What is wrong with a time interval, a zone or the start that these need, in words. `console` asks here first.
+//! What is wrong with a time interval, a zone or the start that these need, in words.
 use am_cli::fault::FaultKind;
 use jiff::Timestamp;
 use serde_json::Value;
@@ -106,7 +106,7 @@ fn bad_list(
             "the root route can't be muted by time intervals"
         }
         "time_intervals" | "mute_time_intervals" | "active_time_intervals" => {
-            "too many time intervals: at most 64 names, 32 intervals each, and 8,192 spans of time a route"
+            "too many time intervals: at most 1,024 names, 32 intervals each, and 8,192 spans of time a route"
         }
         _ => return Ok(None),
     };

@@ -21,6 +21,7 @@ use Rattle.am_alerts.proofs.route_layout.RouteLayout.TheSendSync as layout
 use Rattle.am_alerts.proofs.spans.Span.TheSendSync as span
 use Rattle.am_model.proofs.config.receivers.Receivers.TheSendSync as receivers
 use Rattle.am_model.proofs.config.Limits.TheSendSync as limits
+use Rattle.am_mute.proofs.places.Places.TheSendSync as places
 use Rattle.am_mute.proofs.silence_index.SilenceIndex.TheSendSync as silence_index
 use Rattle.am_mute.proofs.sources.Sources.TheSendSync as sources
 use Rattle.am_board.proofs.destinations.GroupNameCache.TheSendSync as destinations
@@ -133,10 +134,10 @@ pub silence_sync : IsSync silence_row.the_row
 silence_sync = search (every, matcher_sync, sequence.the_sync) depth 40 fits 10000
 
 pub silences_send : IsSend silences_row.the_row
-silences_send = search (every, silence_send, silence_index.the_send) depth 40 fits 10000
+silences_send = search (every, silence_send, places.the_send, silence_index.the_send) depth 40 fits 10000
 
 pub silences_sync : IsSync silences_row.the_row
-silences_sync = search (every, silence_sync, silence_index.the_sync) depth 40 fits 10000
+silences_sync = search (every, silence_sync, places.the_sync, silence_index.the_sync) depth 40 fits 10000
 
 pub rule_send : IsSend rule_row.the_row
 rule_send = search (every, matcher_send, sequence.the_send, text.the_send) depth 40 fits 10000

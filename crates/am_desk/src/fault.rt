@@ -1,5 +1,4 @@
-//! Why a desk isn't made, opened or closed. `Blank::new`, `Desk::open` and `Desk::close` return
-//! these.
+//! Why a desk isn't made, opened or closed.
 ghost use Rattle.std.specs.Prelude.{◌≡◌};
 ghost use Rattle.am_desk.specs.Faults.{open_fault_of, open_fault_number, close_cause_number};
 ghost use Rattle.am_desk.specs.declared.fault.BlankFault.TheVariants as blank_fault;

@@ -1,8 +1,9 @@
 -- What a line is answered by.
-use Rattle.std.proofs.Common.{◌≡◌, ◌++◌, ◌∷◌, [], inl, inr, List, ℕ, None, Result, Ok, Err, IfOk, IfErr, subst, sym}
+use Rattle.std.proofs.Common.{◌≡◌, ◌++◌, ◌∷◌, [], inl, inr, List, ℕ, MatchOption, None, Option, Result, Ok, Err, IfOk, IfErr, Some, codes, refl, subst, sym}
 use Rattle.json.specs.Print.{print}
 use Rattle.json.specs.Token.{Token}
-use Rattle.serde_json.specs.Data.{Data}
+use Rattle.serde_json.specs.Data.{Data, Members}
+use Rattle.serde_json.specs.Find.{as_object, get_member}
 use Rattle.serde_json.specs.Read.{read}
 use Rattle.am_cli.specs.declared.reader.Mode.TheVariants.{Strict}
 use Rattle.am_model.specs.Config.{config_fault}
@@ -10,14 +11,15 @@ use Rattle.am_lines.specs.declared.call.CallName.{CallName}
 use Rattle.am_lines.specs.declared.call.CallName.TheVariants as call
 use Rattle.am_lines.specs.declared.fault.LineFault.{LineFault}
 use Rattle.am_lines.specs.declared.request.Request.{Request}
-use Rattle.am_lines.specs.declared.request.Request.TheVariants.{Open}
+use Rattle.am_lines.specs.declared.request.Request.TheVariants.{Open, TakeHistory}
 use Rattle.am_lines.specs.declared.lines.LineRead.{LineRead}
-use Rattle.am_lines.specs.declared.request.Opening.{Opening}
+use Rattle.am_lines.specs.declared.opening.Opening.{Opening}
 use Rattle.am_lines.specs.Lines.{IsOneLine, IsRead}
+use Rattle.am_lines.specs.Opening.{HasClocked, IsTheirOpening}
 use Rattle.am_lines.specs.Request.{IsCallOf, IsRequestIn}
 use Rattle.am_dispatch.specs.Refusal.{IsCauseOfUnopened}
 use Rattle.am_dispatch.specs.Serve.{IsOpenedBy, Opened, OpensNone}
-use Rattle.am_dispatch.specs.Session.{Does, IsRequest, IsAnswerTo}
+use Rattle.am_dispatch.specs.Session.{Does, IsAnswered, IsAnswerTo, IsRequest, Leaves, Refuses, Takes, taken_tokens}
 use Rattle.am_dispatch.specs.declared.session.Session.{Session}
 
 -- what is answered, where the answer began with nothing
@@ -35,10 +37,20 @@ opened_text (Ok made) items session read kept requested opening is is_request op
     λ text heard. (opening, subst (λ (q : Request). IsRequest text q) is (is_request text heard), opened)
 opened_text (Err f) items session read kept requested opening is is_request opened = tt
 
+-- a configuration of Alertmanager has no fault, with clocks or without
+of_theirs : (o : Option Data) (opening : Opening) → MatchOption o ⊥ (λ v. IsTheirOpening v opening) → config_fault opening.config ≡ None
+of_theirs None opening is = absurd is
+of_theirs (Some v) opening is = is.sound
+
+of_clocked : (o : Option Members) (opening : Opening) → MatchOption o ⊥ (λ ms. HasClocked Strict ms opening) → config_fault opening.config ≡ None
+of_clocked None opening is = absurd is
+of_clocked (Some ms) opening is = of_theirs (get_member (codes "alertmanager") ms) opening is.config
+
 -- a line's configuration has no fault
 faultless : (name : CallName) (value : Data) (opening : Opening) → IsCallOf Strict name value (Open opening) → config_fault opening.config ≡ None
 faultless call.Config value opening is = is.sound
-faultless call.Alertmanager value opening is = is
+faultless call.Alertmanager value opening is = is.sound
+faultless call.Open value opening is = of_clocked (as_object value) opening is
 faultless name value opening is = absurd is
 
 -- so only memory keeps it from being opened
@@ -55,3 +67,34 @@ pub unopened_text : {T : Type 0} (r : Result T LineFault) (read : LineRead) (kep
     → IfErr r (λ f. (text : List ℕ) → IsRead read text kept → OpensNone text f)
 unopened_text (Ok made) read kept requested opening is is_request why = tt
 unopened_text (Err f) read kept requested opening is is_request why = λ text heard. unopened_line f text requested opening is (is_request text heard) why
+
+-- the answer of a board that has handed out its records
+taken_answer : (old new : Session) (text : List ℕ) → Takes old new text → IsAnswerTo old TakeHistory text new
+taken_answer old new text takes =
+    record { tokens = taken_tokens old.board; does = (takes.0, refl); text_is = takes.1; one = takes.2 }
+
+pub taken_request : {T E : Type 0} (r : Result T E) (items : T → List ℕ) (old new : Session) (requested : Request) → requested ≡ TakeHistory
+    → IfOk r (λ made. Takes old new (items made)) → IfOk r (λ made. IsAnswerTo old requested (items made) new)
+taken_request (Ok made) items old new requested is takes =
+    subst (λ (q : Request). IsAnswerTo old q (items made) new) (sym is) (taken_answer old new (items made) takes)
+taken_request (Err f) items old new requested is takes = tt
+
+pub left_request : {T : Type 0} (r : Result T LineFault) (old new : Session) (requested : Request) → requested ≡ TakeHistory
+    → IfErr r (Leaves old TakeHistory new) → IfErr r (Leaves old requested new)
+left_request (Ok made) old new requested is leaves = tt
+left_request (Err f) old new requested is leaves = subst (λ (q : Request). Leaves old q new f) (sym is) leaves
+
+-- a line that is read, and what it asks is answered
+pub answered_read : {T E : Type 0} (r : Result T E) (items : T → List ℕ) (old new : Session) (requested : Request) (read : LineRead) (kept : List ℕ)
+    → ((text : List ℕ) → IsRead read text kept → IsRequest text requested)
+    → IfOk r (λ made. IsAnswerTo old requested (items made) new)
+    → IfOk r (λ made. (text : List ℕ) → IsRead read text kept → IsAnswered old text (items made) new)
+answered_read (Ok made) items old new requested read kept is_request answers = λ text heard. (requested, is_request text heard, answers)
+answered_read (Err f) items old new requested read kept is_request answers = tt
+
+pub refused_read : {T : Type 0} (r : Result T LineFault) (old new : Session) (requested : Request) (read : LineRead) (kept : List ℕ)
+    → ((text : List ℕ) → IsRead read text kept → IsRequest text requested)
+    → IfErr r (Leaves old requested new)
+    → IfErr r (λ f. (text : List ℕ) → IsRead read text kept → Refuses old text new f)
+refused_read (Ok made) old new requested read kept is_request leaves = tt
+refused_read (Err f) old new requested read kept is_request leaves = λ text heard. inr (requested, is_request text heard, leaves)

@@ -22,16 +22,19 @@ use Rattle.am_model.specs.declared.record.Reply.TheVariants as reply
 use Rattle.am_model.specs.Records.{IsNoteOf, entry}
 use Rattle.am_model.specs.Replay.{IsLegal}
 use Rattle.am_model.specs.Ticket.{TicketData}
+use Rattle.am_model.specs.declared.preview.Preview.{Preview}
+use Rattle.am_model.specs.look_back.Preview.{preview}
 use Rattle.am_board.specs.declared.begin.Begun.{Begun}
 use Rattle.am_board.specs.History.{BoardData, IsFresh, IsReplyAt, handed_out, kept_of, opening, records_at, reply_of, state_at, with_record}
 use Rattle.am_board.specs.Logged.{finished_rows, noted_row, row_of_note}
 use Rattle.am_lines.specs.declared.request.Finishing.{Finishing}
 use Rattle.am_lines.specs.declared.request.Loading.{Loading}
 use Rattle.am_lines.specs.declared.request.Noting.{Noting}
-use Rattle.am_lines.specs.declared.request.Opening.{Opening}
+use Rattle.am_lines.specs.declared.opening.Opening.{Opening}
 use Rattle.am_lines.specs.declared.request.Reporting.{Reporting}
 use Rattle.am_lines.specs.Logged.{finished_tokens, noted_tokens}
-use Rattle.am_lines.specs.Reply.{flush_tokens, named, opened_tokens, reply_tokens}
+use Rattle.am_lines.specs.Begun.{begun_flush, begun_tokens}
+use Rattle.am_lines.specs.Reply.{named, opened_tokens, reply_tokens}
 use Rattle.am_lines.specs.Record.{record_tokens}
 use Rattle.am_lines.specs.View.{listed}
 use Rattle.am_dispatch.specs.Row.{row_named}
@@ -63,20 +66,20 @@ pub shown : {T E : Type 0} (board : BoardData) (tickets : List TicketData) (A : 
     → OnOk r A → OnOk r (((board ≡ board) × (tickets ≡ tickets)) × A)
 shown board tickets A r = on_ok_weaker {Q = ((board ≡ board) × (tickets ≡ tickets)) × A} r (λ (a : A). ((refl, refl), a))
 
--- a begin that was made, and answered by the reply under the configuration that the board has afterwards
-pub begins : {T E : Type 0} (r : Result T E) (old new : Session) (now : ℕ) (b : Begun) (before after : List Token) (mid : BoardData) (mids : List TicketData)
+-- a begin that was made, and answered by the reply and the preview under the configuration that the board has afterwards
+pub begins : {T E : Type 0} (r : Result T E) (old new : Session) (now : ℕ) (b : Begun) (p : Option Preview) (before after : List Token) (mid : BoardData) (mids : List TicketData)
     → IsReplyAt old.board (call.Begin now) (reply_of b) → mid ≡ with_record old.board (entry 0 (call.Begin now) (reply_of b))
+    → p ≡ preview old.board.config old.board.history now
     → IsFresh BOARD_ID b → mids ≡ old.tickets.items → new.board ≡ mid → KeepsTicket b mids new.tickets.items
-    → OnOk r (after ≡ before ++ reply_tokens mid.config (reply_of b)) → OnOk r (Begins old new now before after)
-begins r old new now b before after mid mids due recorded fresh same board tickets =
-    on_ok_weaker {Q = Begins old new now before after} r (λ (answered : after ≡ before ++ reply_tokens mid.config (reply_of b)). (
+    → OnOk r (after ≡ before ++ begun_tokens mid.config (reply_of b) p) → OnOk r (Begins old new now before after)
+begins r old new now b p before after mid mids due recorded previewed fresh same board tickets =
+    on_ok_weaker {Q = Begins old new now before after} r (λ (answered : after ≡ before ++ begun_tokens mid.config (reply_of b) p). (
       b,
       record {
-        makes = record {
-          due = due;
-          recorded = board ∙ recorded;
-          answered = answered ∙ ap (λ (d : BoardData). before ++ reply_tokens d.config (reply_of b)) recorded;
-        };
+        due = due;
+        recorded = board ∙ recorded;
+        answered = answered ∙ ap (λ (d : BoardData). before ++ begun_tokens d.config (reply_of b) p) recorded
+            ∙ ap (λ (q : Option Preview). before ++ begun_tokens old.board.config (reply_of b) q) previewed;
         fresh = fresh;
         tickets = subst (λ (ts : List TicketData). KeepsTicket b ts new.tickets.items) same tickets;
       },
@@ -121,12 +124,12 @@ answered_ok (Ok x) (Err f) A ok a = absurd (true≢false (sym ok))
 answered_ok (Err e) written A ok a = tt
 
 -- a flush that was answered, by the configuration that the board has
-pub flush_answered : {T E S F : Type 0} (r : Result T E) (written : Result S F) (config to : Config) (before after : List Token) (t : TicketData)
-    → OnOk r (IsOk written) → config ≡ to → OnOk written (after ≡ before ++ flush_tokens config t.number t.group t.deadline t.notices)
-    → OnOk r (after ≡ before ++ flush_tokens to t.number t.group t.deadline t.notices)
-flush_answered r written config to before after t ok is answered =
-    answered_ok r written (after ≡ before ++ flush_tokens to t.number t.group t.deadline t.notices) ok
-    (subst (λ (c : Config). OnOk written (after ≡ before ++ flush_tokens c t.number t.group t.deadline t.notices)) is answered)
+pub flush_answered : {T E S F : Type 0} (r : Result T E) (written : Result S F) (config to : Config) (p : Option Preview) (before after : List Token) (t : TicketData)
+    → OnOk r (IsOk written) → config ≡ to → OnOk written (after ≡ before ++ begun_flush config t.number t.group t.deadline t.notices p)
+    → OnOk r (after ≡ before ++ begun_flush to t.number t.group t.deadline t.notices p)
+flush_answered r written config to p before after t ok is answered =
+    answered_ok r written (after ≡ before ++ begun_flush to t.number t.group t.deadline t.notices p) ok
+    (subst (λ (c : Config). OnOk written (after ≡ before ++ begun_flush c t.number t.group t.deadline t.notices p)) is answered)
 
 -- a new board, whose opening was answered by the configuration that it has
 pub opens : {T E S F : Type 0} (r : Result T E) (written : Result S F) (board : BoardData) (tickets : List TicketData) (x : Opening) (config : Config) (before after : List Token)

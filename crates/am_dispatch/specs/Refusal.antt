@@ -109,7 +109,8 @@ IsCauseOfUntaken s f =
 abbrev pub IsCauseOfUnopened : Config → LineFault → Type 0
 IsCauseOfUnopened config f = LacksMemory f ⊎ ((config_fault config ≢ None) × IsRefusedAs f [] (codes "value"))
 
--- why what is asked isn't done. A view only lacks memory, and so do several inserts: what one of them is refused for is in their answer
+-- why what is asked isn't done. A view and a check only lack memory. So do several inserts: what one of them is refused for is in their
+-- answer
 abbrev pub IsCauseOf : Session → Request → LineFault → Type 0
 IsCauseOf s (request.Open x) f = IsCauseOfUnopened x.config f
 IsCauseOf s (request.Insert x) f =
@@ -130,8 +131,10 @@ IsCauseOf s (request.Forget x) f =
 IsCauseOf s (request.Load x) f = IsCauseOfUnloaded s x f
 IsCauseOf s request.NextDue f = LacksMemory f
 IsCauseOf s (request.Outlook x) f = LacksMemory f
+IsCauseOf s (request.Status x) f = LacksMemory f
 IsCauseOf s request.Rows f = LacksMemory f
 IsCauseOf s request.Groups f = LacksMemory f
 IsCauseOf s request.Summary f = LacksMemory f
 IsCauseOf s request.Tickets f = LacksMemory f
 IsCauseOf s request.TakeHistory f = IsCauseOfUntaken s f
+IsCauseOf s (request.Check x) f = LacksMemory f

@@ -7,7 +7,7 @@ use Rattle.am_cli.specs.declared.transfer.TheConstants.{MAX_INPUT}
 use Rattle.am_board.specs.History.{opening as opening_board}
 use Rattle.am_lines.specs.declared.fault.LineFault.{LineFault}
 use Rattle.am_lines.specs.declared.fault.LineFault.TheVariants as fault
-use Rattle.am_lines.specs.declared.request.Opening.{Opening}
+use Rattle.am_lines.specs.declared.opening.Opening.{Opening}
 use Rattle.am_lines.specs.declared.request.Request.{Request}
 use Rattle.am_lines.specs.declared.request.Request.TheVariants as request
 use Rattle.am_lines.specs.Fault.{IsRefusedAs, AnswersFault}

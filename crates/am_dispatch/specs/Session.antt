@@ -22,6 +22,7 @@ use Rattle.am_model.specs.declared.views.RowView.{RowView}
 use Rattle.am_model.specs.Records.{call_of_silence, entry, IsNoteOf}
 use Rattle.am_model.specs.Replay.{IsLegal}
 use Rattle.am_model.specs.State.{flush_numbered}
+use Rattle.am_model.specs.Status.{label_status}
 use Rattle.am_model.specs.Ticket.{TicketData}
 use Rattle.am_model.specs.Views.{group_views, row_views, summary, summary_data}
 use Rattle.am_model.specs.look_back.Preview.{preview}
@@ -40,10 +41,12 @@ use Rattle.am_lines.specs.declared.request.ListedInsert.TheVariants as listed_in
 use Rattle.am_lines.specs.declared.request.Loading.{Loading}
 use Rattle.am_lines.specs.declared.request.Noting.{Noting}
 use Rattle.am_lines.specs.declared.request.Reporting.{Reporting}
-use Rattle.am_lines.specs.declared.request.Opening.{Opening}
+use Rattle.am_lines.specs.declared.opening.Opening.{Opening}
 use Rattle.am_lines.specs.declared.request.Request.{Request}
 use Rattle.am_lines.specs.declared.request.Request.TheVariants as request
+use Rattle.am_lines.specs.Begun.{begun_tokens}
 use Rattle.am_lines.specs.Call.{form_fault}
+use Rattle.am_lines.specs.Check.{checked_tokens}
 use Rattle.am_lines.specs.Fault.{IsOfInput}
 use Rattle.am_lines.specs.Inserts.{insert_end_tokens}
 use Rattle.am_lines.specs.Lines.{IsOneLine}
@@ -51,6 +54,7 @@ use Rattle.am_lines.specs.Logged.{finished_tokens, noted_tokens}
 use Rattle.am_lines.specs.Record.{record_tokens}
 use Rattle.am_lines.specs.Reply.{named, opened_tokens, reply_tokens}
 use Rattle.am_lines.specs.Request.{IsRequestIn, IsSureRequestIn}
+use Rattle.am_lines.specs.Status.{status_tokens}
 use Rattle.am_lines.specs.View.{due_tokens, group_view_tokens, listed, outlook_tokens, row_tokens, summary_tokens}
 use Rattle.am_dispatch.specs.Refusal.{AnswersCause, IsCauseOf}
 use Rattle.am_dispatch.specs.Row.{row_named}
@@ -77,9 +81,12 @@ KeepsTicket begun.NothingDue old new = new ≡ old
 KeepsTicket (begun.Quiet group removed) old new = new ≡ old
 KeepsTicket (begun.Flush ticket) old new = new ≡ old ++ ticket ∷ []
 
--- a begin, whose ticket is kept
+-- a begin, whose ticket is kept: the answer has the reply and what a preview before it would say, which is why
 pub record BeginsWith (old new : Session) (now : ℕ) (b : Begun) (before after : List Token) : Type 0 where
-  pub makes : MakesWith old new (call.Begin now) (reply_of b) before after
+  pub due : IsReplyAt old.board (call.Begin now) (reply_of b)
+  pub recorded : new.board ≡ with_record old.board (entry 0 (call.Begin now) (reply_of b))
+  pub answered :
+      after ≡ before ++ begun_tokens old.board.config (reply_of b) (preview old.board.config old.board.history now)
   pub fresh : IsFresh BOARD_ID b
   pub tickets : KeepsTicket b old.tickets.items new.tickets.items
 
@@ -203,6 +210,8 @@ Does old (request.Load x) new before after = Loads old new x before after × (ne
 Does old request.NextDue new before after = Shows old new (due_tokens (next_due (state_at old.board))) before after
 Does old (request.Outlook x) new before after =
     Shows old new (outlook_tokens old.board.config (preview old.board.config old.board.history x.now)) before after
+Does old (request.Status x) new before after =
+    Shows old new (status_tokens old.board.config (label_status old.board.config (state_at old.board) x.labels x.now)) before after
 Does old request.Rows new before after =
     Shows old new (listed (codes "rows") (row_tokens old.board.config) (row_views (state_at old.board))) before after
 Does old request.Groups new before after =
@@ -211,6 +220,7 @@ Does old request.Summary new before after = IsSame old new × AnswersSummary old
 Does old request.Tickets new before after =
     Shows old new (listed (codes "tickets") (ticket_tokens old.board.config) old.tickets.items) before after
 Does old request.TakeHistory new before after = HandsOut old new × (after ≡ before ++ taken_tokens old.board)
+Does old (request.Check x) new before after = Shows old new (checked_tokens x) before after
 
 -- the session has done what is asked, whatever is answered about it
 abbrev pub HasDone : Session → Request → Session → Type 0

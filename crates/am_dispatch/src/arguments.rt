@@ -1,4 +1,4 @@
-//! The command line. The program takes no arguments but `--help` and `--version`. `main` calls `read_arguments`.
+//! The command line. The program takes no arguments but `--help` and `--version`.
 ghost use Rattle.std.specs.Prelude.{◌<◌, IsOk, length};
 
 use clap::Command;

@@ -1,4 +1,4 @@
-//! Why the program ends before its input does. `main` ends with its status.
+//! Why the program ends before its input does, and with which status.
 use am_cli::device::DeviceFault;
 use am_cli::transfer::Unwritable;
 use thiserror::Error;

@@ -1,4 +1,4 @@
-//! The rows that `load` hands to the board: lines name their routes, and a board has positions. `session` calls `row_of`.
+//! The rows that `load` hands to the board: lines name their routes, and a board has positions.
 ghost use Rattle.std.specs.Prelude.{◌≡◌, ◌≤◌, ◌<◌, IfOk, IfSome, Some, length, option_copied, slice_get};
 ghost use Rattle.std.specs.List.{position};
 ghost use Rattle.std.specs.Option.{option_or};

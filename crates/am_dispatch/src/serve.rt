@@ -1,4 +1,4 @@
-//! Reading lines and writing answers, until the input ends. `main` calls it.
+//! Reading lines and writing answers, until the input ends.
 //!
 //! Contracts say of each line how it is answered, as `Serves` of specs/Serve.antt has it, and what is written where a read or
 //! a write fails.
@@ -20,8 +20,9 @@ use am_cli::transfer::{Unwritable, write_all};
 use am_lines::answer::Answer;
 use am_lines::fault::{LineFault, no_memory_line};
 use am_lines::lines::{LineRead, LineReader};
+use am_lines::opening::Opening;
 use am_lines::reply::write_opened;
-use am_lines::request::{Opening, Request, read_request};
+use am_lines::request::{Request, read_request};
 use am_seed::Seed;
 use std::alloc::{AllocError, Global};
 
@@ -283,6 +284,18 @@ pub fn respond(
     ensures unread { read ≡ LineRead.NoMemory → IsErrAnd result (λ fault. fault ≡ LineFault.NoMemory) }
 {
     let request = request_of(alloc, read, line)?;
+    answer_request(alloc, session, request)
+}
+
+/// Does what is asked of a session, and makes the line that answers it.
+fn answer_request(
+    alloc: Global,
+    session: &mut Session,
+    request: Request,
+) -> Result<Vec<u8>, LineFault>
+    ensures answered { IfOk result (λ text. IsAnswerTo session.old request text.items session.new) }
+    ensures refused { IfErr result (Leaves session.old request session.new) }
+{
     if matches!(request, Request::TakeHistory) {
         session.take_history(alloc)
     } else {

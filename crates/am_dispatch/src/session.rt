@@ -1,4 +1,4 @@
-//! `Session`: a board, and the tickets of its open flushes. `serve` has one from the first configuration on.
+//! `Session`: a board, and the tickets of its open flushes.
 //!
 //! `calls` has what it does.
 ghost use Rattle.std.specs.Prelude.{◌≡◌, IsTrue};

@@ -1,4 +1,4 @@
-//! A board, and what is done with it when time has passed. `main` drives it.
+//! A board, and what is done with it when time has passed.
 ghost use Rattle.std.specs.Prelude.{◌≡◌, ◌≤◌, All, IfOk, OnOk};
 ghost use Rattle.am_alerts.specs.declared.limits.TheConstants.{MAX_TIME};
 ghost use Rattle.am_embedded.specs.declared.dispatcher.TheConstants.{BOARD_ID};

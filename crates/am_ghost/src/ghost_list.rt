@@ -1,4 +1,4 @@
-//! A list that exists in proofs alone. `AttemptTrace` and `IoTrace` are made of it.
+//! A list that exists in proofs alone.
 //!
 //! It has no data at run time, so no body of its calls can be wrong. That it can go to another
 //! thread, and be shared by threads, are `unsafe impl`s here, with their proofs, so whoever keeps

@@ -1,6 +1,6 @@
 //! The spans of time in which a route is muted, from intervals on clocks.
 //!
-//! `expand_all` is called once for each name of `time_intervals`, `muted` once for each route that
+//! `expand_all` finds the spans of one name of `time_intervals`, `muted` those of a route that
 //! names some.
 ghost use Rattle.std.specs.Prelude.{◌≡◌, ◌≤◌, ◌+◌, ℕ, IfErr, IfOk, IsTrue, length, map, vec_len};
 ghost use Rattle.std.specs.List.{list_any, sum_by};

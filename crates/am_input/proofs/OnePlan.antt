@@ -1,9 +1,11 @@
 -- Members say one list of planned actions at most.
-use Rattle.std.proofs.Common.{◌≡◌, ◌∙◌, ◌+◌, ◌++◌, ℕ, true, List, [], ◌∷◌, Option, Some, None, MatchOption, codes, refl, sym, ap, subst}
-use Rattle.std.specs.List.{flat_map}
+use Rattle.std.proofs.Common.{◌≡◌, ◌∙◌, ◌+◌, ◌++◌, ℕ, Bool, true, List, [], ◌∷◌, Option, Some, None, MatchOption, codes, refl, sym, ap, subst}
+use Rattle.std.proofs.lemmas.Bool.{and_parts}
+use Rattle.std.specs.List.{flat_map, list_all}
 use Rattle.serde_json.specs.Data.{Data, Items, no_items, item, Members}
 use Rattle.serde_json.specs.Find.{as_array, as_object, get_member}
-use Rattle.am_cli.proofs.Once.{one_list, one_matcher, one_or, one_read, one_there}
+use Rattle.am_alerts.specs.Matcher.{compare_texts}
+use Rattle.am_cli.proofs.Once.{one_list, one_matcher_list, one_or, one_read, one_there, one_there_with}
 use Rattle.am_cli.specs.Configured.{DecodesToLabels, DecodesToMatcher}
 use Rattle.am_cli.specs.Decoding.{DecodeEach, HasOr, IsDuration, IsList}
 use Rattle.am_cli.specs.Read.{duration_in}
@@ -12,7 +14,7 @@ use Rattle.am_model.specs.Lists.{in_order}
 use Rattle.am_plans.proofs.LabelSets.{one_labels}
 use Rattle.am_plans.proofs.Spans.{one_span, one_span_of}
 use Rattle.am_plans.specs.Decoding.{DecodesToAlert, DecodesToSilence, DecodesToSpan, HasAlert, HasSilence, IsSpan, follow}
-use Rattle.am_plans.specs.Planned.{ArePlannedIn, inserts_in, inserts_of, set_of, sets_from, time_cmp}
+use Rattle.am_plans.specs.Planned.{ArePlannedIn, ArePlannedWithoutRegexes, inserts_in, inserts_of, set_of, sets_from, time_cmp}
 use Rattle.am_plans.specs.declared.alert.AlertItem.{AlertItem}
 use Rattle.am_plans.specs.declared.silence.SilenceItem.{SilenceItem}
 use Rattle.am_plans.specs.declared.span.Span.{Span}
@@ -68,49 +70,59 @@ same_alerts mode (Some v) xs ys is also = in_array mode (as_array v) xs ys is al
 
 -- ---- silences
 
-same_set_of : (mode : Mode) (members : Members) (id : ℕ) (a b : SilenceItem) → HasSilence mode members a → HasSilence mode members b → set_of id a ≡ set_of id b
-same_set_of mode members id a b is also =
-    let matchers = one_there (IsList (DecodesToMatcher mode)) (one_list (DecodesToMatcher mode) (one_matcher mode)) (get_member (codes "matchers") members)
-    a.matchers.items b.matchers.items is.matchers also.matchers in
+-- whether no matcher of a silence needs a regex
+abbrev compares : SilenceItem → Bool
+compares silence = compare_texts silence.matchers.items
+
+same_set_of : (mode : Mode) (members : Members) (id : ℕ) (a b : SilenceItem) → compares a ≡ true → HasSilence mode members a → HasSilence mode members b
+    → set_of id a ≡ set_of id b
+same_set_of mode members id a b plain is also =
+    let matchers = one_there_with compare_texts (IsList (DecodesToMatcher mode)) (one_matcher_list mode) (get_member (codes "matchers") members)
+    a.matchers.items b.matchers.items plain is.matchers also.matchers in
     let from = one_or IsDuration (one_read duration_in) 0 (get_member (codes "from") members) a.from b.from is.from also.from in
     let to = one_there IsDuration (one_read duration_in) (get_member (codes "to") members) a.to b.to is.to also.to in
     let decoded : HasOr IsDuration b.from (codes "set") members a.set = subst (λ (f : ℕ). HasOr IsDuration f (codes "set") members a.set) from is.set in
     let set = one_or IsDuration (one_read duration_in) b.from (get_member (codes "set") members) a.set b.set decoded also.set in
     λ i. record { at = set i; act = Silence (record { id = id; matchers = matchers i; start = from i; end = to i }) }
 
-same_set : (mode : Mode) (id : ℕ) (value : Data) (a b : SilenceItem) → DecodesToSilence mode value a → DecodesToSilence mode value b → set_of id a ≡ set_of id b
-same_set mode id value a b is also = by (as_object value) is also
+same_set : (mode : Mode) (id : ℕ) (value : Data) (a b : SilenceItem) → compares a ≡ true → DecodesToSilence mode value a → DecodesToSilence mode value b
+    → set_of id a ≡ set_of id b
+same_set mode id value a b plain is also = by (as_object value) is also
   where
     by : (o : Option Members) → MatchOption o ⊥ (λ ms. HasSilence mode ms a) → MatchOption o ⊥ (λ ms. HasSilence mode ms b) → set_of id a ≡ set_of id b
     by None is also = absurd is
-    by (Some ms) is also = same_set_of mode ms id a b is also
+    by (Some ms) is also = same_set_of mode ms id a b plain is also
 
-same_sets_from : (mode : Mode) (id : ℕ) (items : Items) (xs ys : List SilenceItem) → DecodeEach (DecodesToSilence mode) items xs
-    → DecodeEach (DecodesToSilence mode) items ys → sets_from id xs ≡ sets_from id ys
-same_sets_from mode id no_items [] [] is also = refl
-same_sets_from mode id no_items [] (b ∷ ys) is also = absurd also
-same_sets_from mode id no_items (a ∷ xs) ys is also = absurd is
-same_sets_from mode id (item v vs) [] ys is also = absurd is
-same_sets_from mode id (item v vs) (a ∷ xs) [] is also = absurd also
-same_sets_from mode id (item v vs) (a ∷ xs) (b ∷ ys) is also =
-    let head = same_set mode id v a b is.0 also.0 in
-    let rest = same_sets_from mode (id + 1) vs xs ys is.1 also.1 in
+same_sets_from : (mode : Mode) (id : ℕ) (items : Items) (xs ys : List SilenceItem) → list_all compares xs ≡ true
+    → DecodeEach (DecodesToSilence mode) items xs → DecodeEach (DecodesToSilence mode) items ys → sets_from id xs ≡ sets_from id ys
+same_sets_from mode id no_items [] [] plain is also = refl
+same_sets_from mode id no_items [] (b ∷ ys) plain is also = absurd also
+same_sets_from mode id no_items (a ∷ xs) ys plain is also = absurd is
+same_sets_from mode id (item v vs) [] ys plain is also = absurd is
+same_sets_from mode id (item v vs) (a ∷ xs) [] plain is also = absurd also
+same_sets_from mode id (item v vs) (a ∷ xs) (b ∷ ys) plain is also =
+    let parts = and_parts (compares a) (list_all compares xs) plain in
+    let head = same_set mode id v a b parts.0 is.0 also.0 in
+    let rest = same_sets_from mode (id + 1) vs xs ys parts.1 is.1 also.1 in
     λ i. head i ∷ rest i
 
-sets_in : (mode : Mode) (array : Option Items) (xs ys : List SilenceItem) → MatchOption array ⊥ (λ items. DecodeEach (DecodesToSilence mode) items xs)
+sets_in : (mode : Mode) (array : Option Items) (xs ys : List SilenceItem) → list_all compares xs ≡ true
+    → MatchOption array ⊥ (λ items. DecodeEach (DecodesToSilence mode) items xs)
     → MatchOption array ⊥ (λ items. DecodeEach (DecodesToSilence mode) items ys) → sets_from 1 xs ≡ sets_from 1 ys
-sets_in mode None xs ys is also = absurd is
-sets_in mode (Some items) xs ys is also = same_sets_from mode 1 items xs ys is also
+sets_in mode None xs ys plain is also = absurd is
+sets_in mode (Some items) xs ys plain is also = same_sets_from mode 1 items xs ys plain is also
 
-same_silences : (mode : Mode) (found : Option Data) (xs ys : List SilenceItem) → MatchOption found (xs ≡ []) (λ v. IsList (DecodesToSilence mode) v xs)
+same_silences : (mode : Mode) (found : Option Data) (xs ys : List SilenceItem) → list_all compares xs ≡ true
+    → MatchOption found (xs ≡ []) (λ v. IsList (DecodesToSilence mode) v xs)
     → MatchOption found (ys ≡ []) (λ v. IsList (DecodesToSilence mode) v ys) → sets_from 1 xs ≡ sets_from 1 ys
-same_silences mode None xs ys is also = ap (sets_from 1) (is ∙ sym also)
-same_silences mode (Some v) xs ys is also = sets_in mode (as_array v) xs ys is also
+same_silences mode None xs ys plain is also = ap (sets_from 1) (is ∙ sym also)
+same_silences mode (Some v) xs ys plain is also = sets_in mode (as_array v) xs ys plain is also
 
 -- ---- plans
 
-pub one_plan : (mode : Mode) (members : Members) (ps qs : List TimedAction) → ArePlannedIn mode members ps → ArePlannedIn mode members qs → ps ≡ qs
-one_plan mode members ps qs is also =
+pub one_plan : (mode : Mode) (members : Members) (ps qs : List TimedAction) → ArePlannedWithoutRegexes mode members ps → ArePlannedIn mode members qs → ps ≡ qs
+one_plan mode members ps qs without also =
+    let is = without.0 in
     let alerts = same_alerts mode (get_member (codes "alerts") members) is.alerts also.alerts is.alerts_are also.alerts_are in
-    let silences = same_silences mode (get_member (codes "silences") members) is.silences also.silences is.silences_are also.silences_are in
+    let silences = same_silences mode (get_member (codes "silences") members) is.silences also.silences without.1 is.silences_are also.silences_are in
     is.is ∙ (λ i. in_order time_cmp (alerts i ++ silences i)) ∙ sym also.is

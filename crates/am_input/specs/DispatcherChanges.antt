@@ -24,19 +24,20 @@ IsConfigAt file mode ms (Some reload) config = ReloadDecodesTo mode reload confi
 abbrev pub last_reload : Option Data → ItemData → Option Data
 last_reload before item = option_or item.reload before
 
--- each item says a change of the dispatcher, one for one: at the item's time, with what the item keeps, and with the configuration of the last reload, so
--- that a restart has the one that holds then
+-- each item says a change of the dispatcher, one for one: at the item's time, with what the item keeps, and with the configuration of the
+-- last reload: a restart has the one that holds then
 abbrev pub AreDecodedBy : (Option Data → Config → Type 0) → Option Data → List ItemData → List DispatcherChange → Type 0
 AreDecodedBy IsAt before [] [] = ⊤
 AreDecodedBy IsAt before [] (h ∷ hs) = ⊥
 AreDecodedBy IsAt before (item ∷ items) [] = ⊥
 AreDecodedBy IsAt before (item ∷ items) (h ∷ hs) =
-    (h.at ≡ item.at) × (h.carryover ≡ item.carryover) × IsAt (last_reload before item) h.config × AreDecodedBy IsAt (last_reload before item) items hs
+    (h.at ≡ item.at) × (h.carryover ≡ item.carryover) × IsAt (last_reload before item) h.config
+    × AreDecodedBy IsAt (last_reload before item) items hs
 
 -- the reloads and restarts that the members of a story say, in the order of their times; the story ends at `until`, and `file` is what
 -- is in place of its own configuration
-pub record AreDispatcherChangesIn (mode : Mode) (file : Option Data) (until : ℕ) (members : Members) (dispatcher_changes : List DispatcherChange)
-    : Type 0 where
+pub record AreDispatcherChangesIn (mode : Mode) (file : Option Data) (until : ℕ) (members : Members)
+    (dispatcher_changes : List DispatcherChange) : Type 0 where
   pub items : List ItemData
   pub items_are : AreItemsIn mode until members items
   pub are : AreDecodedBy (IsConfigAt file mode members) None items dispatcher_changes

@@ -120,7 +120,8 @@ RefusesAll Decodes (One fault) = Excludes Decodes fault
 RefusesAll {X = X} Decodes (All faults) = (x : X) → Decodes x → ⊥
 
 -- a JSON value is an object whose members ask for this, which isn't refused
-abbrev pub IsRequestWithoutRegexes : Changes → Data → Output → Option StartData → List Expectation → List DispatcherChange → Rehearsal → Type 0
+abbrev pub IsRequestWithoutRegexes : Changes → Data → Output → Option StartData → List Expectation → List DispatcherChange → Rehearsal
+    → Type 0
 IsRequestWithoutRegexes changes value output start expectations dispatcher_changes rehearsal = IsSomeAnd (as_object value) (λ members.
     Requests Strict changes members output start expectations dispatcher_changes rehearsal
     × IsWithoutRegexes Strict changes members dispatcher_changes rehearsal)

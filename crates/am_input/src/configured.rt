@@ -1,4 +1,4 @@
-//! The configuration of a rehearsal: `config`, or Alertmanager's own. `input` calls it.
+//! The configuration of a rehearsal: `config`, or Alertmanager's own.
 ghost use Rattle.std.specs.Prelude.{◌≡◌, IfErr, IfOk, IsTrue, None, Some, codes, false, is_ok, option_map};
 ghost use Rattle.std.specs.Prelude.{IsSomeAnd};
 ghost use Rattle.serde_json.specs.Data.{Data};

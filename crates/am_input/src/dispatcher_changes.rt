@@ -1,4 +1,4 @@
-//! The reloads and restarts of a story, with their configurations. `input` and `faults` call it.
+//! The reloads and restarts of a story, with their configurations.
 //!
 //! A restart has the configuration that holds then. It is read once more, since a configuration has no copies.
 ghost use Rattle.std.specs.Prelude.{◌≡◌, ◌∷◌, ◌++◌, ◌||◌, [], IfErr, IfOk, IsTrue, List, None, OnOk, codes, false, map};

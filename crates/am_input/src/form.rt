@@ -1,4 +1,4 @@
-//! The forms of files that have a configuration. `configured` and the commands call it.
+//! The forms of files that have a configuration.
 ghost use Rattle.std.specs.Prelude.{◌≡◌, None, codes, is_some};
 ghost use Rattle.std.specs.List.{list_any};
 ghost use Rattle.serde_json.specs.Find.{get, pointer};

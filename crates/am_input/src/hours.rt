@@ -1,4 +1,4 @@
-//! The clocks of a configuration's time intervals, by the start, the end and the zones of a story. `configured` calls it.
+//! The clocks of a configuration's time intervals, by the start, the end and the zones of a story.
 //!
 //! They are read before the configuration, and without their faults: each fault comes in its own order. Where one of the
 //! three has a fault, the intervals are read without clocks.

@@ -1,13 +1,12 @@
-//! What a rehearsal asks for, and how it is read, in the strict mode of `am_cli`. `am_rehearse` calls
-//! `read_input`.
+//! What a rehearsal asks for, and how it is read, in the strict mode of `am_cli`.
 //!
 //! The inserts of each span and the silences are planned in the order of their times, each with the
 //! pointer of its value. An alert's span is two inserts: one without an end at its start, one with
 //! its end at that time, as Prometheus sends them. The configuration is `am_cli`'s, or
 //! Alertmanager's own (`configured`), whose faults are all reported; of the rest the first fault
 //! is. Contracts say by definitions over the JSON value's fields what was read for `output`,
-//! `start`, `until`, `reload`, `restart`, `maintain`, `remove_empty_groups`, `alerts`, `silences`, `outages` and `expect` (`Request`, `Decoding`,
-//! `Planned`, `Expected`).
+//! `start`, `until`, `reload`, `restart`, `maintain`, `remove_empty_groups`, `alerts`, `silences`,
+//! `outages` and `expect` (`Request`, `Decoding`, `Planned`, `Expected`).
 ghost use Rattle.std.specs.Prelude.{◌≡◌, ◌≤◌, ◌<◌, ℕ, [], IfErr, IfOk, IsTrue, List, Some, codes, false};
 ghost use Rattle.std.specs.Result.{result_ok};
 ghost use Rattle.serde_json.specs.Find.{get_member};

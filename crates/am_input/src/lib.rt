@@ -1,5 +1,5 @@
 //! Reads a story, as a JSON value: what happens in it, under which configuration, and what is to be printed of it; or
-//! its faults with their pointers. `am_rehearse` calls it.
+//! its faults with their pointers.
 //!
 //! `read_input` stops at the first fault but those of an `alertmanager.yml`, and its contract says what was read.
 //! `story_faults` goes over a refused story once more and lists all of its faults.

@@ -1,4 +1,4 @@
-//! The time of the start, and how it is read. `input` calls it.
+//! The time of the start, and how it is read.
 ghost use Rattle.std.specs.Prelude.{IfErr, IfOk, codes};
 ghost use Rattle.serde_json.specs.Find.{get_member};
 ghost use Rattle.serde_json.specs.View.{members_view};

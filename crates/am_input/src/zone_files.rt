@@ -1,5 +1,4 @@
-//! `ZoneFiles`: where the files of time zones are read from. `hours` reads the zones by it that a configuration names and
-//! a story doesn't say; `am_rehearse` hands the system's in.
+//! `ZoneFiles`: where the files of the time zones are read from that a configuration names and a story doesn't say.
 use std::alloc::AllocError;
 
 /// Where the files of time zones are read from.

@@ -1,4 +1,4 @@
-//! The time zones of a story, and how they are read. `input` and `hours` call it.
+//! The time zones of a story, and how they are read.
 ghost use Rattle.std.specs.Prelude.{⊤, IfErr, IfOk, codes};
 ghost use Rattle.serde_json.specs.Find.{get_member};
 ghost use Rattle.serde_json.specs.View.{members_view, view};

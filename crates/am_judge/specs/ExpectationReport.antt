@@ -21,6 +21,9 @@ use Rattle.am_terms.specs.declared.expectation.Content.{Content}
 use Rattle.am_terms.specs.declared.expectation.SentReason.{SentReason}
 use Rattle.am_judge.specs.declared.expectation_report.nearest.Alike.{Alike}
 use Rattle.am_judge.specs.declared.expectation_report.nearest.Alike.TheVariants.{ToReceiver, ToTarget, OfContent}
+use Rattle.am_judge.specs.declared.edge.Flushes.{Flushes}
+use Rattle.am_judge.specs.declared.edge.Side.TheVariants.{Fewer, More}
+use Rattle.am_judge.specs.Edge.{depends_on_edge, edge_of}
 use Rattle.am_judge.specs.Expectation.{are_as_wanted, count_fitting, fits, has_as_wanted, has_content, has_in_scope, is_for_integration}
 use Rattle.am_terms.specs.Expectation.{wanted_words}
 use Rattle.am_judge.specs.Expectation.{is_for_receiver, is_in_scope, is_met, is_sent_as_wanted}
@@ -315,20 +318,62 @@ abbrev pub got_text : List PlaybackData → TimeFormatData → Expectation → L
 got_text playbacks times x =
     if count_fitting playbacks x == 0 then unfitting_text playbacks times x else all_got true playbacks times x
 
+-- the two flushes of a repeat on the edge
+unfoldable pub flushes_text : TimeFormatData → Flushes → List ℕ
+flushes_text times f = codes "  edge      repeat at " ++ times.text f.first ++ codes " or " ++ times.text f.next
+
+-- a repeat on the edge: its flushes and its target
+unfoldable pub edge_line : Config → TimeFormatData → SentData → Flushes → List ℕ
+edge_line config times s f = flushes_text times f ++ getter_text config s.notice ++ codes ": the answer depends on it\n"
+
+-- the same, if there is one
+abbrev pub edge_text : Config → TimeFormatData → SentData → Option Flushes → List ℕ
+edge_text config times s None = []
+edge_text config times s (Some f) = edge_line config times s f
+
+-- the repeats that a notice is and that follows it, if they count otherwise at the first of their flushes
+abbrev pub edges_of : List PlaybackData → TimeFormatData → Expectation → PlaybackData → SentData → List ℕ
+edges_of playbacks times x playback s =
+    edge_text playback.config times s (edge_of Fewer playbacks x playback s)
+    ++ edge_text playback.config times s (edge_of More playbacks x playback s)
+
+-- those of the notice whose sending ended by this
+abbrev pub edges_by : List PlaybackData → TimeFormatData → Expectation → PlaybackData → Event → List ℕ
+edges_by playbacks times x playback event = option_map_or (edges_of playbacks times x playback) (sent_of playback event) []
+
+-- those of a playback
+abbrev pub edges_in : List PlaybackData → TimeFormatData → Expectation → PlaybackData → List ℕ
+edges_in playbacks times x playback = flat_map (edges_by playbacks times x playback) playback.events
+
+-- those of all playbacks
+abbrev pub all_edges : List PlaybackData → TimeFormatData → Expectation → List ℕ
+all_edges playbacks times x = flat_map (edges_in playbacks times x) playbacks
+
+-- the repeats on the edge on which the answer depends; nothing where it doesn't
+abbrev pub edges_text : List PlaybackData → TimeFormatData → Expectation → List ℕ
+edges_text playbacks times x = if depends_on_edge playbacks x then all_edges playbacks times x else []
+
 -- what was expected, and what came
+unfoldable pub came_text : List PlaybackData → TimeFormatData → Expectation → List ℕ
+came_text playbacks times x = expected_line playbacks times x ++ got_text playbacks times x
+
+-- the same, and the repeats on the edge
 abbrev pub answer_text : List PlaybackData → TimeFormatData → Expectation → List ℕ
-answer_text playbacks times x = expected_line playbacks times x ++ got_text playbacks times x
+answer_text playbacks times x = came_text playbacks times x ++ edges_text playbacks times x
+
+-- the answer to an expectation that is met, or not
+abbrev pub verdict_text : List PlaybackData → TimeFormatData → Expectation → List ℕ
+verdict_text playbacks times x =
+    if is_met playbacks x then codes ": met\n" ++ edges_text playbacks times x else codes ": not met\n" ++ answer_text playbacks times x
 
 -- the name of an expectation, in quotes
 abbrev pub name_text : Option (List ℕ) → List ℕ
 name_text None = []
 name_text (Some name) = codes " \"" ++ text_shown name ++ codes "\""
 
--- an expectation by its number: met, or not, and then what was expected and what came
+-- an expectation by its number, and the answer
 unfoldable pub judged_text : List PlaybackData → TimeFormatData → ℕ → Expectation → List ℕ
-judged_text playbacks times number x =
-    codes "expect " ++ decimal number ++ name_text x.name
-    ++ (if is_met playbacks x then codes ": met\n" else codes ": not met\n" ++ answer_text playbacks times x)
+judged_text playbacks times number x = codes "expect " ++ decimal number ++ name_text x.name ++ verdict_text playbacks times x
 
 -- judgement: expectations, numbered from n on
 abbrev pub expectations_text : List PlaybackData → TimeFormatData → ℕ → List Expectation → List ℕ

@@ -1,8 +1,8 @@
 -- Junit: the report on expectations as a test suite of JUnit.
-use Rattle.std.specs.Prelude.{ℕ, ◌+◌, List, [], ◌∷◌, ◌++◌, length, codes, decimal, Option, Some, None, if◌then◌else◌}
+use Rattle.std.specs.Prelude.{ℕ, ◌+◌, ◌==◌, List, [], ◌∷◌, ◌++◌, length, codes, decimal, Option, Some, None, if◌then◌else◌}
 use Rattle.am_terms.specs.declared.expectation.Expectation.{Expectation}
 use Rattle.am_judge.specs.Expectation.{is_met, unmet_from}
-use Rattle.am_judge.specs.ExpectationReport.{answer_text}
+use Rattle.am_judge.specs.ExpectationReport.{answer_text, edges_text}
 use Rattle.am_timeline.specs.Playback.{PlaybackData}
 use Rattle.am_terms.specs.TimeFormatData.{TimeFormatData}
 use Rattle.am_timeline.specs.Escaped.{escaped}
@@ -37,9 +37,21 @@ failure_with text = codes "><failure message=\"not met\">\n" ++ escaped text ++ 
 unfoldable pub failure_text : List PlaybackData → TimeFormatData → Expectation → List ℕ
 failure_text playbacks times x = failure_with (answer_text playbacks times x)
 
+-- the end of a case with an output
+abbrev pub output_text : List ℕ → List ℕ
+output_text text = codes "><system-out>\n" ++ escaped text ++ codes "</system-out></testcase>\n"
+
+-- the end of a case that is met, with a text if there is one
+abbrev pub passed_with : List ℕ → List ℕ
+passed_with text = if length text == 0 then codes "/>\n" else output_text text
+
+-- the end of a case that is met, with the repeats on the edge on which that depends
+unfoldable pub passed_text : List PlaybackData → TimeFormatData → Expectation → List ℕ
+passed_text playbacks times x = passed_with (edges_text playbacks times x)
+
 -- the end of a case: its failure, if the expectation isn't met
 abbrev pub outcome_text : List PlaybackData → TimeFormatData → Expectation → List ℕ
-outcome_text playbacks times x = if is_met playbacks x then codes "/>\n" else failure_text playbacks times x
+outcome_text playbacks times x = if is_met playbacks x then passed_text playbacks times x else failure_text playbacks times x
 
 -- the case of an expectation
 unfoldable pub case_text : List PlaybackData → TimeFormatData → ℕ → Expectation → List ℕ

@@ -1,8 +1,8 @@
-//! Whether a rehearsal meets expectations. `am_rehearse` ends with status 5 if one isn't met.
+//! Whether a rehearsal meets expectations.
 //!
 //! A rehearsal is a playback for each dispatcher, in their order, and all are judged together. Cost: for each
 //! expectation, that of the timelines of all playbacks.
-ghost use Rattle.std.specs.Prelude.{◌≡◌, ◌==◌, ◌++◌, IfOk, OnOk, true};
+ghost use Rattle.std.specs.Prelude.{◌≡◌, ◌≤◌, ◌==◌, ◌++◌, ◌*◌, ◌^◌, IfOk, OnOk, true, length};
 ghost use Rattle.std.specs.Option.{option_map_or};
 ghost use Rattle.std.specs.Str.{bytes_eq};
 ghost use Rattle.am_judge.specs.Expectation.{count_fitting, count_in, ends_fitting, ends_in_scope, fits, has_in_scope, is_for_integration};
@@ -81,7 +81,8 @@ pub(crate) fn count_fitting(
     playbacks: &[Playback<'_>],
     expectation: &Expectation,
 ) -> Result<u128, AllocError>
-    ensures { IfOk result (λ count. count ≡ count_fitting playbacks.now expectation.now) }
+    ensures counted { IfOk result (λ count. count ≡ count_fitting playbacks.now expectation.now) }
+    ensures fits { IfOk result (λ count. count ≤ length playbacks.now * 2 ^ 64) }
 {
     let mut count: u128 = 0;
     for playback in playbacks {

@@ -1,10 +1,11 @@
-//! The report on expectations for CI, as JUnit's XML. `am_rehearse` writes it.
+//! The report on expectations for CI, as JUnit's XML.
 ghost use Rattle.std.specs.Prelude.{◌≡◌, ◌++◌, IfOk, OnOk, option_copied, string_bytes};
 ghost use Rattle.am_judge.specs.Junit.{case_name, case_text, cases_text, failure_text, failure_with, failures_text, junit_text};
-ghost use Rattle.am_judge.specs.Junit.{name_escaped, outcome_text, suite_counts, suite_head};
-ghost use Rattle.am_judge.specs.ExpectationReport.{answer_text};
+ghost use Rattle.am_judge.specs.Junit.{name_escaped, outcome_text, output_text, passed_text, passed_with, suite_counts, suite_head};
+ghost use Rattle.am_judge.specs.ExpectationReport.{answer_text, edges_text};
 
 use crate::expectation::{is_met, unmet_expectations};
+use crate::expectation_report::edges::push_edges;
 use crate::expectation_report::push_answer;
 use am_alerts::text::Text;
 use am_terms::clock::{TimeFormat, push_number};
@@ -15,8 +16,8 @@ use std::alloc::{AllocError, Global};
 
 /// Returns a test suite with a test case for each expectation, in their order.
 ///
-/// One that isn't met is a failure: what was expected, and the notices that came. Cost: three times that of
-/// `expectations_text`.
+/// One that isn't met is a failure: what was expected, and the notices that came. Where the answer depends on repeats on the
+/// edge, those follow. Cost: three times that of `expectations_text`.
 pub fn junit_text<C: TimeFormat>(
     alloc: Global,
     playbacks: &[Playback<'_>],
@@ -131,9 +132,58 @@ fn push_outcome<C: TimeFormat>(
         ≡ string_bytes out.old ++ outcome_text playbacks.now (C.times clock.now) expectation.now) }
 {
     if is_met(alloc, playbacks, expectation)? {
-        return out.push_str("/>\n");
+        return push_passed(alloc, playbacks, clock, expectation, out);
     }
     push_failure(alloc, playbacks, clock, expectation, out)
+}
+
+/// Adds the end of a case that is met, with the repeats on the edge on which that depends.
+#[tactic(auto, unfolding(crate::specs::Junit::passed_text))]
+fn push_passed<C: TimeFormat>(
+    alloc: Global,
+    playbacks: &[Playback<'_>],
+    clock: &C,
+    expectation: &Expectation,
+    out: &mut String,
+) -> Result<(), AllocError>
+    ensures { OnOk result (string_bytes out.new
+        ≡ string_bytes out.old ++ passed_text playbacks.now (C.times clock.now) expectation.now) }
+{
+    let edges = edges_of(alloc, playbacks, clock, expectation)?;
+    push_passed_with(edges.as_str(), out)
+}
+
+/// Adds the end of a case that is met, with a text if there is one.
+fn push_passed_with(text: &str, out: &mut String) -> Result<(), AllocError>
+    ensures { OnOk result (string_bytes out.new ≡ string_bytes out.old ++ passed_with text.now) }
+{
+    if text.is_empty() {
+        return out.push_str("/>\n");
+    }
+    push_output(text, out)
+}
+
+fn push_output(text: &str, out: &mut String) -> Result<(), AllocError>
+    ensures { OnOk result (string_bytes out.new ≡ string_bytes out.old ++ output_text text.now) }
+{
+    out.push_str("><system-out>\n")?;
+    push_escaped(text, out)?;
+    out.push_str("</system-out></testcase>\n")?;
+    Ok(())
+}
+
+/// Returns the repeats on the edge on which an answer depends.
+fn edges_of<C: TimeFormat>(
+    alloc: Global,
+    playbacks: &[Playback<'_>],
+    clock: &C,
+    expectation: &Expectation,
+) -> Result<String, AllocError>
+    ensures { IfOk result (λ text. string_bytes text ≡ edges_text playbacks.now (C.times clock.now) expectation.now) }
+{
+    let mut edges = String::new(alloc);
+    push_edges(alloc, playbacks, clock, expectation, &mut edges)?;
+    Ok(edges)
 }
 
 #[tactic(auto, unfolding(crate::specs::Junit::failure_text))]

@@ -8,8 +8,10 @@ use Rattle.am_cli.specs.declared.reader.Mode.{Mode}
 use Rattle.am_model.specs.declared.config.Config.{Config}
 use Rattle.am_lines.specs.declared.call.CallName.{CallName}
 use Rattle.am_lines.specs.declared.call.CallName.TheVariants as call
+use Rattle.am_lines.specs.declared.check.LinePart.{LinePart}
 use Rattle.am_lines.specs.declared.request.Finishing.{Finishing}
 use Rattle.am_lines.specs.declared.request.Insertion.{Insertion}
+use Rattle.am_lines.specs.declared.request.LabelsAt.{LabelsAt}
 use Rattle.am_lines.specs.declared.request.ListedInsert.{ListedInsert}
 use Rattle.am_lines.specs.declared.request.Loading.{Loading}
 use Rattle.am_lines.specs.declared.request.Noting.{Noting}
@@ -18,7 +20,8 @@ use Rattle.am_lines.specs.declared.request.Silencing.{Silencing}
 use Rattle.am_lines.specs.declared.request.Timed.{Timed}
 use Rattle.am_lines.specs.declared.request.Request.{Request}
 use Rattle.am_lines.specs.declared.request.Request.TheVariants as request
-use Rattle.am_lines.specs.Request.{DecodesToFinishing, DecodesToInsertion, DecodesToListed, DecodesToLoading, DecodesToNoting, DecodesToReporting, DecodesToSilencing, DecodesToTimed}
+use Rattle.am_lines.specs.Check.{DecodesToPart, part_compares_texts}
+use Rattle.am_lines.specs.Request.{DecodesToFinishing, DecodesToInsertion, DecodesToLabelsAt, DecodesToListed, DecodesToLoading, DecodesToNoting, DecodesToReporting, DecodesToSilencing, DecodesToTimed}
 use Rattle.am_lines.specs.Request.{HasNoArguments, IsCallOf, is_never_refused}
 
 -- what is asked by this call, and is never refused
@@ -32,6 +35,10 @@ of_config mode value asked is = absurd is.0
 pub of_alertmanager : (mode : Mode) (value : Data) (asked : Request) → IsSure mode call.Alertmanager value asked → ⊥
 of_alertmanager mode value (request.Open x) is = absurd (cc is.1)
 of_alertmanager mode value asked is = absurd is.0
+
+pub of_open : (mode : Mode) (value : Data) (asked : Request) → IsSure mode call.Open value asked → ⊥
+of_open mode value (request.Open x) is = absurd (cc is.1)
+of_open mode value asked is = absurd is.0
 
 pub of_insert : (mode : Mode) (value : Data) (asked : Request) → IsSure mode call.Insert value asked → (x : Insertion) × DecodesToInsertion mode value x
 of_insert mode value (request.Insert x) is = (x, is.0)
@@ -81,6 +88,10 @@ pub of_outlook : (mode : Mode) (value : Data) (asked : Request) → IsSure mode 
 of_outlook mode value (request.Outlook x) is = (x, is.0)
 of_outlook mode value asked is = absurd is.0
 
+pub of_status : (mode : Mode) (value : Data) (asked : Request) → IsSure mode call.Status value asked → (x : LabelsAt) × DecodesToLabelsAt mode value x
+of_status mode value (request.Status x) is = (x, is.0)
+of_status mode value asked is = absurd is.0
+
 pub of_next_due : (mode : Mode) (value : Data) (asked : Request) → IsSure mode call.NextDue value asked → HasNoArguments mode value
 of_next_due mode value request.NextDue is = is.0
 of_next_due mode value asked is = absurd is.0
@@ -104,3 +115,7 @@ of_tickets mode value asked is = absurd is.0
 pub of_take_history : (mode : Mode) (value : Data) (asked : Request) → IsSure mode call.TakeHistory value asked → HasNoArguments mode value
 of_take_history mode value request.TakeHistory is = is.0
 of_take_history mode value asked is = absurd is.0
+
+pub of_check : (mode : Mode) (value : Data) (asked : Request) → IsSure mode call.Check value asked → (x : LinePart) × DecodesToPart mode value x × IsTrue (part_compares_texts x)
+of_check mode value (request.Check x) is = (x, is.0, is.1)
+of_check mode value asked is = absurd is.0

@@ -36,6 +36,7 @@ text_of_named name c is = (bytes_eq-Decides (call_text c) name).0 (passes (λ d.
 pub named_itself : (c : CallName) → call_named (call_text c) ≡ Some c
 named_itself call.Config = refl
 named_itself call.Alertmanager = refl
+named_itself call.Open = refl
 named_itself call.Insert = refl
 named_itself call.Inserts = refl
 named_itself call.Silence = refl
@@ -49,11 +50,13 @@ named_itself call.Forget = refl
 named_itself call.Load = refl
 named_itself call.NextDue = refl
 named_itself call.Outlook = refl
+named_itself call.Status = refl
 named_itself call.Rows = refl
 named_itself call.Groups = refl
 named_itself call.Summary = refl
 named_itself call.Tickets = refl
 named_itself call.TakeHistory = refl
+named_itself call.Check = refl
 
 -- ---- what a line of another form is refused for
 

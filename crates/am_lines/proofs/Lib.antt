@@ -1,4 +1,6 @@
 pub mod Asked
+pub mod CheckedParts
+pub mod Clocks
 pub mod Forms
 pub mod Members
 pub mod NamedPieces

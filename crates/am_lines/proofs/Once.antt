@@ -14,7 +14,7 @@ use Rattle.am_mute.specs.declared.silence.SilenceFault.TheVariants.{BadTimes, No
 use Rattle.am_cli.proofs.Once.{IsOne, one_pairs, one_read}
 use Rattle.am_cli.specs.Configured.{DecodesToLabels}
 use Rattle.am_cli.specs.declared.reader.Mode.{Mode}
-use Rattle.am_lines.specs.Request.{IsEnd, IsNow, time_in}
+use Rattle.am_lines.specs.Time.{IsEnd, IsNow, time_in}
 
 pub one_now : IsOne IsNow
 one_now value x y is also = one_read time_in value x y is.0 also.0

@@ -13,6 +13,7 @@ use Rattle.am_lines.specs.declared.call.TheConstants.{CALLS}
 abbrev pub call_text : CallName → List ℕ
 call_text call.Config = codes "config"
 call_text call.Alertmanager = codes "alertmanager"
+call_text call.Open = codes "open"
 call_text call.Insert = codes "insert"
 call_text call.Inserts = codes "inserts"
 call_text call.Silence = codes "silence"
@@ -26,11 +27,13 @@ call_text call.Forget = codes "forget"
 call_text call.Load = codes "load"
 call_text call.NextDue = codes "next_due"
 call_text call.Outlook = codes "outlook"
+call_text call.Status = codes "status"
 call_text call.Rows = codes "rows"
 call_text call.Groups = codes "groups"
 call_text call.Summary = codes "summary"
 call_text call.Tickets = codes "tickets"
 call_text call.TakeHistory = codes "take_history"
+call_text call.Check = codes "check"
 
 -- the call of a name
 abbrev pub call_named : List ℕ → Option CallName

@@ -55,7 +55,7 @@ kind_of (fault.NotMade pointer kind message) = kind.now
 -- the message of a fault, for people
 abbrev pub message_of : LineFault → List ℕ
 message_of (fault.NotJson column) = codes "the line is no JSON text in UTF-8, or nests too deep"
-message_of fault.TooLong = codes "the line has more than 16,777,216 bytes"
+message_of fault.TooLong = codes "the line has more than 67,108,864 bytes"
 message_of fault.NoMemory = codes "out of memory"
 message_of fault.Untold = codes "the call was made, and there was no memory to write its answer"
 message_of fault.Spent = codes "no open flush has this ticket"

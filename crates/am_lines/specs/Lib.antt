@@ -1,11 +1,17 @@
 pub mod Answer
+pub mod Begun
 pub mod Call
+pub mod Check
 pub mod Fault
+pub mod Hours
 pub mod Inserts
 pub mod Lines
 pub mod Logged
+pub mod Opening
 pub mod Record
 pub mod Reply
 pub mod Request
+pub mod Status
+pub mod Time
 pub mod View
 pub mod Wanted

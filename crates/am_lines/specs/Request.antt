@@ -6,50 +6,34 @@ use Rattle.am_alerts.specs.AlertData.{alert_fault, alert_of}
 use Rattle.am_alerts.specs.Matcher.{compare_texts}
 use Rattle.am_alerts.specs.declared.labels.Label.{Label}
 use Rattle.am_alerts.specs.declared.limits.TheConstants.{MAX_TIME}
-use Rattle.am_cli.specs.Configured.{DecodesToConfig, DecodesToLabels, DecodesToMatcher, config_compares_texts}
+use Rattle.am_cli.specs.Configured.{DecodesToLabels, DecodesToMatcher, config_compares_texts}
 use Rattle.am_cli.specs.Decoding.{IsList, IsNumber, IsObject, IsText, Has, HasIf, HasOr}
 use Rattle.am_cli.specs.Read.{Excludes, has_only, number_in, duration_in}
 use Rattle.am_cli.specs.declared.reader.Mode.{Mode}
-use Rattle.am_config.specs.IgnoredSettings.{nothing}
 use Rattle.am_retry.specs.declared.outcome.Outcome.{Outcome}
 use Rattle.am_retry.specs.declared.outcome.Outcome.TheVariants.{Delivered, Refused, Expired, Starved}
 use Rattle.am_mute.specs.Silence.{silence_fault}
-use Rattle.am_model.specs.Config.{config_fault}
 use Rattle.am_lines.specs.Call.{call_text}
+use Rattle.am_lines.specs.Check.{DecodesToPart, part_compares_texts}
+use Rattle.am_lines.specs.Opening.{IsClockedOpening, IsOwnOpening, IsTheirOpening}
+use Rattle.am_lines.specs.Time.{IsEnd, IsNow, IsTime}
 use Rattle.am_lines.specs.declared.call.CallName.{CallName}
 use Rattle.am_lines.specs.declared.call.CallName.TheVariants as call
 use Rattle.am_lines.specs.declared.request.Finishing.{Finishing}
 use Rattle.am_lines.specs.declared.request.Insertion.{Insertion}
+use Rattle.am_lines.specs.declared.request.LabelsAt.{LabelsAt}
 use Rattle.am_lines.specs.declared.request.ListedInsert.{ListedInsert}
 use Rattle.am_lines.specs.declared.request.ListedInsert.TheVariants as listed
 use Rattle.am_lines.specs.declared.request.Loading.{Loading}
 use Rattle.am_lines.specs.declared.request.NamedGroup.{NamedGroup}
 use Rattle.am_lines.specs.declared.request.NamedRow.{NamedRow}
 use Rattle.am_lines.specs.declared.request.Noting.{Noting}
-use Rattle.am_lines.specs.declared.request.Opening.{Opening}
 use Rattle.am_lines.specs.declared.request.Reporting.{Reporting}
 use Rattle.am_lines.specs.declared.request.Silencing.{Silencing}
 use Rattle.am_lines.specs.declared.request.Timed.{Timed}
 use Rattle.am_lines.specs.declared.request.TheConstants.{MAX_POSITION}
 use Rattle.am_lines.specs.declared.request.Request.{Request}
 use Rattle.am_lines.specs.declared.request.Request.TheVariants as request
-
--- a time, in milliseconds: a duration where the value is a text, else a number
-abbrev pub time_in : Data → Option ℕ
-time_in value = if is_some (as_str value) then duration_in value else number_in value
-
--- a time
-abbrev pub IsTime : Data → ℕ → Type 0
-IsTime value time = time_in value ≡ Some time
-
--- the time of a call, which is before the greatest: at that a board's clock would stay
-abbrev pub IsNow : Data → ℕ → Type 0
-IsNow value now = IsTime value now × (now < MAX_TIME)
-
--- a time, or `null` for none
-abbrev pub IsEnd : Data → Option ℕ → Type 0
-IsEnd value None = as_null value ≡ Some tt
-IsEnd value (Some end) = IsTime value end
 
 -- how a sending ended
 abbrev pub outcome_word : Outcome → List ℕ
@@ -76,6 +60,15 @@ pub record HasTimed (mode : Mode) (members : Members) (timed : Timed) : Type 0 w
 
 abbrev pub DecodesToTimed : Mode → Data → Timed → Type 0
 DecodesToTimed mode value timed = IsObject (HasTimed mode) value timed
+
+-- a label set whose status is asked, at a time
+pub record HasLabelsAt (mode : Mode) (members : Members) (asked : LabelsAt) : Type 0 where
+  pub only : IsTrue (has_only mode (codes "now" ∷ codes "labels" ∷ []) members)
+  pub now : Has IsNow (codes "now") members asked.now
+  pub labels : Has (DecodesToLabels mode) (codes "labels") members asked.labels
+
+abbrev pub DecodesToLabelsAt : Mode → Data → LabelsAt → Type 0
+DecodesToLabelsAt mode value asked = IsObject (HasLabelsAt mode) value asked
 
 -- the names of the arguments of an insert
 abbrev pub insertion_names : List (List ℕ)
@@ -187,16 +180,11 @@ pub record HasLoading (mode : Mode) (members : Members) (loading : Loading) : Ty
 abbrev pub DecodesToLoading : Mode → Data → Loading → Type 0
 DecodesToLoading mode value loading = IsObject (HasLoading mode) value loading
 
--- a configuration of our own, of which nothing is ignored
-pub record IsOwnOpening (mode : Mode) (value : Data) (opening : Opening) : Type 0 where
-  pub config : DecodesToConfig mode value opening.config
-  pub ignored : opening.ignored ≡ nothing
-  pub sound : config_fault opening.config ≡ None
-
--- the value of a call has the arguments of the request. Of a configuration of Alertmanager no more is said than that a board may have it
+-- the value of a call has the arguments of the request
 abbrev pub IsCallOf : Mode → CallName → Data → Request → Type 0
 IsCallOf mode call.Config value (request.Open x) = IsOwnOpening mode value x
-IsCallOf mode call.Alertmanager value (request.Open x) = config_fault x.config ≡ None
+IsCallOf mode call.Alertmanager value (request.Open x) = IsTheirOpening value x
+IsCallOf mode call.Open value (request.Open x) = IsClockedOpening mode value x
 IsCallOf mode call.Insert value (request.Insert x) = DecodesToInsertion mode value x
 IsCallOf mode call.Inserts value (request.Inserts xs) = IsList (DecodesToListed mode) value xs.items
 IsCallOf mode call.Silence value (request.Silence x) = DecodesToSilencing mode value x
@@ -210,11 +198,13 @@ IsCallOf mode call.Forget value (request.Forget x) = DecodesToTimed mode value x
 IsCallOf mode call.Load value (request.Load x) = DecodesToLoading mode value x
 IsCallOf mode call.NextDue value request.NextDue = HasNoArguments mode value
 IsCallOf mode call.Outlook value (request.Outlook x) = DecodesToTimed mode value x
+IsCallOf mode call.Status value (request.Status x) = DecodesToLabelsAt mode value x
 IsCallOf mode call.Rows value request.Rows = HasNoArguments mode value
 IsCallOf mode call.Groups value request.Groups = HasNoArguments mode value
 IsCallOf mode call.Summary value request.Summary = HasNoArguments mode value
 IsCallOf mode call.Tickets value request.Tickets = HasNoArguments mode value
 IsCallOf mode call.TakeHistory value request.TakeHistory = HasNoArguments mode value
+IsCallOf mode call.Check value (request.Check x) = DecodesToPart mode value x
 IsCallOf mode name value asked = ⊥
 
 -- a line that asks this by this call: an object whose one member has the name of the call
@@ -231,10 +221,12 @@ IsRequestIn mode line asked = (name : CallName) × IsRequestBy mode line name as
 abbrev pub needs_no_regex : Request → Bool
 needs_no_regex (request.Open x) = config_compares_texts x.config
 needs_no_regex (request.Silence x) = compare_texts x.silence.matchers
+needs_no_regex (request.Check x) = part_compares_texts x
 needs_no_regex asked = true
 
 abbrev pub is_of_alertmanager : CallName → Bool
 is_of_alertmanager call.Alertmanager = true
+is_of_alertmanager call.Open = true
 is_of_alertmanager name = false
 
 -- whether what is asked by this call is never refused: a regex can be refused for its size, and a configuration of Alertmanager for

@@ -1,4 +1,4 @@
-//! `Answer`: the JSON text of an answer, written piece by piece. The modules that write answers call it.
+//! `Answer`: the JSON text of an answer, written piece by piece.
 ghost use Rattle.std.specs.Prelude.{◌≡◌, ◌++◌, [], ◌∷◌, decimal, IfOk, OnOk};
 ghost use Rattle.std.specs.List.{flat_map};
 ghost use Rattle.json.specs.Print.{print};

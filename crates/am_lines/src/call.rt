@@ -1,4 +1,4 @@
-//! `CallName`: the names of the calls, one of which is the name of a line's one member. `request` calls it.
+//! `CallName`: the names of the calls, one of which is the name of a line's one member.
 ghost use Rattle.std.specs.Prelude.{◌≡◌, IfOk, IfErr, IsSomeAnd, find};
 ghost use Rattle.std.specs.Str.{bytes_eq};
 ghost use Rattle.serde_json.specs.Data.{member, no_members};
@@ -10,11 +10,12 @@ use am_cli::fault::{FaultKind, InputFault};
 use am_cli::reader::{Object, Reader};
 use serde_json::Value;
 
-/// Which call a line asks for. The two configurations each open a board.
+/// Which call a line asks for. The first three each open a board.
 #[derive(Clone, Copy)]
 pub enum CallName {
     Config,
     Alertmanager,
+    Open,
     Insert,
     Inserts,
     Silence,
@@ -28,17 +29,20 @@ pub enum CallName {
     Load,
     NextDue,
     Outlook,
+    Status,
     Rows,
     Groups,
     Summary,
     Tickets,
     TakeHistory,
+    Check,
 }
 
 /// All calls.
-const CALLS: [CallName; 20] = [
+const CALLS: [CallName; 23] = [
     CallName::Config,
     CallName::Alertmanager,
+    CallName::Open,
     CallName::Insert,
     CallName::Inserts,
     CallName::Silence,
@@ -52,11 +56,13 @@ const CALLS: [CallName; 20] = [
     CallName::Load,
     CallName::NextDue,
     CallName::Outlook,
+    CallName::Status,
     CallName::Rows,
     CallName::Groups,
     CallName::Summary,
     CallName::Tickets,
     CallName::TakeHistory,
+    CallName::Check,
 ];
 
 impl CallName {
@@ -67,6 +73,7 @@ impl CallName {
         match self {
             CallName::Config => "config",
             CallName::Alertmanager => "alertmanager",
+            CallName::Open => "open",
             CallName::Insert => "insert",
             CallName::Inserts => "inserts",
             CallName::Silence => "silence",
@@ -80,11 +87,13 @@ impl CallName {
             CallName::Load => "load",
             CallName::NextDue => "next_due",
             CallName::Outlook => "outlook",
+            CallName::Status => "status",
             CallName::Rows => "rows",
             CallName::Groups => "groups",
             CallName::Summary => "summary",
             CallName::Tickets => "tickets",
             CallName::TakeHistory => "take_history",
+            CallName::Check => "check",
         }
     }
 }

@@ -37,7 +37,7 @@ pub enum LineFault {
     NotJson {
         column: usize,
     },
-    /// It has more than 16,777,216 bytes.
+    /// It has more than 67,108,864 bytes.
     TooLong,
     /// Out of memory.
     NoMemory,
@@ -277,7 +277,7 @@ impl LineFault {
                 "json",
                 "the line is no JSON text in UTF-8, or nests too deep",
             ),
-            LineFault::TooLong => ("length", "the line has more than 16,777,216 bytes"),
+            LineFault::TooLong => ("length", "the line has more than 67,108,864 bytes"),
             LineFault::NoMemory => ("memory", "out of memory"),
             LineFault::Untold => (
                 "untold",

@@ -1,4 +1,4 @@
-//! `InsertEnd`: what became of one of several inserts. `am_dispatch` hands them to `write_list`.
+//! `InsertEnd`: what became of one of several inserts.
 use crate::answer::{Answer, ToJson};
 use crate::fault::LineFault;
 use crate::reply::write_inserted;

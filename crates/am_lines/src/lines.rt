@@ -1,4 +1,4 @@
-//! `LineReader`: the lines of an input, one after the other. `am_dispatch` calls it.
+//! `LineReader`: the lines of an input, one after the other.
 //!
 //! A read hands what is there, and the next read comes when all of it was used: a line is answered before more is waited for.
 ghost use Rattle.std.specs.Prelude.{◌≡◌, ◌≢◌, ◌≤◌, ◌<◌, ◌+◌, ◌++◌, [], ◌↔◌, List, ℕ, ◌==◌};
@@ -20,7 +20,7 @@ const CHUNK: usize = 8_192;
 pub enum LineRead {
     /// The line is there, without its line feed.
     Complete,
-    /// It has more than 16,777,216 bytes. It was read to its end, and isn't kept.
+    /// It has more than 67,108,864 bytes. It was read to its end, and isn't kept.
     TooLong,
     /// There was no memory for it. It was read to its end, and isn't kept.
     NoMemory,

@@ -1,4 +1,4 @@
-//! The answers to a note and to a finish, with the rows that they logged. `am_dispatch` calls it.
+//! The answers to a note and to a finish, with the rows that they logged.
 ghost use Rattle.std.specs.Prelude.{◌≡◌, ◌++◌, OnOk};
 ghost use Rattle.am_lines.specs.Logged.{finished_tokens, noted_tokens};
 

@@ -1,5 +1,4 @@
-//! The records of a history: each accepted call as the line that asks for it, with its reply. `am_dispatch` hands them to
-//! `write_list`.
+//! The records of a history: each accepted call as the line that asks for it, with its reply.
 ghost use Rattle.std.specs.Prelude.{◌≡◌, ◌++◌, OnOk};
 ghost use Rattle.am_lines.specs.Record.{call_tokens, finish_tokens, insert_tokens, load_tokens, note_tokens, outcome_tokens, report_tokens};
 ghost use Rattle.am_lines.specs.Record.{silence_tokens, timed_tokens};
@@ -48,8 +47,7 @@ fn write_call(config: &Config, call: &Call, answer: &mut Answer) -> Result<(), A
             *now,
             *id,
             matchers.get().as_slice(),
-            *start,
-            *end,
+            (*start, *end),
             answer,
         ),
         Call::Begin { now } => write_timed("begin", *now, answer),
@@ -94,17 +92,18 @@ fn write_insert(
     end(answer)
 }
 
+/// Writes a silence from one time to another.
 fn write_silence(
     config: &Config,
     now: u64,
     id: u64,
     matchers: &[MatcherParts],
-    starts: u64,
-    ends: u64,
+    times: (u64, u64),
     answer: &mut Answer,
 ) -> Result<(), AllocError>
-    ensures { OnOk result (answer.new ≡ answer.old ++ silence_tokens now id matchers.now starts ends) }
+    ensures { OnOk result (answer.new ≡ answer.old ++ silence_tokens now id matchers.now times.0 times.1) }
 {
+    let (starts, ends) = times;
     begin("silence", answer)?;
     answer.put_number("now", now)?;
     answer.put_number("id", id)?;

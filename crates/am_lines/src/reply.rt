@@ -1,4 +1,4 @@
-//! The answers to calls: the board's replies. `am_dispatch` calls it.
+//! The answers to calls: the board's replies.
 ghost use Rattle.std.specs.Prelude.{◌≡◌, ◌++◌, ◌∷◌, [], OnOk};
 ghost use Rattle.std.specs.List.{flat_map};
 ghost use Rattle.json.specs.Token.{begin_object, end_object, key};
@@ -60,8 +60,8 @@ pub fn write_named(name: &str, answer: &mut Answer) -> Result<(), AllocError>
     end(answer)
 }
 
-/// Opens an object with one member, which is an object.
-pub(crate) fn begin(name: &str, answer: &mut Answer) -> Result<(), AllocError>
+/// Adds the beginning of an object with one member, which is an object. `end` adds its end.
+pub fn begin(name: &str, answer: &mut Answer) -> Result<(), AllocError>
     ensures { OnOk result (answer.new ≡ answer.old ++ begin_object ∷ key name.now ∷ begin_object ∷ []) }
 {
     answer.open()?;
@@ -69,8 +69,8 @@ pub(crate) fn begin(name: &str, answer: &mut Answer) -> Result<(), AllocError>
     answer.open()
 }
 
-/// Closes it.
-pub(crate) fn end(answer: &mut Answer) -> Result<(), AllocError>
+/// Adds the end of an object with one member, which is an object.
+pub fn end(answer: &mut Answer) -> Result<(), AllocError>
     ensures { OnOk result (answer.new ≡ answer.old ++ end_object ∷ end_object ∷ []) }
 {
     answer.close()?;
@@ -135,7 +135,7 @@ fn write_begun(
 }
 
 /// Writes that a flush was opened, with its ticket and its notices.
-pub fn write_flush(
+fn write_flush(
     config: &Config,
     number: u64,
     group: &GroupName,
@@ -228,7 +228,7 @@ pub fn write_opened(
 }
 
 /// Adds which settings are ignored.
-fn put_ignored(ignored: &IgnoredSettings, answer: &mut Answer) -> Result<(), AllocError>
+pub(crate) fn put_ignored(ignored: &IgnoredSettings, answer: &mut Answer) -> Result<(), AllocError>
     ensures { OnOk result (answer.new ≡ answer.old ++ ignored_members ignored.now) }
 {
     answer.key("ignored")?;
@@ -238,7 +238,7 @@ fn put_ignored(ignored: &IgnoredSettings, answer: &mut Answer) -> Result<(), All
 }
 
 /// Adds the names of the routes, by their positions.
-fn put_routes(routes: &Routes, answer: &mut Answer) -> Result<(), AllocError>
+pub(crate) fn put_routes(routes: &Routes, answer: &mut Answer) -> Result<(), AllocError>
     ensures { OnOk result (answer.new ≡ answer.old ++ routes_members routes.now) }
 {
     answer.key("routes")?;

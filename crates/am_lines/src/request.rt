@@ -1,4 +1,4 @@
-//! What a line asks, and how it is read. `am_dispatch` calls `read_request`.
+//! What a line asks, and how it is read.
 //!
 //! A line is an object with one member. The member's name is that of a call, and its value has the arguments.
 ghost use Rattle.std.specs.Prelude.{◌≡◌, ◌≢◌, ◌≤◌, ℕ, List, Option, IfErr, IfOk, IfSome, IsErrAnd, IsTrue, None, Some, codes, length};
@@ -10,35 +10,28 @@ ghost use Rattle.am_alerts.specs.Matcher.{compare_texts};
 ghost use Rattle.am_alerts.specs.declared.labels.Label.{Label};
 ghost use Rattle.am_alerts.specs.declared.limits.TheConstants.{MAX_MATCHERS};
 ghost use Rattle.am_alerts.specs.declared.matcher.MatcherParts.{MatcherParts};
-ghost use Rattle.am_cli.specs.Configured.{DecodesToConfig, DecodesToLabels, DecodesToMatcher, config_compares_texts};
+ghost use Rattle.am_cli.specs.Configured.{DecodesToLabels, DecodesToMatcher};
 ghost use Rattle.am_cli.specs.Decoding.{Has, HasIf, IsList, IsNumber, IsText};
 ghost use Rattle.am_cli.specs.Read.{Excludes, IsRefusedBy, is_refusal};
 ghost use Rattle.am_mute.specs.Silence.{silence_fault, silence_of};
-ghost use Rattle.am_config.specs.IgnoredSettings.{nothing};
-ghost use Rattle.am_model.specs.Config.{config_fault};
 ghost use Rattle.am_lines.specs.Request.{DecodesToListed, HasNoArguments, IsCallOf, IsGroupLabels, IsOutcome, IsPosition, IsRequestIn};
 ghost use Rattle.am_lines.specs.Call.{form_fault};
 ghost use Rattle.am_lines.specs.Request.{IsSureRequestIn, is_never_refused, outcome_word};
 
 use crate::call::{CallName, call_named, only_member};
+use crate::check::LinePart;
+use crate::opening::{Opening, read_clocked, read_own, read_theirs};
 use crate::time::{ends, now_at, time_at, time_or};
 use am_alerts::alert::{Alert, AlertFault};
 use am_alerts::labels::Labels;
 use am_alerts::limits::{MAX_MATCHERS, MAX_TIME};
 use am_alerts::matcher::Matcher;
 use am_alerts::text::Text;
-use am_cli::config::read_config;
 use am_cli::fault::{FaultKind, InputFault};
-use am_cli::faults::{Faults, Refusal};
 use am_cli::labels::read_labels;
 use am_cli::reader::{FromJson, Object, Reader};
-use am_config::alertmanager::read_alertmanager;
-use am_config::dropped::IgnoredSettings;
-use am_config::settings::Checking;
-use am_model::config::Config;
 use am_mute::silence::{Silence, SilenceFault};
 use am_retry::Outcome;
-use std::alloc::Global;
 
 /// The greatest position of an integration that is read: that of 32 bits.
 const MAX_POSITION: u64 = 4_294_967_295;
@@ -64,6 +57,8 @@ pub enum Request {
     NextDue,
     /// What a begin would do.
     Outlook(Timed),
+    /// What mutes a label set, and its routes.
+    Status(LabelsAt),
     Rows,
     Groups,
     Summary,
@@ -71,14 +66,8 @@ pub enum Request {
     Tickets,
     /// The records that the board keeps, which it then keeps no longer.
     TakeHistory,
-}
-
-/// The configuration of a new board.
-#[derive(Drop)]
-pub struct Opening {
-    pub config: Config,
-    /// What the configuration also says, which is ignored.
-    pub ignored: IgnoredSettings,
+    /// Whether a part of another line would be read.
+    Check(LinePart),
 }
 
 /// An alert to be inserted, at this time in milliseconds.
@@ -107,6 +96,13 @@ pub struct Silencing {
 #[derive(Drop)]
 pub struct Timed {
     pub now: u64,
+}
+
+/// A label set whose status is asked, at this time in milliseconds.
+#[derive(Drop)]
+pub struct LabelsAt {
+    pub now: u64,
+    pub labels: Labels,
 }
 
 /// How the sending to an integration of an open flush ended.
@@ -194,7 +190,8 @@ fn read_call(value: &Reader<'_, '_>, call: CallName) -> Result<Request, InputFau
 {
     match call {
         CallName::Config => Ok(Request::Open(read_own(value)?)),
-        CallName::Alertmanager => Ok(Request::Open(read_theirs(value)?)),
+        CallName::Alertmanager => Ok(Request::Open(read_theirs(value, None)?)),
+        CallName::Open => Ok(Request::Open(read_clocked(value)?)),
         CallName::Insert => Ok(Request::Insert(Insertion::read(value)?)),
         CallName::Inserts => Ok(Request::Inserts(value.list::<ListedInsert>()?)),
         CallName::Silence => Ok(Request::Silence(Silencing::read(value)?)),
@@ -208,11 +205,13 @@ fn read_call(value: &Reader<'_, '_>, call: CallName) -> Result<Request, InputFau
         CallName::Load => Ok(Request::Load(Loading::read(value)?)),
         CallName::NextDue => without_arguments(value, Request::NextDue),
         CallName::Outlook => Ok(Request::Outlook(Timed::read(value)?)),
+        CallName::Status => Ok(Request::Status(LabelsAt::read(value)?)),
         CallName::Rows => without_arguments(value, Request::Rows),
         CallName::Groups => without_arguments(value, Request::Groups),
         CallName::Summary => without_arguments(value, Request::Summary),
         CallName::Tickets => without_arguments(value, Request::Tickets),
         CallName::TakeHistory => without_arguments(value, Request::TakeHistory),
+        CallName::Check => Ok(Request::Check(LinePart::read(value)?)),
     }
 }
 
@@ -238,55 +237,6 @@ fn member<'v, T: FromJson<'v>>(line: &Object<'v, '_>, name: &str) -> Result<T, I
     Ok(value)
 }
 
-/// Reads a configuration of our own.
-fn read_own(value: &Reader<'_, '_>) -> Result<Opening, InputFault>
-    ensures fault { IfOk result (λ opening. config_fault opening.config ≡ None) }
-    ensures decoded { IfOk result (λ opening. DecodesToConfig value.now.mode (view value.now.value) opening.config) }
-    ensures ignored { IfOk result (λ opening. opening.ignored ≡ nothing) }
-    ensures refused { IfErr result (Excludes (λ config.
-        DecodesToConfig value.now.mode (view value.now.value) config × IsTrue (config_compares_texts config))) }
-{
-    let config = read_config(value)?;
-    Ok(Opening {
-        config,
-        ignored: IgnoredSettings::nothing(),
-    })
-}
-
-/// Reads a configuration of Alertmanager.
-fn read_theirs(value: &Reader<'_, '_>) -> Result<Opening, InputFault>
-    ensures { IfOk result (λ opening. config_fault opening.config ≡ None) }
-{
-    match read_alertmanager(value, None, Checking::NamesAlone) {
-        Ok(read) => {
-            // (no line says on which day times begin)
-            if read.timed {
-                return Err(value.refuse(FaultKind::Unsupported));
-            }
-            Ok(Opening {
-                config: read.config,
-                ignored: read.dropped,
-            })
-        }
-        Err(Refusal::One(fault)) => Err(fault),
-        Err(Refusal::All(faults)) => Err(first_of(value.alloc(), &faults)),
-    }
-}
-
-/// The first of these faults.
-fn first_of(alloc: Global, faults: &Faults) -> InputFault {
-    match faults.as_slice().first() {
-        None => InputFault::NoMemory,
-        Some(fault) => match String::from_str(alloc, fault.pointer.as_str()) {
-            Err(_) => InputFault::NoMemory,
-            Ok(pointer) => InputFault::Refused {
-                pointer,
-                fault_kind: fault.fault_kind,
-            },
-        },
-    }
-}
-
 impl<'v> FromJson<'v> for Timed {
     ghost use Rattle.std.specs.Prelude.{true};
     ghost use Rattle.am_lines.specs.Request.{DecodesToTimed};
@@ -301,6 +251,23 @@ impl<'v> FromJson<'v> for Timed {
         Ok(Timed {
             now: now_at(&call)?,
         })
+    }
+}
+
+impl<'v> FromJson<'v> for LabelsAt {
+    ghost use Rattle.std.specs.Prelude.{true};
+    ghost use Rattle.am_lines.specs.Request.{DecodesToLabelsAt};
+
+    ghost decodes_to = { λ mode value asked. DecodesToLabelsAt mode value asked };
+
+    ghost never_refused = { λ _. true };
+
+    fn read(reader: &Reader<'v, '_>) -> Result<LabelsAt, InputFault> {
+        let call = reader.object()?;
+        call.only(&["now", "labels"])?;
+        let now = now_at(&call)?;
+        let labels = member(&call, "labels")?;
+        Ok(LabelsAt { now, labels })
     }
 }
 

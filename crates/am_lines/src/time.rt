@@ -1,10 +1,10 @@
-//! Times in lines: milliseconds, or the text of a duration. `request` calls it.
+//! Times in lines: milliseconds, or the text of a duration.
 ghost use Rattle.std.specs.Prelude.{◌≡◌, ℕ, None, Option, IfErr, IfOk, codes};
 ghost use Rattle.std.specs.Result.{result_ok};
 ghost use Rattle.serde_json.specs.View.{members_view, view};
 ghost use Rattle.am_cli.specs.Decoding.{Has, HasOr};
 ghost use Rattle.am_cli.specs.Read.{Excludes};
-ghost use Rattle.am_lines.specs.Request.{IsEnd, IsNow, IsTime, time_in};
+ghost use Rattle.am_lines.specs.Time.{IsEnd, IsNow, IsTime, time_in};
 
 use am_alerts::limits::MAX_TIME;
 use am_cli::duration::duration;

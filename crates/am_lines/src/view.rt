@@ -1,4 +1,4 @@
-//! The answers to views: what a board has, and what a begin would do. `am_dispatch` calls it.
+//! The answers to views: what a board has, and what a begin would do.
 ghost use Rattle.std.specs.Prelude.{◌≡◌, ◌++◌, OnOk, option_copied};
 ghost use Rattle.am_lines.specs.View.{cause_members, due_tokens, inhibited_members, listed, outlook_tokens, preview_tokens};
 ghost use Rattle.am_lines.specs.View.{reason_time, reason_word, taken_members, silenced_members, summary_tokens};
@@ -142,7 +142,12 @@ impl ToJson for MutedAlert {
     }
 }
 
-fn put_cause(config: &Config, cause: &MuteCause, answer: &mut Answer) -> Result<(), AllocError>
+/// Adds what mutes a label set.
+pub(crate) fn put_cause(
+    config: &Config,
+    cause: &MuteCause,
+    answer: &mut Answer,
+) -> Result<(), AllocError>
     ensures { OnOk result (answer.new ≡ answer.old ++ cause_members cause.now) }
 {
     match cause {

@@ -1,10 +1,10 @@
-//! What is wanted where a value is refused, in words for people. `fault` calls `refusal_message`.
+//! What is wanted where a value is refused, in words for people.
 //!
 //! The reader of a value says its pointer and the kind of the fault alone. The rule goes by these: at each pointer there is one.
 ghost use Rattle.std.specs.Prelude.{◌≡◌, nat_eq};
 ghost use Rattle.std.specs.List.{ends_with, starts_with};
-ghost use Rattle.am_lines.specs.Wanted.{argument_message, insert_message, is_member, load_message, refusal_message};
-ghost use Rattle.am_lines.specs.Wanted.{silence_message, value_message};
+ghost use Rattle.am_lines.specs.Wanted.{argument_message, check_message, insert_message, is_member, load_message};
+ghost use Rattle.am_lines.specs.Wanted.{open_message, refusal_message, silence_message, value_message};
 
 use am_cli::fault::FaultKind;
 
@@ -16,6 +16,8 @@ pub(crate) fn refusal_message(pointer: &str, fault_kind: FaultKind) -> &'static 
         FaultKind::Missing => {
             if pointer == "" {
                 "the line has no call: it has to be an object with one member"
+            } else if pointer == "/check" {
+                "a check has one member: matchers, labels, config, alertmanager or open"
             } else {
                 "this member is missing"
             }
@@ -31,8 +33,8 @@ pub(crate) fn refusal_message(pointer: &str, fault_kind: FaultKind) -> &'static 
         FaultKind::Unknown => "no member of this name is known here",
         FaultKind::Full => "there is no space for this",
         FaultKind::Unsupported => {
-            if pointer == "/alertmanager" {
-                "a route is muted by time, and no line says on which day times begin"
+            if pointer == "/alertmanager" || pointer == "/check/alertmanager" {
+                "a route is muted by time: the call open says which day that is"
             } else {
                 "this can't be reproduced exactly"
             }
@@ -44,18 +46,22 @@ pub(crate) fn refusal_message(pointer: &str, fault_kind: FaultKind) -> &'static 
 fn value_message(pointer: &[u8]) -> &'static str
     ensures { result.now ≡ value_message pointer.now }
 {
-    if begins(pointer, b"/insert") {
+    if begins(pointer, b"/insert") || begins(pointer, b"/status") {
         insert_message(pointer)
     } else if begins(pointer, b"/silence") {
         silence_message(pointer)
     } else if begins(pointer, b"/load/row") {
         load_message(pointer)
+    } else if begins(pointer, b"/check") {
+        check_message(pointer)
+    } else if begins(pointer, b"/open") {
+        open_message(pointer)
     } else {
         argument_message(pointer)
     }
 }
 
-/// Returns the message for an insert, in which a label can have the name of a member.
+/// Returns the message for an insert or a status, in which a label can have the name of a member.
 fn insert_message(pointer: &[u8]) -> &'static str
     ensures { result.now ≡ insert_message pointer.now }
 {
@@ -66,7 +72,7 @@ fn insert_message(pointer: &[u8]) -> &'static str
     } else if is_member(pointer, b"/ends", b"/labels/ends") {
         "ends before it starts, or after 10^15 ms, or is a text that is no duration such as 1h30m"
     } else {
-        "there have to be 1 to 64 labels with a value, each name once; a name has letters, digits and _, and no digit first; a name or a value over 1,024 bytes is too long"
+        "there have to be 1 to 64 labels with a value, each name once; a name has letters, digits and _, and no digit first; a name over 1,024 bytes or a value over 16,384 is too long"
     }
 }
 
@@ -81,9 +87,9 @@ fn silence_message(pointer: &[u8]) -> &'static str
     } else if ends(pointer, b"/ends") {
         "ends before it starts, or after 10^15 ms, or is a text that is no duration such as 1h30m"
     } else if ends(pointer, b"/matchers") {
-        "a silence has 1 to 32 matchers"
+        "a silence has 1 to 128 matchers"
     } else {
-        "a matcher has to be a label name, one of = != =~ !~, and a value; a name or a value over 1,024 bytes is too long; after =~ and !~ the value has to be a regex"
+        "a matcher has to be a label name, one of = != =~ !~, and a value; a name over 1,024 bytes or a value over 16,384 is too long; after =~ and !~ the value has to be a regex"
     }
 }
 
@@ -98,7 +104,51 @@ fn load_message(pointer: &[u8]) -> &'static str
     } else if ends(pointer, b"/row/integration") {
         "a position is at most 4,294,967,295"
     } else {
-        "there have to be 1 to 64 labels with a value, each name once; a name has letters, digits and _, and no digit first; a name or a value over 1,024 bytes is too long"
+        "there have to be 1 to 64 labels with a value, each name once; a name has letters, digits and _, and no digit first; a name over 1,024 bytes or a value over 16,384 is too long"
+    }
+}
+
+/// Returns the message for a configuration with the clocks of its time intervals.
+fn open_message(pointer: &[u8]) -> &'static str
+    ensures { result.now ≡ open_message pointer.now }
+{
+    if begins(pointer, b"/open/alertmanager") {
+        if ends(pointer, b"/location") {
+            "a location has to be one of zones; UTC needs none"
+        } else {
+            "no board may have this: am-rehearse check says what is wanted; up to the horizon a route can be muted 8,192 times"
+        }
+    } else if begins(pointer, b"/open/zones") {
+        "there can be 64 zones, each a POSIX rule such as CET-1CEST,M3.5.0,M10.5.0/3, or its file in base64"
+    } else if ends(pointer, b"/now") {
+        "a now has to be below 10^15 ms; a text has to be a duration such as 1h30m"
+    } else if ends(pointer, b"/start") {
+        "a start has to be a date and time such as 2026-11-23T08:00:00Z"
+    } else if ends(pointer, b"/horizon") {
+        "a time has to be a number of milliseconds, or a duration such as 1h30m"
+    } else {
+        "from now to the horizon times have to be in the years 1 to 9999; without a start they count from 1970"
+    }
+}
+
+/// Returns the message for a part of another line, in a check.
+fn check_message(pointer: &[u8]) -> &'static str
+    ensures { result.now ≡ check_message pointer.now }
+{
+    if ends(pointer, b"/check/matchers") {
+        "a silence has 1 to 128 matchers"
+    } else if begins(pointer, b"/check/matchers") {
+        "a matcher has to be a label name, one of = != =~ !~, and a value; a name over 1,024 bytes or a value over 16,384 is too long; after =~ and !~ the value has to be a regex"
+    } else if begins(pointer, b"/check/labels") {
+        "there have to be 1 to 64 labels with a value, each name once; a name has letters, digits and _, and no digit first; a name over 1,024 bytes or a value over 16,384 is too long"
+    } else if begins(pointer, b"/check/config") {
+        "no board may have this: docs/scenarios.md has what is wanted"
+    } else if begins(pointer, b"/check/alertmanager") {
+        "no board may have this: am-rehearse check says what is wanted"
+    } else if begins(pointer, b"/check/open") {
+        "no board may have this: the call open says what is wanted"
+    } else {
+        "a check has one member: matchers, labels, config, alertmanager or open"
     }
 }
 

@@ -376,7 +376,7 @@ unlisted-seen is_last span r unlisted = by (is_seen r.page) refl
     by false e = absurd (unlisted r.page (page-listed is_last span r e))
 
 pub causes_came : CausesCame
-causes_came playbacks labels final position span is_last ran in_rehearsal at_position index d inside =
+causes_came playbacks ran labels final position span is_last in_rehearsal at_position index d inside =
     let r = slice_index_or span.recipients index d in
     let all = subst (AllCame playbacks labels) in_rehearsal (dispatchers-came playbacks labels [] playbacks refl (all_to HasRun playbacks ran) tt) in
     let came : CameOf playbacks labels position r = all_from (CameOf playbacks labels position) span.recipients (all position span at_position) index d inside in (

@@ -394,7 +394,7 @@ module _ (playbacks : List PlaybackData) (k : TakenData) (ran : HasRun k.playbac
 -- ---- the law
 
 pub missed_spans_have_causes : MissedSpansHaveCauses
-missed_spans_have_causes playbacks labels final position span is_last ran in_rehearsal at_position index d inside fate listed k taken_in comes receiver =
+missed_spans_have_causes playbacks ran labels final position span is_last in_rehearsal at_position index d inside fate listed k taken_in comes receiver =
     let config = k.playback.config in
     let r = slice_index_or span.recipients index d in
     let ran_here = seam-all HasRun k.before k.playback k.after (subst (AllByRecursion HasRun) taken_in.dispatchers (all_to HasRun playbacks ran)) in

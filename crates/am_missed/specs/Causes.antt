@@ -109,12 +109,16 @@ ExplainsEach playbacks labels position r fate =
 abbrev pub spans_listed : SpansData → List SpanData
 spans_listed s = s.before ++ s.last ∷ []
 
--- where a rehearsal lists that an integration missed a span of firing, it says why at each flush that comes in the span
-abbrev pub MissedSpansHaveCauses : Type 0
-MissedSpansHaveCauses =
-    (playbacks : List PlaybackData) (labels : List Label) (s : SpansData) (position : ℕ) (span : SpanData) (is_last : Bool)
-    → All HasRun playbacks → spans_in playbacks labels ≡ Some s → slice_get (spans_listed s) position ≡ Some span
+-- where it is listed that an integration missed a span of firing, the line says why at each flush that comes in the span
+abbrev pub HasCauses : List PlaybackData → Type 0
+HasCauses playbacks =
+    (labels : List Label) (s : SpansData) (position : ℕ) (span : SpanData) (is_last : Bool)
+    → spans_in playbacks labels ≡ Some s → slice_get (spans_listed s) position ≡ Some span
     → All (λ r. (fate : Fate) → missed_of is_last span r ≡ Some (Page fate) → ExplainsEach playbacks labels position r fate) span.recipients
+
+-- so it is in a rehearsal whose dispatchers ran
+abbrev pub MissedSpansHaveCauses : Type 0
+MissedSpansHaveCauses = (playbacks : List PlaybackData) → All HasRun playbacks → HasCauses playbacks
 
 -- ---- what is listed came of a flush
 
@@ -144,10 +148,14 @@ pub record IsShown (playbacks : List PlaybackData) (labels : List Label) (positi
   pub shows : Shows fate flush labels place
 
 -- whoever isn't listed as not notified of a span has heard at a flush that comes in it, and a cause that is listed is that of such a flush
-abbrev pub CausesCame : Type 0
-CausesCame =
-    (playbacks : List PlaybackData) (labels : List Label) (s : SpansData) (position : ℕ) (span : SpanData) (is_last : Bool)
-    → All HasRun playbacks → spans_in playbacks labels ≡ Some s → slice_get (spans_listed s) position ≡ Some span
+abbrev pub ShowsCauses : List PlaybackData → Type 0
+ShowsCauses playbacks =
+    (labels : List Label) (s : SpansData) (position : ℕ) (span : SpanData) (is_last : Bool)
+    → spans_in playbacks labels ≡ Some s → slice_get (spans_listed s) position ≡ Some span
     → All (λ r. (((fate : Fate) → missed_of is_last span r ≢ Some (Page fate)) → IsShown playbacks labels position r Seen)
     × ((fate : Fate) → missed_of is_last span r ≡ Some (Page fate) → (is_unflushed fate ≡ true) ⊎ IsShown playbacks labels position r fate))
     span.recipients
+
+-- so it is in a rehearsal whose dispatchers ran
+abbrev pub CausesCame : Type 0
+CausesCame = (playbacks : List PlaybackData) → All HasRun playbacks → ShowsCauses playbacks

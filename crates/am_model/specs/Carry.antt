@@ -60,7 +60,8 @@ with_successors config receiver group positions labels =
 -- of this receiver with the row's group labels, each once
 abbrev pub successors : Config → List ℕ → RowView → List ℕ
 successors config receiver row =
-    fold (with_successors config receiver row.group.labels) (fold (with_successors config receiver row.group.labels) [] row.firing) row.resolved
+    fold (with_successors config receiver row.group.labels) (fold (with_successors config receiver row.group.labels) [] row.firing)
+    row.resolved
 
 -- the row's own position alone where it is among these, and else all of these
 abbrev pub own_or_all : ℕ → List ℕ → List ℕ

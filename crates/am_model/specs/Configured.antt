@@ -1,4 +1,4 @@
--- Configured: a group's route, receiver and integrations in a configuration.
+-- Configured: a group's route, receiver and integrations in a configuration, and when its log rows expire (retention).
 use Rattle.std.specs.Prelude.{ℕ, ◌+◌, ◌*◌, ◌≤◌, min, codes, decimal, All, List, [], ◌∷◌, ◌++◌, length, Option, if◌then◌else◌}
 use Rattle.std.specs.List.{enumerate_from}
 use Rattle.std.specs.Str.{bytes_eq}

@@ -1,5 +1,6 @@
 -- Laws: what is true after every history, and how a history's state goes record by record.
-use Rattle.std.specs.Prelude.{◌≡◌, ◌≢◌, ℕ, ◌+◌, ◌<◌, ◌≤◌, ◌↔◌, length, min, max, Bool, true, false, IsTrue, All, List, [], ◌∷◌, ◌++◌, fold, not}
+use Rattle.std.specs.Prelude.{◌≡◌, ◌≢◌, ℕ, ◌+◌, ◌<◌, ◌≤◌, ◌↔◌, length, min, max, Bool, true, false, IsTrue, All, List, [], ◌∷◌, ◌++◌, fold}
+use Rattle.std.specs.Prelude.{not}
 use Rattle.std.specs.Prelude.{Option, Some, None, ◌==◌, find, if◌then◌else◌}
 use Rattle.std.specs.List.{list_any, IsDistinct}
 use Rattle.std.specs.Option.{option_map}

@@ -42,6 +42,8 @@ pub mod Receivers
 pub mod RouteKeys
 -- what a dispatcher of one thread has, as plain lists in the order of arrival
 pub mod State
+-- why a label set is muted, and which routes it has
+pub mod Status
 -- a ticket as contracts see it, and the outcomes that it records
 pub mod Ticket
 -- the calls silence, maintain and remove_empty_groups

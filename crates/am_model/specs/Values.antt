@@ -15,8 +15,8 @@ use Rattle.am_model.specs.declared.notice.TheConstants.{MIN_FLUSH_TIMEOUT, MAX_D
 use Rattle.am_model.specs.Config.{default_limits, greatest_limits}
 use Rattle.am_model.specs.Faults.{board_fault_number}
 
--- law: 4,096 receivers of 64 integrations, 4,096 rules; 4,000,000 known alerts, 500,000 groups, 1,024 silences, as many open flushes as groups,
--- 64,000,000 records that are kept, 10^15 that are handed out
+-- law: 4,096 receivers of 64 integrations, 4,096 rules; 4,000,000 known alerts, 500,000 groups, 65,536 silences, as many open flushes
+-- as groups, 64,000,000 records that are kept, 10^15 that are handed out
 abbrev pub LimitsAre : Type 0
 LimitsAre =
     (MAX_RECEIVERS ≡ 4_096)
@@ -24,7 +24,7 @@ LimitsAre =
     × (MAX_RULES ≡ 4_096)
     × (MAX_ALERTS ≡ 4_000_000)
     × (MAX_GROUPS ≡ 500_000)
-    × (MAX_SILENCES ≡ 1_024)
+    × (MAX_SILENCES ≡ 65_536)
     × (MAX_FLUSHES ≡ 500_000)
     × (MAX_HISTORY ≡ 64_000_000)
     × (MAX_HANDED ≡ 1_000_000_000_000_000)
@@ -37,7 +37,7 @@ DefaultIs =
 -- law: the greatest limits
 abbrev pub GreatestIs : Type 0
 GreatestIs =
-    greatest_limits ≡ record { alerts = 4_000_000; groups = 500_000; silences = 1_024; flushes = 500_000; history = 64_000_000 }
+    greatest_limits ≡ record { alerts = 4_000_000; groups = 500_000; silences = 65_536; flushes = 500_000; history = 64_000_000 }
 
 -- law: a flush has 10 s at least, and a deadline is at most 10^15 + 10^12 ms
 abbrev pub TimesAre : Type 0

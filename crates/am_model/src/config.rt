@@ -1,5 +1,4 @@
-//! The configuration of a dispatcher: receivers, rules, limits. Embedders and readers of JSON make
-//! one, and `Board::new` checks it.
+//! The configuration of a dispatcher: receivers, rules, limits.
 ghost use Rattle.std.specs.Prelude.{◌≡◌, ◌≤◌, ◌↔◌, ◌++◌, IsTrue, OnOk, find, string_bytes};
 ghost use Rattle.std.specs.List.{list_all, list_any};
 ghost use Rattle.std.specs.Option.{option_copied};
@@ -41,7 +40,7 @@ pub const MAX_ALERTS: usize = 4_000_000;
 pub const MAX_GROUPS: usize = 500_000;
 
 /// The greatest number of silences.
-pub const MAX_SILENCES: usize = 1_024;
+pub const MAX_SILENCES: usize = 65_536;
 
 /// The greatest number of open flushes.
 pub const MAX_FLUSHES: usize = 500_000;

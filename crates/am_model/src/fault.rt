@@ -1,4 +1,4 @@
-//! Why calls of a dispatcher fail. Boards and desks return these.
+//! Why calls of a dispatcher fail.
 ghost use Rattle.std.specs.Prelude.{◌≡◌};
 ghost use Rattle.am_model.specs.declared.fault.Fault.TheVariants as fault;
 ghost use Rattle.am_model.specs.declared.fault.BoardFault.TheVariants as board_fault;

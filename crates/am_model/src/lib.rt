@@ -1,15 +1,15 @@
 //! The definitions of the dispatcher, the plain data that contracts compare, and the laws of legal
-//! histories. `am_board` keeps to them, and contracts above cite them. It stores nothing.
+//! histories. Contracts of other crates cite them. It stores nothing.
 //!
 //! - `carry`: which rows a log under another configuration takes over, with specs `Carry`.
 //! - `boxed`: a value behind a pointer, for the large parts of a record.
 //! - `rekey`: which rows it has as Alertmanager's log finds them again, with specs `Rekey`;
 //!   `route_keys`: the keys of routes, by which it does, with specs `RouteKeys`.
-//! - `config`, `fault`, `group`, `notice`, `outcome`, `preview`, `reason`, `record`, `views`: the
-//!   data, each type with its own calls.
+//! - `config`, `fault`, `group`, `notice`, `outcome`, `preview`, `reason`, `record`, `status`,
+//!   `views`: the data, each type with its own calls.
 //! - `law`: the laws, as public calls without a body.
-//! - specs `Config`, `Configured`, `Faults`, `Notice`, `Records`, `Ticket`, `Views`: what is
-//!   defined of one type, with the data that contracts see.
+//! - specs `Config`, `Configured`, `Faults`, `Notice`, `Records`, `Status`, `Ticket`,
+//!   `Views`: what is defined of one type, with the data that contracts see.
 //! - specs `State`, `Insert`, `Begin`, `Note`, `Finish`, `Maintenance` (silences and upkeep),
 //!   `Forget`, `Load`: the state, over plain lists in the order of arrival, with the reply of each call and
 //!   the state after it.
@@ -42,4 +42,5 @@ pub mod reason;
 pub mod record;
 pub mod rekey;
 pub mod route_keys;
+pub mod status;
 pub mod views;

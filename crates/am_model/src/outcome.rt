@@ -1,5 +1,4 @@
-//! The outcomes of a flush's notices, by its finish in the later records. `am_board`, `am_run`
-//! and `am_timeline` call it.
+//! The outcomes of a flush's notices, by its finish in the later records.
 ghost use Rattle.std.specs.Prelude.{◌≡◌};
 ghost use Rattle.std.specs.Option.{option_copied};
 ghost use Rattle.am_model.specs.Outcomes.{finished_with, outcomes_in};

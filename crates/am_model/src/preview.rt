@@ -1,4 +1,4 @@
-//! What a begin would do, and why. `Board::preview` returns it.
+//! What a begin would do, and why.
 //!
 //! Muted alerts are listed whether they fire or are resolved. What fires and what is resolved is in
 //! the notices of the begin.

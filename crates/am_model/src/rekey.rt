@@ -1,5 +1,5 @@
 //! Finding rows again as Alertmanager does: `Rekeying` returns the rows that a log under a new
-//! configuration has for those of one under an old one. `am_rehearsal` plays reloads by it.
+//! configuration has for those of one under an old one.
 //!
 //! Alertmanager's log knows an entry by the receiver's name, the integration's kind and index, the
 //! route's key (`route_keys`) and the group labels. So a changed matcher makes a first notification.

@@ -1,5 +1,5 @@
 //! The keys of routes, by which Alertmanager's log knows a route again: `Route.Key` of its
-//! `dispatch`. `rekey` finds the routes of a new configuration by them.
+//! `dispatch`.
 //!
 //! A key is a text, the same as in Alertmanager's own log lines, such as `{}/{severity="critical"}`.
 //! It repeats the matchers of the routes above. So the keys of a tree take memory for the matchers of
@@ -158,7 +158,7 @@ fn push_matcher(out: &mut String, parts: &MatcherParts) -> Result<(), AllocError
     out.push_str("\"")
 }
 
-/// The positions of routes by their keys. `rekey` keeps one of the routes of a new configuration.
+/// The positions of routes by their keys.
 pub(crate) type KeyIndex = HashMap<Text, Vec<u32>>;
 
 /// Returns where each of these keys is.

@@ -4,6 +4,8 @@ mod RequiredLabels
 mod BucketWalk
 -- the keys of one bucket of an index: each source for a target has its own among them
 mod Buckets
+-- lists of causes, as loops make them
+mod CauseLists
 -- the first silence that mutes, by walks over indexes
 mod FirstSilences
 -- the first that passes a test is there exactly where one passes
@@ -12,6 +14,8 @@ pub mod Firsts
 mod FoundSources
 -- an index that learns of alerts, by one rule after the other
 mod Learning
+-- the places of silences, by their ids
+mod NotedPlaces
 -- the indexes of silences
 mod PlacedSilences
 -- keys of sources: their order, and what an index has after one more

@@ -1,3 +1,5 @@
+-- all that mutes a label set: each silence, and each inhibition rule with its source
+pub mod Causes
 -- inhibition rules: which known alert mutes which label set
 pub mod Inhibit
 -- the faults' numbers, by their values
@@ -6,6 +8,8 @@ pub mod Laws
 pub mod Matching
 -- what mutes a label set: a silence, or an inhibition rule with its source
 pub mod Mute
+-- where silences are in a list, by their ids
+pub mod Places
 -- silences: when they are active, and what they mute
 pub mod Silence
 -- where silences are in an index, by the labels that they ask for

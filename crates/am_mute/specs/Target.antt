@@ -1,4 +1,4 @@
--- Label sets that a rule may mute.
+-- Label sets that a rule may mute: a source mutes those that have its values in the labels of `equal`.
 use Rattle.std.specs.Prelude.{◌≡◌, ℕ, true, false, List, Option, Some, None, fold}
 use Rattle.std.specs.Hash.{str}
 use Rattle.am_alerts.specs.Labels.{value_of}

@@ -13,7 +13,7 @@ use thiserror::Error;
 /// Why matchers and names make no inhibition rule.
 #[derive(Clone, Copy, Debug, PartialEq, Eq, Error)]
 pub enum RuleFault {
-    #[error("there are more than 32 source matchers or target matchers")]
+    #[error("there are more than 128 source matchers or target matchers")]
     TooManyMatchers = 1,
     #[error("there are more than 64 names in `equal`")]
     TooManyNames = 2,
@@ -42,7 +42,7 @@ impl Model for InhibitRule {
 }
 
 impl InhibitRule {
-    /// An inhibition rule. Refused in this order: `TooManyMatchers` (more than 32 on one side),
+    /// An inhibition rule. Refused in this order: `TooManyMatchers` (more than 128 on one side),
     /// `TooManyNames` (more than 64 in `equal`; one that is twice counts twice). An empty
     /// list of matchers matches every label set. Takes no memory.
     pub fn new(
@@ -66,7 +66,7 @@ impl InhibitRule {
         })
     }
 
-    /// The matchers of the alerts that inhibit: at most 32.
+    /// The matchers of the alerts that inhibit: at most 128.
     pub fn source(&self) -> &[Matcher]
         ensures source { result.now ≡ self.now.source }
         ensures few { length self.now.source ≤ MAX_MATCHERS }
@@ -74,7 +74,7 @@ impl InhibitRule {
         self.source.as_slice()
     }
 
-    /// The matchers of the label sets that are inhibited: at most 32.
+    /// The matchers of the label sets that are inhibited: at most 128.
     pub fn target(&self) -> &[Matcher]
         ensures target { result.now ≡ self.now.target }
         ensures few { length self.now.target ≤ MAX_MATCHERS }

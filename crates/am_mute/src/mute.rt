@@ -1,5 +1,4 @@
-//! What mutes a label set: silences first, then inhibition rules. `am_board` calls it for each
-//! alert of a group.
+//! What mutes a label set: silences first, then inhibition rules.
 //!
 //! Cost of `muted` and `mute_cause`: the silences, and the rules times the known alerts. With
 //! `Sources` the second part is the rules times the logarithm of the known alerts, and the sources

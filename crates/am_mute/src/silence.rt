@@ -1,4 +1,4 @@
-//! `Silence`: matchers and a span. Callers make them, a board stores them.
+//! `Silence`: matchers and a span.
 ghost use Rattle.std.specs.Prelude.{◌≡◌, ◌≢◌, ◌≤◌, [], length, IfOk, IsOk, IsTrue};
 ghost use Rattle.am_alerts.specs.Fault.{ok_unless};
 ghost use Rattle.am_mute.specs.Silence.{is_over, silence_fault, silence_of, silence_mutes};
@@ -17,7 +17,7 @@ use thiserror::Error;
 pub enum SilenceFault {
     #[error("a silence needs a matcher")]
     NoMatchers = 1,
-    #[error("there are more than 32 matchers")]
+    #[error("there are more than 128 matchers")]
     TooManyMatchers = 2,
     #[error("the silence starts after its end, or a time is above 10^15")]
     BadTimes = 3,
@@ -48,7 +48,7 @@ impl Model for Silence {
 
 impl Silence {
     /// A silence of these matchers. Refused in this order: `NoMatchers`, `TooManyMatchers` (more
-    /// than 32), `BadTimes` (the start is after the end, or one of them is above 10^15; an end
+    /// than 128), `BadTimes` (the start is after the end, or one of them is above 10^15; an end
     /// at the start is accepted, and mutes nothing). Takes no memory.
     pub fn new(
         id: u64,
@@ -82,7 +82,7 @@ impl Silence {
         self.id
     }
 
-    /// The silence's matchers: 1 to 32.
+    /// The silence's matchers: 1 to 128.
     pub fn matchers(&self) -> &[Matcher]
         ensures matchers { result.now ≡ self.now.matchers }
         ensures some { self.now.matchers ≢ [] }

@@ -1,11 +1,12 @@
-//! The indexes of silences by the labels that they need. `silences` keeps one.
+//! The indexes of silences by the labels that they need.
 //!
 //! The first matcher of a silence that is `=` with a value needs a label: a label set without it
 //! isn't muted. The index is under the hash of that label, and an alert looks up each of its
 //! labels. A silence that needs none (patterns, `!=` and empty values alone) is under a number of
 //! its own, and is tested for each alert. Each silence that is found is tested in full. An index can
-//! stay under what its silence needed before; this costs one test, and each replacement adds one at
-//! most.
+//! stay under what its silence needed before; this costs one test. The index is made anew once it
+//! has more than twice as many entries as there are silences: so a replacement costs a look-up or
+//! two in the mean, and no entry is searched for among the others.
 //!
 //! Invariant: each index is one of the list, and the silences up to the first whose index lacked
 //! memory are under what they need. Each alert walks the silences behind it, and the next one that
@@ -39,6 +40,8 @@ pub(crate) struct SilenceIndex {
     seed: Seed,
     /// How many silences, from the first on, have their indexes here.
     indexed: usize,
+    /// How many indexes were put in, with those that their silences aren't found by any more.
+    entries: usize,
 }
 
 impl SilenceIndex {
@@ -50,6 +53,7 @@ impl SilenceIndex {
             indexes: HashMap::new(alloc),
             seed,
             indexed: 0,
+            entries: 0,
         }
     }
 
@@ -60,11 +64,15 @@ impl SilenceIndex {
         self.seed
     }
 
-    /// Takes the indexes of these silences in, as far as there is memory for it.
+    /// Takes the indexes of these silences in, as far as there is memory for it. Makes the index anew
+    /// if most of it isn't needed any more.
     pub(crate) fn extend(&mut self, alloc: Global, silences: &[Silence])
         requires { IsIndexed silences.now self.old }
         ensures { IsIndexed silences.now self.new }
     {
+        if self.entries / 2 > silences.len() {
+            *self = SilenceIndex::new(alloc, self.seed);
+        }
         while self.indexed < silences.len() {
             let key = key_of(self.seed, silences[self.indexed].matchers());
             if self.put(alloc, key, self.indexed).is_err() {
@@ -74,14 +82,22 @@ impl SilenceIndex {
         }
     }
 
-    /// Prepares for a silence that replaces the one at this index.
-    pub(crate) fn change(&mut self, alloc: Global, index: usize, silence: &Silence)
-        ensures { (silences : List SilenceData) → index < length silences → IsIndexed silences self.old
-            → IsIndexed (set silences index silence.now) self.new }
+    /// Prepares for a silence that replaces the one of these at this index.
+    pub(crate) fn change(
+        &mut self,
+        alloc: Global,
+        silences: &[Silence],
+        index: usize,
+        silence: &Silence,
+    )
+        requires indexed { IsIndexed silences.now self.old }
+        requires within { index < length silences.now }
+        ensures { IsIndexed (set silences.now index silence.now) self.new }
     {
-        let key = key_of(self.seed, silence.matchers());
-        if self.put(alloc, key, index).is_err() {
-            self.indexed = self.indexed.min(index);
+        let old = key_of(self.seed, silences[index].matchers());
+        let new = key_of(self.seed, silence.matchers());
+        if index < self.indexed && old != new && self.put(alloc, new, index).is_err() {
+            self.indexed = index;
         }
     }
 
@@ -93,9 +109,6 @@ impl SilenceIndex {
         ensures keeps { (k p : ℕ) → HasIndex self.old k p → HasIndex self.new k p }
         ensures only { (k p : ℕ) → HasIndex self.new k p → (p ≡ index) ⊎ HasIndex self.old k p }
     {
-        if self.at(key).contains(&index) {
-            return Ok(());
-        }
         match self.indexes.get_mut(&key) {
             Some(indexes) => indexes.push(index)?,
             None => {
@@ -103,6 +116,7 @@ impl SilenceIndex {
                 self.indexes.insert(key, indexes)?;
             }
         }
+        self.entries = self.entries.saturating_add(1);
         Ok(())
     }
 

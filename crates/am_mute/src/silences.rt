@@ -1,9 +1,10 @@
-//! `Silences`: the list of a board's silences, with its index. Contracts see the list and its
-//! capacity.
+//! `Silences`: the list of a board's silences, with its index and the place of each id. Contracts
+//! see the list and its capacity.
 //!
-//! Cost of `add` and `replace`: one look-up. `is_silenced` stops at the first silence that it finds.
-//! `silence_for` names the first of the list: it compares the indexes of all that it finds, and
-//! tests those before the best so far.
+//! Cost of `find`, `add` and `replace`: a look-up or two each, however many silences there are; a
+//! silence that replaces one of another id costs a walk. `is_silenced` stops at the first silence
+//! that it finds. `silence_for` names the first of the list: it compares the indexes of all that it
+//! finds, and tests those before the best so far.
 ghost use Rattle.std.specs.Prelude.{◌≡◌, ◌<◌, ◌≤◌, ◌++◌, ◌==◌, [], ◌∷◌, length, set, is_some, option_copied, IfOk, IfSome, IsOk, IsTrue};
 ghost use Rattle.std.specs.Prelude.{OnOk, count_by, filter, not};
 ghost use Rattle.std.specs.List.{position};
@@ -11,6 +12,7 @@ ghost use Rattle.am_mute.specs.Silence.{is_over, is_silenced};
 ghost use Rattle.am_mute.specs.Mute.{silence_for};
 ghost use Rattle.am_mute.specs.Matching.{silences_compare_texts};
 
+use crate::places::Places;
 use crate::silence::Silence;
 use crate::silence_index::SilenceIndex;
 use am_alerts::labels::Labels;
@@ -24,10 +26,12 @@ use std::marker::Model;
 pub struct Silences {
     silences: Vec<Silence>,
     index: SilenceIndex,
+    places: Places,
 }
 
 impl Model for Silences {
     ghost use Rattle.std.specs.Prelude.{◌-◌, vec_capacity, vec_len};
+    ghost use Rattle.am_mute.specs.Places.{AreNoted};
     ghost use Rattle.am_mute.specs.SilenceIndex.{IsIndexed};
     ghost use Rattle.am_mute.specs.Silences.{SilenceList};
 
@@ -35,7 +39,7 @@ impl Model for Silences {
 
     ghost view = { λ s. record { items = s.silences.items; space = vec_capacity s.silences - vec_len s.silences } };
 
-    ghost invariant = { λ s. IsIndexed s.silences.items s.index };
+    ghost invariant = { λ s. IsIndexed s.silences.items s.index × AreNoted s.silences.items s.places };
 }
 
 impl Silences {
@@ -46,6 +50,7 @@ impl Silences {
         Silences {
             silences: Vec::new(alloc),
             index: SilenceIndex::new(alloc, seed),
+            places: Places::new(alloc, seed),
         }
     }
 
@@ -68,7 +73,7 @@ impl Silences {
         ensures index { result ≡ position (λ s. id == s.id) self.now.items }
         ensures within { IfSome result (λ index. index < length self.now.items) }
     {
-        self.silences.iter().position(|silence| id == silence.id())
+        self.places.find(self.silences.as_slice(), id)
     }
 
     /// Reserves capacity for so many more silences.
@@ -76,6 +81,7 @@ impl Silences {
         ensures items { self.new.items ≡ self.old.items }
         ensures space { OnOk result (more ≤ self.new.space) }
     {
+        self.places.reserve(more)?;
         self.silences.reserve(more)
     }
 
@@ -84,6 +90,7 @@ impl Silences {
         requires space { 0 < self.old.space }
         ensures items { self.new.items ≡ self.old.items ++ silence ∷ [] }
     {
+        self.places.add(silence.id(), self.silences.len());
         self.silences.push_reserved(silence);
         self.index.extend(alloc, self.silences.as_slice());
     }
@@ -93,14 +100,19 @@ impl Silences {
         requires within { index < length self.old.items }
         ensures items { self.new.items ≡ set self.old.items index silence }
     {
-        self.index.change(alloc, index, &silence);
+        let is_same = self.silences[index].id() == silence.id();
+        self.index
+            .change(alloc, self.silences.as_slice(), index, &silence);
         self.silences[index] = silence;
         self.index.extend(alloc, self.silences.as_slice());
+        if !is_same {
+            self.places.renew(self.silences.as_slice());
+        }
     }
 
     /// Removes the silences that are over at `t` (milliseconds). Returns how many. Never fails.
     ///
-    /// Cost: one walk, and the index is made anew.
+    /// Cost: one walk, and the index and the places are made anew.
     pub fn drop_over(&mut self, alloc: Global, t: u64) -> usize
         ensures items { self.new.items ≡ filter (λ s. not (is_over t s)) self.old.items }
         ensures count { result ≡ count_by (is_over t) self.old.items }
@@ -113,6 +125,7 @@ impl Silences {
         );
         self.index = SilenceIndex::new(alloc, self.index.seed());
         self.index.extend(alloc, self.silences.as_slice());
+        self.places.renew(self.silences.as_slice());
         before - self.silences.len()
     }
 

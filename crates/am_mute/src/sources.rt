@@ -1,5 +1,4 @@
-//! Which known alerts can be sources of inhibition: a sorted set of keys. A board keeps one
-//! `Sources`.
+//! `Sources`: which known alerts can be sources of inhibition, as a sorted set of keys.
 //!
 //! A key has a rule, a hash of the alert's values under the rule's names of `equal`, and the
 //! alert's index. A target looks up the keys of its own hash and tests each alert of these as a

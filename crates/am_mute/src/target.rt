@@ -1,4 +1,5 @@
-//! Label sets that a rule can mute. `mute` and `sources` test them.
+//! Label sets that a rule can mute: its target matchers match them. A source mutes those that have its
+//! values in the labels of `equal`.
 ghost use Rattle.std.specs.Prelude.{◌≡◌, IfOk, IsOk, IsTrue, find, option_copied};
 ghost use Rattle.am_alerts.specs.Matcher.{compare_texts, match_all};
 ghost use Rattle.am_mute.specs.Inhibit.{agrees_on, agrees_on_name, is_inhibited_by};

@@ -1,7 +1,8 @@
 //! The notification log: for each group and integration the last notice that succeeded, and whether a further one is needed.
 //!
-//! A row says when an integration was last notified of a group, and of which alerts. `needs_update` compares it with the alerts of
-//! now: this is what Alertmanager's nflog and DedupStage do on a single node. All times and durations are in milliseconds.
+//! A row says when an integration was last notified of a group, and of which alerts: by this log, or by the log that the row was
+//! loaded from. `update_reason` compares it with the alerts of now. This is what Alertmanager's nflog and DedupStage do on a single
+//! node. All times and durations are in milliseconds.
 #![tactic(auto)]
 
 mod key;

@@ -1,4 +1,4 @@
-//! `NfLog`: the table of rows by group and integration. `am_board` keeps one.
+//! `NfLog`: the table of rows by group and integration.
 //!
 //! A known key stays known, also when its row was collected, so a row that is put again keeps its
 //! index. `forget` alone drops keys. Invariant: the keys differ. `get`, `put` and `reserve` cost one

@@ -1,5 +1,5 @@
-//! Why an integration needs an update about a group, or why not (`notify.DedupStage`). `am_board`
-//! asks it at each begin, and for each preview. Cost: the two lists and those of the row, once each.
+//! Why an integration needs an update about a group, or why not (`notify.DedupStage`). Cost: the
+//! two lists and those of the row, once each.
 ghost use Rattle.std.specs.Prelude.{◌≡◌, IsTrue, map};
 ghost use Rattle.std.specs.Option.{option_copied};
 ghost use Rattle.am_nflog.specs.Members.{is_ascending, is_subset};

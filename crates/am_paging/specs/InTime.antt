@@ -1,5 +1,6 @@
 -- InTime: where a driver is on time for a group, none of its alerts waits for a notice longer than a bound.
-use Rattle.std.specs.Prelude.{◌≡◌, ℕ, ◌+◌, ◌<◌, ◌≤◌, max, Bool, true, false, not, ◌||◌, ◌==◌, ◌⊎◌, All, List, [], ◌∷◌, Option, Some, None, find, nat_le}
+use Rattle.std.specs.Prelude.{◌≡◌, ℕ, ◌+◌, ◌<◌, ◌≤◌, max, Bool, true, false, not, ◌||◌, ◌==◌, ◌⊎◌, All, List, [], ◌∷◌, Option, Some, None}
+use Rattle.std.specs.Prelude.{find, nat_le}
 use Rattle.std.specs.Prelude.{if◌then◌else◌}
 use Rattle.std.specs.List.{list_all}
 use Rattle.std.specs.Option.{IfSome, option_or}
@@ -49,7 +50,8 @@ BeginsOnTime slack config name r past =
 
 -- where one is open, it comes no later than the hold after the group was begun
 abbrev pub EndsOnTime : ℕ → Config → GroupName → Record → Past → Type 0
-EndsOnTime hold config name r past = has_open name past ≡ true → IfSome (begun_at config name past) (λ begun. time_at (r ∷ past) ≤ begun + hold)
+EndsOnTime hold config name r past =
+    has_open name past ≡ true → IfSome (begun_at config name past) (λ begun. time_at (r ∷ past) ≤ begun + hold)
 
 -- a record is on time for a group
 pub record IsOnTime (slack hold : ℕ) (config : Config) (name : GroupName) (r : Record) (past : Past) : Type 0 where
@@ -142,7 +144,8 @@ pub record IsBegunFor (config : Config) (name : GroupName) (labels : List Label)
   pub taken : takes name r.reply ≡ true
   pub after : x < time_at (r ∷ past)
   pub in_time : time_at (r ∷ past) ≤ by
-  pub reached : All (λ i. (pages i.0 labels r.reply ≡ true) ⊎ HasHeard config name i.0 labels (time_at (r ∷ past)) past) (integrations_of config name)
+  pub reached : All
+      (λ i. (pages i.0 labels r.reply ≡ true) ⊎ HasHeard config name i.0 labels (time_at (r ∷ past)) past) (integrations_of config name)
 
 -- where a label set is due a page from x on until after the latest time and the slack, and each record after x is on time, one of these
 -- pages by then
@@ -181,11 +184,13 @@ finishes_for integration past (Note now number i outcome) = false
 
 -- where a record after x finishes a flush of a group, what this notified an integration of succeeded
 abbrev pub Succeeds : GroupName → ℕ → ℕ → Record → Past → Type 0
-Succeeds name integration x r past = x < time_at (r ∷ past) → is_finish_of name past r.call ≡ true → finishes_for integration past r.call ≡ true
+Succeeds name integration x r past =
+    x < time_at (r ∷ past) → is_finish_of name past r.call ≡ true → finishes_for integration past r.call ≡ true
 
--- a record after x and by a time reports delivered a notice of a group for an integration that lists a label set, or takes the group and the
--- integration has heard of the label set
-pub record HearsBy (config : Config) (name : GroupName) (integration : ℕ) (labels : List Label) (x by : ℕ) (r : Record) (past : Past) : Type 0 where
+-- a record after x and by a time reports delivered a notice of a group for an integration that lists a label set, or takes the group and
+-- the integration has heard of the label set
+pub record HearsBy (config : Config) (name : GroupName) (integration : ℕ) (labels : List Label) (x by : ℕ) (r : Record) (past : Past)
+    : Type 0 where
   pub after : x < time_at (r ∷ past)
   pub in_time : time_at (r ∷ past) ≤ by
   pub reached : (reports_page name integration labels past r.call ≡ true)

@@ -1,4 +1,4 @@
-//! `Alerts`: the alerts of a story, each once. `gather` fills it.
+//! `Alerts`: the alerts of a story, each once.
 use crate::span::{Span, add_insert};
 use am_alerts::alert::Alert;
 use am_alerts::labels::Labels;

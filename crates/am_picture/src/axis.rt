@@ -1,4 +1,4 @@
-//! `Axis`: the position of each time, and the round times along it. The modules that draw call it.
+//! `Axis`: the position of each time, and the round times along it.
 ghost use Rattle.std.specs.Prelude.{◌≤◌, ◌^◌};
 
 use crate::content::push_number;

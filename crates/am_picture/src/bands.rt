@@ -1,4 +1,4 @@
-//! The bands of a page: when silences, outages and time intervals apply, and when the dispatcher changes. `page` calls it.
+//! The bands of a page: when silences, outages and time intervals apply, and when the dispatcher changes.
 use crate::content::{push_short, push_value, push_with};
 use crate::pen::Pen;
 use crate::story::{Change, Story};
@@ -84,12 +84,13 @@ fn push_band<C: TimeFormat>(
     push_short(band.name.as_str(), out)?;
     out.push_str("</span>")?;
     for span in band.spans.as_slice() {
-        out.push_str(if pen.axis.position(span.from) > LATE {
-            "<b class=\"l\""
+        let class = if pen.axis.position(span.from) > LATE {
+            "l"
         } else {
-            "<b"
-        })?;
-        pen.push_from(span.from, span.to, out)?;
+            ""
+        };
+        out.push_str("<b")?;
+        pen.push_from(class, span.from, span.to, out)?;
         pen.push_time(span.from, out)?;
         if span.to > span.from {
             out.push_str(" to ")?;

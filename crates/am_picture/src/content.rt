@@ -1,5 +1,4 @@
-//! Texts and numbers as content of elements. Every module that writes a text which isn't the page's own calls it: each goes
-//! through `escape` of `am_timeline`.
+//! Texts and numbers as content of elements. Each text that isn't the page's own goes through `escape` of `am_timeline`.
 use am_alerts::labels::Labels;
 use am_timeline::escape::{push_cut, push_escaped};
 use am_timeline::shown::push_text;

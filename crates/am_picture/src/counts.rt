@@ -1,4 +1,4 @@
-//! `Counts`: how much happens in each piece of the whole time, and in all of it. `gather`'s result goes in, `overview` draws it.
+//! `Counts`: how much happens in each piece of the whole time, and in all of it.
 use crate::alerts::StoryAlert;
 use crate::axis::Axis;
 use crate::gather::Gathered;

@@ -1,4 +1,4 @@
-//! `Fold`: a label set by which routes group, with its alerts. `gather` fills it, `fold_list` draws it.
+//! `Fold`: a label set by which routes group, with its alerts.
 use am_alerts::labels::Labels;
 use std::alloc::{AllocError, Global};
 
@@ -35,7 +35,7 @@ pub(crate) struct Mute {
 }
 
 /// Why a flush left out an alert.
-#[derive(Clone, Copy)]
+#[derive(Clone, Copy, PartialEq, Eq)]
 pub(crate) enum Cause {
     /// A silence mutes it, until this time.
     Silenced { until: u64 },

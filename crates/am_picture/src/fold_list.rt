@@ -1,14 +1,14 @@
-//! The folds of a page: a row for each, with its alerts and its lanes. `page` calls it.
+//! The folds of a page: a row for each, with its alerts and its lanes.
 use crate::alerts::StoryAlert;
 use crate::content::{push_count, push_labels, push_own_labels, push_short, push_with};
-use crate::fold::{Cause, Fold, Member, Mute};
+use crate::fold::{Fold, Member};
 use crate::gather::Gathered;
-use crate::lane_list::{Place, push_lanes};
-use crate::mutes::muted_parts;
+use crate::lane_list::push_lanes;
+use crate::mute_lists::push_mutes;
 use crate::order::{Sections, State};
 use crate::pen::Pen;
+use crate::scene::{Place, Scene};
 use crate::span::Span;
-use crate::story::Story;
 use am_terms::clock::TimeFormat;
 use std::alloc::AllocError;
 
@@ -31,8 +31,7 @@ struct Section<'s> {
 /// Adds the folds, section by section.
 pub(crate) fn push_folds<C: TimeFormat>(
     pen: &Pen<'_, C>,
-    story: &Story<'_>,
-    gathered: &Gathered,
+    scene: Scene<'_>,
     sections: &Sections,
     out: &mut String,
 ) -> Result<(), AllocError> {
@@ -57,7 +56,7 @@ pub(crate) fn push_folds<C: TimeFormat>(
     let mut before: usize = 0;
     for section in &titled {
         if !section.folds.is_empty() {
-            push_section(pen, story, gathered, *section, before, out)?;
+            push_section(pen, scene, *section, before, out)?;
             before = before.saturating_add(section.folds.len());
         }
     }
@@ -67,8 +66,7 @@ pub(crate) fn push_folds<C: TimeFormat>(
 /// Adds a section, behind so many folds.
 fn push_section<C: TimeFormat>(
     pen: &Pen<'_, C>,
-    story: &Story<'_>,
-    gathered: &Gathered,
+    scene: Scene<'_>,
     section: Section<'_>,
     before: usize,
     out: &mut String,
@@ -84,8 +82,16 @@ fn push_section<C: TimeFormat>(
     push_with(": <span>", count as u64, out)?;
     out.push_str("</span></summary>\n")?;
     for index in section.folds {
-        if let Some(fold) = gathered.folds.as_slice().get(*index) {
-            push_fold(pen, story, gathered, *index, fold, out)?;
+        if let Some(fold) = scene.gathered.folds.as_slice().get(*index) {
+            push_fold(
+                pen,
+                Place {
+                    scene,
+                    fold: *index,
+                },
+                fold,
+                out,
+            )?;
         }
     }
     out.push_str("</details>\n")
@@ -94,12 +100,11 @@ fn push_section<C: TimeFormat>(
 /// Adds a fold.
 fn push_fold<C: TimeFormat>(
     pen: &Pen<'_, C>,
-    story: &Story<'_>,
-    gathered: &Gathered,
-    index: usize,
+    place: Place<'_>,
     fold: &Fold,
     out: &mut String,
 ) -> Result<(), AllocError> {
+    let gathered = place.scene.gathered;
     out.push_str("<details class=\"g\"><summary>")?;
     push_state(State::of(gathered, fold), out)?;
     push_labels(pen.alloc, &fold.labels, out)?;
@@ -107,12 +112,7 @@ fn push_fold<C: TimeFormat>(
         push_receivers(gathered, fold, out)?;
     }
     out.push_str("</summary>")?;
-    push_members(pen, gathered, fold, out)?;
-    let place = Place {
-        story,
-        gathered,
-        fold: index,
-    };
+    push_members(pen, place, fold, out)?;
     push_lanes(pen, place, fold, out)?;
     out.push_str("</details>\n")
 }
@@ -144,7 +144,7 @@ fn push_state(state: State, out: &mut String) -> Result<(), AllocError> {
         out.push_str(" not notified</em> ")?;
     }
     if state.is_muted {
-        out.push_str("<em class=\"m\">muted</em> ")?;
+        out.push_str("<i>muted</i> ")?;
     }
     Ok(())
 }
@@ -152,46 +152,22 @@ fn push_state(state: State, out: &mut String) -> Result<(), AllocError> {
 /// Adds the alerts of a fold.
 fn push_members<C: TimeFormat>(
     pen: &Pen<'_, C>,
-    gathered: &Gathered,
+    place: Place<'_>,
     fold: &Fold,
     out: &mut String,
 ) -> Result<(), AllocError> {
-    let mutes = sorted_mutes(pen, fold)?;
-    let mut left = mutes.as_slice();
     out.push_str("<ol>")?;
     for (position, member) in fold.members.as_slice().iter().enumerate() {
         if position == MEMBERS {
             push_more(fold.members.len(), out)?;
         }
-        let (own, rest) = mutes_of(left, position);
-        push_member(pen, gathered, fold, *member, own, out)?;
-        left = rest;
+        push_member(pen, place, fold, position, *member, out)?;
     }
     out.push_str("</ol>")?;
     if fold.members.len() > MEMBERS {
         out.push_str("</details>")?;
     }
     Ok(())
-}
-
-/// The spans in which flushes left out alerts, by the alert.
-fn sorted_mutes<C: TimeFormat>(pen: &Pen<'_, C>, fold: &Fold) -> Result<Vec<Mute>, AllocError> {
-    let mut mutes = Vec::new(pen.alloc);
-    for mute in fold.mutes.as_slice() {
-        mutes.push(*mute)?;
-    }
-    mutes.sort_by_key(|mute| mute.member)?;
-    Ok(mutes)
-}
-
-/// The spans of one alert, which come first, and the others.
-fn mutes_of(mutes: &[Mute], member: usize) -> (&[Mute], &[Mute]) {
-    for index in 0..mutes.len() {
-        if mutes[index].member != member {
-            return (&mutes[..index], &mutes[index..]);
-        }
-    }
-    (mutes, &[])
 }
 
 /// Begins the list of the alerts that are folded.
@@ -206,13 +182,13 @@ fn push_more(count: usize, out: &mut String) -> Result<(), AllocError> {
 /// Adds an alert of a fold: the labels that the fold doesn't have, when it fires, and when flushes left it out.
 fn push_member<C: TimeFormat>(
     pen: &Pen<'_, C>,
-    gathered: &Gathered,
+    place: Place<'_>,
     fold: &Fold,
+    position: usize,
     member: Member,
-    mutes: &[Mute],
     out: &mut String,
 ) -> Result<(), AllocError> {
-    let Some(alert) = gathered.alerts.as_slice().get(member.alert) else {
+    let Some(alert) = place.scene.gathered.alerts.as_slice().get(member.alert) else {
         return Ok(());
     };
     out.push_str("<li")?;
@@ -227,9 +203,7 @@ fn push_member<C: TimeFormat>(
     })?;
     push_own_labels(pen.alloc, &alert.labels, &fold.labels, out)?;
     push_spans(pen, alert, out)?;
-    let end = pen.axis.end();
-    let parts = muted_parts(pen.alloc, alert.spans.as_slice(), mutes, end)?;
-    push_mutes(pen, gathered, parts.as_slice(), out)?;
+    push_mutes(place.scene.lists, place.fold, position, out)?;
     out.push_str("</li>")
 }
 
@@ -244,7 +218,7 @@ fn push_spans<C: TimeFormat>(
         let end = end_of(pen, span);
         if drawn != Some(pen.axis.position(end)) {
             out.push_str("<b")?;
-            pen.push_from(span.from, end, out)?;
+            pen.push_from("", span.from, end, out)?;
             push_times(pen, span, out)?;
             out.push_str("</b>")?;
             drawn = Some(pen.axis.position(end));
@@ -275,65 +249,4 @@ fn push_times<C: TimeFormat>(
 /// When a span ends: an alert that isn't resolved fires up to the end.
 fn end_of<C: TimeFormat>(pen: &Pen<'_, C>, span: &Span) -> u64 {
     span.to.unwrap_or(pen.axis.end())
-}
-
-/// Adds when flushes left out an alert while it fired, and why. Of the parts that end at one position the first is drawn.
-fn push_mutes<C: TimeFormat>(
-    pen: &Pen<'_, C>,
-    gathered: &Gathered,
-    mutes: &[Mute],
-    out: &mut String,
-) -> Result<(), AllocError> {
-    let mut drawn: Option<u64> = None;
-    for mute in mutes {
-        let end = mute.to.unwrap_or(pen.axis.end());
-        if drawn != Some(pen.axis.position(end)) {
-            out.push_str("<u")?;
-            pen.push_from(mute.from, end, out)?;
-            pen.push_time(mute.from, out)?;
-            push_cause(pen, gathered, mute.cause, out)?;
-            out.push_str("</u>")?;
-            drawn = Some(pen.axis.position(end));
-        }
-    }
-    Ok(())
-}
-
-/// Adds why flushes left out an alert. The alert because of which one is inhibited has a line of its own, to which this leads.
-fn push_cause<C: TimeFormat>(
-    pen: &Pen<'_, C>,
-    gathered: &Gathered,
-    cause: Cause,
-    out: &mut String,
-) -> Result<(), AllocError> {
-    match cause {
-        Cause::Silenced { until } => {
-            out.push_str(" silenced until ")?;
-            pen.push_until(until, out)
-        }
-        Cause::Inhibited { rule, by } => {
-            out.push_str(" inhibited by ")?;
-            push_source(gathered, by, out)?;
-            push_with(" (rule ", rule as u64, out)?;
-            out.push_str(")")
-        }
-    }
-}
-
-/// Adds a link to the line of an alert, if that is drawn.
-fn push_source(gathered: &Gathered, by: Option<usize>, out: &mut String) -> Result<(), AllocError> {
-    let Some(index) = by else {
-        return out.push_str("another alert");
-    };
-    let Some(alert) = gathered.alerts.as_slice().get(index) else {
-        return out.push_str("another alert");
-    };
-    let name = alert.labels.get("alertname").unwrap_or("another alert");
-    if !alert.is_drawn {
-        return push_short(name, out);
-    }
-    push_with("<a href=\"#a", index as u64, out)?;
-    out.push_str("\">")?;
-    push_short(name, out)?;
-    out.push_str("</a>")
 }

@@ -1,4 +1,4 @@
-//! `Gathered`: what is drawn of a story, gathered from its dispatchers. `page` calls it.
+//! `Gathered`: what is drawn of a story, gathered from its dispatchers.
 //!
 //! Cost: for each insert a look-up by its label set; for each flush that isn't like the one before
 //! of its group its muted alerts; for each notice one look-up of its finish, and one for each of its alerts.
@@ -10,6 +10,7 @@ use crate::fold::{Cause, Fold, Mute};
 use crate::lane::{BeginRef, Lane, OpenMute, SentItem};
 use crate::new_lane::{lane_name, new_lane};
 use crate::parts::{finishes_of, notice_of, outcomes_by};
+use crate::span::Span;
 use crate::story::Story;
 use am_alerts::alert::Alert;
 use am_alerts::labels::Labels;
@@ -32,7 +33,8 @@ use std::collections::HashMap;
 #[derive(Drop)]
 pub(crate) struct Gathered {
     alloc: Global,
-    seed: Seed,
+    /// The seed of the first dispatcher, from which hashes start.
+    pub(crate) seed: Seed,
     pub(crate) alerts: Alerts,
     /// The folds, in the order in which their first alerts came.
     pub(crate) folds: Vec<Fold>,
@@ -94,6 +96,20 @@ impl Gathered {
     pub(crate) fn position_in(&self, fold: usize, labels: &Labels) -> Option<usize> {
         let alert = self.alerts.index_of(labels)?;
         self.by_member.get(&MemberKey { fold, alert }).copied()
+    }
+
+    /// Returns when the alert of a fold fires that these mutes are of.
+    pub(crate) fn spans_of(&self, fold: &Fold, mutes: &[Mute]) -> &[Span] {
+        let Some(mute) = mutes.first() else {
+            return &[];
+        };
+        let Some(member) = fold.members.as_slice().get(mute.member) else {
+            return &[];
+        };
+        match self.alerts.as_slice().get(member.alert) {
+            None => &[],
+            Some(alert) => alert.spans.as_slice(),
+        }
     }
 
     fn add_all(&mut self, story: &Story<'_>) -> Result<(), AllocError> {

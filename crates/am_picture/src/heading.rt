@@ -1,7 +1,8 @@
-//! The head of a page: what it is of, and how much it shows. `page` calls it.
+//! The head of a page: what it is of, and how much it shows.
 use crate::content::{push_content, push_count};
 use crate::counts::Totals;
-use crate::pen::Pen;
+use crate::mute_lists::{MuteLists, push_masks};
+use crate::pen::{Pen, push_positions};
 use crate::script::SCRIPT_SUM;
 use crate::story::Names;
 use crate::style::STYLE;
@@ -24,6 +25,7 @@ pub(crate) fn push_head<C: TimeFormat>(
     pen: &Pen<'_, C>,
     names: Names<'_>,
     totals: Totals,
+    lists: &MuteLists,
     out: &mut String,
 ) -> Result<(), AllocError> {
     out.push_str(FRONT)?;
@@ -32,6 +34,10 @@ pub(crate) fn push_head<C: TimeFormat>(
     push_content(names.story, out)?;
     out.push_str("</title>\n<style>")?;
     out.push_str(STYLE)?;
+    if pen.is_dense {
+        push_positions(out)?;
+    }
+    push_masks(pen, lists, out)?;
     out.push_str("</style></head>\n<body data-start=\"")?;
     pen.push_whole_time(0, out)?;
     out.push_str("\">\n<h1>")?;

@@ -1,4 +1,4 @@
-//! `Lane`: what a route did with a label set. `gather` fills it, `lane_list` draws it.
+//! `Lane`: what a route did with a label set.
 use am_model::reason::Reason;
 use am_retry::Outcome;
 use std::alloc::{AllocError, Global};

@@ -1,21 +1,12 @@
-//! The lanes of a fold: for each integration what came of the flushes. `fold_list` calls it.
+//! The lanes of a fold: for each integration what came of the flushes.
 use crate::content::{push_content, push_with};
 use crate::fold::Fold;
-use crate::gather::Gathered;
 use crate::lane::{Item, Lane, QuietCause, QuietItem};
 use crate::notices::push_sent;
 use crate::pen::Pen;
-use crate::story::Story;
+use crate::scene::Place;
 use am_terms::clock::TimeFormat;
 use std::alloc::AllocError;
-
-/// Where a lane is.
-#[derive(Clone, Copy)]
-pub(crate) struct Place<'p> {
-    pub(crate) story: &'p Story<'p>,
-    pub(crate) gathered: &'p Gathered,
-    pub(crate) fold: usize,
-}
 
 /// Adds the lanes of a fold that are drawn.
 pub(crate) fn push_lanes<C: TimeFormat>(
@@ -25,7 +16,7 @@ pub(crate) fn push_lanes<C: TimeFormat>(
     out: &mut String,
 ) -> Result<(), AllocError> {
     for position in fold.lanes.as_slice() {
-        match place.gathered.lanes.as_slice().get(*position) {
+        match place.scene.gathered.lanes.as_slice().get(*position) {
             Some(lane) if lane.is_drawn() => push_lane(pen, place, lane, out)?,
             _ => {}
         }
@@ -102,8 +93,8 @@ fn push_quiet<C: TimeFormat>(
     quiet: &QuietItem,
     out: &mut String,
 ) -> Result<(), AllocError> {
-    out.push_str("<li class=\"q\"")?;
-    pen.push_from(quiet.flushes.first, quiet.flushes.last, out)?;
+    out.push_str("<li")?;
+    pen.push_from("q", quiet.flushes.first, quiet.flushes.last, out)?;
     pen.push_time(quiet.flushes.first, out)?;
     match quiet.cause {
         QuietCause::NothingFiring => out.push_str(" nothing fires")?,

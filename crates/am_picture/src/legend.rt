@@ -1,4 +1,4 @@
-//! The legend of a page, and the fields by which its script filters. `page` calls it.
+//! The legend of a page, and the fields by which its script filters.
 use crate::lane::Kind;
 use std::alloc::AllocError;
 
@@ -7,7 +7,9 @@ const FILTERS: &str = "<form class=\"js\" id=\"filters\">
 <input id=\"search\" type=\"search\" placeholder=\"label or text\" aria-label=\"search\"/>
 <select id=\"receiver\" aria-label=\"receiver\"><option value=\"\">every receiver</option></select>
 <select id=\"route\" aria-label=\"route\"><option value=\"\">every route</option></select>
-<select id=\"state\" aria-label=\"state\"><option value=\"\">every state</option><option value=\"em\">with a remark</option><option value=\"em.x\">with failures</option><option value=\"li.u\">not notified</option><option value=\"em.m\">muted</option></select>
+<select id=\"state\" aria-label=\"state\"><option value=\"\">every state</option>\
+<option value=\"em\">with a remark</option><option value=\"em.x\">with failures</option>\
+<option value=\"li.u\">not notified</option><option value=\"summary i\">muted</option></select>
 <label id=\"zone\"><input type=\"checkbox\" id=\"local\"/> local time</label>
 <output id=\"found\"></output></form>
 ";

@@ -1,4 +1,4 @@
-//! A rehearsal that ran, as one page of HTML. `am_rehearse` prints it.
+//! A rehearsal that ran, as one page of HTML.
 //!
 //! `page` gathers what is drawn (`gather`), and then writes the page from top to bottom. Time runs
 //! from left to right, in thousandths of the page's own width. A `Fold` is a label set by which
@@ -21,6 +21,9 @@ mod heading;
 mod lane;
 mod lane_list;
 mod legend;
+mod missed_list;
+mod mute_lines;
+mod mute_lists;
 mod mutes;
 mod new_lane;
 mod notices;
@@ -30,6 +33,7 @@ mod overview;
 pub mod page;
 mod parts;
 mod pen;
+mod scene;
 mod script;
 mod span;
 pub mod story;

@@ -1,7 +1,27 @@
-//! Which parts of an alert's spans are muted. `fold_list` draws them.
-use crate::fold::Mute;
+//! Which parts of an alert's spans are muted.
+use crate::fold::{Cause, Fold, Mute};
 use crate::span::Span;
 use std::alloc::{AllocError, Global};
+
+/// Returns the spans in which flushes left out alerts of a fold, by the alert.
+pub(crate) fn sorted_mutes(alloc: Global, fold: &Fold) -> Result<Vec<Mute>, AllocError> {
+    let mut mutes = Vec::new(alloc);
+    for mute in fold.mutes.as_slice() {
+        mutes.push(*mute)?;
+    }
+    mutes.sort_by_key(|mute| mute.member)?;
+    Ok(mutes)
+}
+
+/// Returns the spans of one alert, which come first, and the others.
+pub(crate) fn mutes_of(mutes: &[Mute], member: usize) -> (&[Mute], &[Mute]) {
+    for index in 0..mutes.len() {
+        if mutes[index].member != member {
+            return (&mutes[..index], &mutes[index..]);
+        }
+    }
+    (mutes, &[])
+}
 
 /// Returns the parts of an alert's spans in which flushes left it out. Where it didn't fire any more, its part is the time
 /// of the flush alone. Spans and mutes are in the order of their times, and what is open goes on to the end.
@@ -53,6 +73,40 @@ fn add_parts(
         parts.push(part_of(mute, mute.from, mute.from))?;
     }
     Ok(())
+}
+
+/// Makes one part of those that follow each other for one cause, or where one silence takes over from another: up to the end
+/// of the last. Each flush that isn't like the one before it begins parts anew.
+pub(crate) fn joined_parts(alloc: Global, parts: &[Mute]) -> Result<Vec<Mute>, AllocError> {
+    let mut joined: Vec<Mute> = Vec::new(alloc);
+    for part in parts {
+        if !extend_last(&mut joined, *part) {
+            joined.push(*part)?;
+        }
+    }
+    Ok(joined)
+}
+
+/// Lets the last part go on to the end of one that begins where it ends, if their cause is one, or both are of silences.
+/// Returns whether it did.
+fn extend_last(joined: &mut Vec<Mute>, part: Mute) -> bool {
+    match joined.last_mut() {
+        Some(last) if last.to == Some(part.from) && goes_on(last.cause, part.cause) => {
+            last.to = part.to;
+            last.cause = part.cause;
+            true
+        }
+        _ => false,
+    }
+}
+
+/// Whether a part of the next cause goes on with the part before it.
+fn goes_on(cause: Cause, next: Cause) -> bool {
+    cause == next || (is_silenced(cause) && is_silenced(next))
+}
+
+fn is_silenced(cause: Cause) -> bool {
+    matches!(cause, Cause::Silenced { .. })
 }
 
 fn part_of(mute: Mute, from: u64, to: u64) -> Mute {

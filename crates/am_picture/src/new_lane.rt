@@ -1,4 +1,4 @@
-//! New lanes: what they are known by, and what they have at first. `gather` calls it.
+//! New lanes: what they are known by, and what they have at first.
 use crate::lane::{Flushes, Lane, nothing_quiet};
 use am_model::config::Config;
 use am_model::group::GroupName;

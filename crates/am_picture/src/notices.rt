@@ -1,18 +1,16 @@
-//! The lines on notices: when one came, what it came to, why it was sent, and its alerts. `lane_list` calls it.
+//! The lines on notices: when one came, what it came to, why it was sent, and its alerts.
 use crate::content::{push_count, push_with};
 use crate::lane::{Kind, SentItem};
-use crate::lane_list::Place;
 use crate::numbers::push_numbers;
 use crate::parts::notice_of;
 use crate::pen::Pen;
+use crate::scene::Place;
 use am_alerts::alert::Alert;
 use am_model::notice::{Notice, Report};
 use am_model::reason::Reason;
 use am_retry::Outcome;
 use am_terms::clock::TimeFormat;
-use am_terms::event::PreviewedBegin;
 use am_timeline::line::sent_words;
-use am_timeline::playback::Playback;
 use am_timeline::sent::{Sent, expiry_before};
 use std::alloc::AllocError;
 
@@ -23,7 +21,7 @@ pub(crate) fn push_sent<C: TimeFormat>(
     item: &SentItem,
     out: &mut String,
 ) -> Result<(), AllocError> {
-    let Some(playback) = place.story.playbacks.get(item.begin.dispatcher) else {
+    let Some(playback) = place.scene.story.playbacks.get(item.begin.dispatcher) else {
         return Ok(());
     };
     let Some(begin) = playback.begins().get(item.begin.begin) else {
@@ -37,7 +35,13 @@ pub(crate) fn push_sent<C: TimeFormat>(
         Some(notice) => {
             push_mark(pen, item, reason, out)?;
             push_outcome(pen, item, notice, out)?;
-            push_reason(pen, playback, begin, item, notice, reason, out)?;
+            let sent = Sent {
+                begin,
+                notice,
+                outcome: item.outcome,
+                report: report_of(item, notice),
+            };
+            push_reason(pen, expiry_before(playback, &sent), reason, out)?;
             push_alerts(pen, place, "; firing", notice.firing.as_slice(), out)?;
             push_alerts(pen, place, "; resolved", notice.resolved.as_slice(), out)?;
             out.push_str("</li>")
@@ -59,13 +63,14 @@ fn push_mark<C: TimeFormat>(
     };
     let start = pen.axis.position(item.since);
     let end = pen.axis.position(item.at);
-    out.push_str("<li class=\"")?;
-    out.push_str(kind.class())?;
-    push_with("\" style=\"--x:", end, out)?;
-    if end > start.saturating_add(1) {
-        push_with(";--w:", end.saturating_sub(start), out)?;
-    }
-    out.push_str("\">")?;
+    let width = end.saturating_sub(start);
+    out.push_str("<li")?;
+    pen.push_position(
+        kind.class(),
+        end,
+        if width > 1 { Some(width) } else { None },
+        out,
+    )?;
     pen.push_time(item.at, out)?;
     out.push_str(" ")
 }
@@ -98,23 +103,13 @@ fn push_outcome<C: TimeFormat>(
     out.push_str(": ")
 }
 
-/// Adds why a notice was sent.
+/// Adds why a notice was sent, where the log entry had expired at this time, if it had.
 fn push_reason<C: TimeFormat>(
     pen: &Pen<'_, C>,
-    playback: &Playback<'_>,
-    begin: &PreviewedBegin,
-    item: &SentItem,
-    notice: &Notice,
+    expiry: Option<u64>,
     reason: &Reason,
     out: &mut String,
 ) -> Result<(), AllocError> {
-    let sent = Sent {
-        begin,
-        notice,
-        outcome: item.outcome,
-        report: report_of(item, notice),
-    };
-    let expiry = expiry_before(playback, &sent);
     let words = sent_words(expiry, reason);
     out.push_str(words)?;
     match expiry {
@@ -163,7 +158,7 @@ fn push_alerts<C: TimeFormat>(
 
 /// Whether a fold has one alert.
 fn is_alone(place: Place<'_>) -> bool {
-    match place.gathered.folds.as_slice().get(place.fold) {
+    match place.scene.gathered.folds.as_slice().get(place.fold) {
         None => false,
         Some(fold) => fold.members.len() == 1,
     }
@@ -177,7 +172,7 @@ fn numbers_of<C: TimeFormat>(
 ) -> Result<Vec<usize>, AllocError> {
     let mut numbers = Vec::new(pen.alloc);
     for alert in alerts {
-        if let Some(position) = place.gathered.position_in(place.fold, alert.labels()) {
+        if let Some(position) = place.scene.gathered.position_in(place.fold, alert.labels()) {
             numbers.push(position.saturating_add(1))?;
         }
     }

@@ -1,4 +1,4 @@
-//! Lists of numbers, as `1-3,5`. `notices` calls it.
+//! Lists of numbers, as `1-3,5`.
 use crate::content::push_number;
 use std::alloc::AllocError;
 

@@ -1,4 +1,4 @@
-//! `Sections`: the folds of a page in their order: what went wrong first. `fold_list` draws them.
+//! `Sections`: the folds of a page in their order: what went wrong first.
 use crate::counts::{failures_in, is_route_muted};
 use crate::fold::Fold;
 use crate::gather::{Gathered, is_drawn};

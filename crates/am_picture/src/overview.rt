@@ -1,4 +1,4 @@
-//! The overview of the whole time: how many alerts fire, and how many notices there are, piece by piece. `page` calls it.
+//! The overview of the whole time: how many alerts fire, and how many notices there are, piece by piece.
 use crate::content::{push_count, push_with};
 use crate::counts::{Counts, PIECES};
 use crate::pen::{Pen, WHOLE};

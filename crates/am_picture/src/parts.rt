@@ -1,4 +1,4 @@
-//! What a history says of its flushes: their notices, and what these came to. `gather` and `notices` call it.
+//! What a history says of its flushes: their notices, and what these came to.
 use am_model::notice::Notice;
 use am_model::record::{Call, Record};
 use am_retry::Outcome;

@@ -1,4 +1,4 @@
-//! `Pen`: what times look like on a page, as text and as positions. The modules that draw have one.
+//! `Pen`: what times look like on a page, as text and as positions.
 ghost use Rattle.std.specs.Prelude.{◌≤◌};
 
 use crate::axis::Axis;
@@ -19,6 +19,8 @@ pub(crate) struct Pen<'c, C: TimeFormat> {
     clock: &'c C,
     pub(crate) axis: Axis,
     pub(crate) calendar: Calendar,
+    /// Whether positions are classes, for which `push_positions` has the rules. It pays on a page with many elements.
+    pub(crate) is_dense: bool,
 }
 
 /// The times of a story as its clock shows them.
@@ -32,13 +34,19 @@ pub(crate) struct Calendar {
 
 impl<'c, C: TimeFormat> Pen<'c, C> {
     /// Returns the pen of a clock and an axis.
-    pub(crate) fn new(alloc: Global, clock: &'c C, axis: Axis) -> Result<Pen<'c, C>, AllocError> {
+    pub(crate) fn new(
+        alloc: Global,
+        clock: &'c C,
+        axis: Axis,
+        is_dense: bool,
+    ) -> Result<Pen<'c, C>, AllocError> {
         let calendar = calendar_of(alloc, clock)?;
         Ok(Pen {
             alloc,
             clock,
             axis,
             calendar,
+            is_dense,
         })
     }
 
@@ -89,12 +97,39 @@ impl<'c, C: TimeFormat> Pen<'c, C> {
         self.push_time(to, out)
     }
 
-    /// Adds the style of an element from one time to another.
-    pub(crate) fn push_from(&self, from: u64, to: u64, out: &mut String) -> Result<(), AllocError> {
+    /// Adds the class of an element, if it has one, and its position, from one time to another, and ends its tag.
+    pub(crate) fn push_from(
+        &self,
+        class: &str,
+        from: u64,
+        to: u64,
+        out: &mut String,
+    ) -> Result<(), AllocError> {
         let start = self.axis.position(from);
-        let end = self.axis.position(to);
+        let width = self.axis.position(to).saturating_sub(start);
+        self.push_position(class, start, Some(width), out)
+    }
+
+    /// Adds the class of an element, if it has one, and its position and width, in thousandths, and ends its tag.
+    pub(crate) fn push_position(
+        &self,
+        class: &str,
+        start: u64,
+        width: Option<u64>,
+        out: &mut String,
+    ) -> Result<(), AllocError> {
+        if self.is_dense {
+            return push_classes(class, start, width, out);
+        }
+        if !class.is_empty() {
+            out.push_str(" class=\"")?;
+            out.push_str(class)?;
+            out.push_str("\"")?;
+        }
         push_with(" style=\"--x:", start, out)?;
-        push_with(";--w:", end.saturating_sub(start), out)?;
+        if let Some(width) = width {
+            push_with(";--w:", width, out)?;
+        }
         out.push_str("\">")
     }
 
@@ -102,6 +137,44 @@ impl<'c, C: TimeFormat> Pen<'c, C> {
     fn is_in_a_day(&self) -> bool {
         self.calendar.behind.saturating_add(self.axis.end()) < DAY
     }
+}
+
+/// Adds a class, if there is one, and those of a position and a width.
+fn push_classes(
+    class: &str,
+    start: u64,
+    width: Option<u64>,
+    out: &mut String,
+) -> Result<(), AllocError> {
+    out.push_str(" class=\"")?;
+    if !class.is_empty() {
+        out.push_str(class)?;
+        out.push_str(" ")?;
+    }
+    push_with("x", start, out)?;
+    if let Some(width) = width {
+        push_with(" w", width, out)?;
+    }
+    out.push_str("\">")
+}
+
+/// Adds the rules of the classes that positions and widths have.
+pub(crate) fn push_positions(out: &mut String) -> Result<(), AllocError> {
+    for position in 0..WHOLE + 1 {
+        push_rule("x", position, out)?;
+        push_rule("w", position, out)?;
+    }
+    Ok(())
+}
+
+/// Adds the rule of the class of a number.
+fn push_rule(name: &str, number: u64, out: &mut String) -> Result<(), AllocError> {
+    out.push_str(".")?;
+    push_with(name, number, out)?;
+    out.push_str("{--")?;
+    out.push_str(name)?;
+    push_with(":", number, out)?;
+    out.push_str("}\n")
 }
 
 /// The text of a time.

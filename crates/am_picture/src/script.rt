@@ -1,9 +1,9 @@
-//! The script of a page: it filters the rows, says what a mark is of, and shows times in the reader's zone. `page` calls it.
+//! The script of a page: it filters the rows, says what a mark is of, and shows times in the reader's zone.
 //!
 //! Without it a page has all texts: a row opens, the overview and the bands too.
 
 /// The sum of the script by which a browser knows it: SHA-256 in base64.
-pub(crate) const SCRIPT_SUM: &str = "TyZcrXRlh9FLu/rMVsA/vw5RvZucYUqvAa5fHz6rXQQ=";
+pub(crate) const SCRIPT_SUM: &str = "Iv2QS4Q9LqKQA3LhHXJ/cy/JlPArbdcR86oeRn8J1C4=";
 
 /// The script. It has no `<` and no `&`, so a page is XML too.
 pub(crate) const SCRIPT: &str = "
@@ -14,8 +14,30 @@ pub(crate) const SCRIPT: &str = "
   function lead(item) { return item.firstChild ? item.firstChild.textContent : ''; }
   root.className = 'js';
 
+  // Mutes that several alerts have are on the page once. A row that is pointed at or opens gets its own.
+  function links(group) { return Array.from(group.querySelectorAll('li > a')); }
+  function list(link) { return field(link.hash.slice(1)); }
+  function copy(node) {
+    var made = node.cloneNode(true), from = page.createTreeWalker(node, 4), to = page.createTreeWalker(made, 4);
+    while (from.nextNode()) {
+      to.nextNode();
+      if (old.has(from.currentNode)) { old.set(to.currentNode, old.get(from.currentNode)); }
+    }
+    return made;
+  }
+  function expand(group) {
+    links(group).forEach(function (link) {
+      var own = page.createDocumentFragment();
+      list(link).childNodes.forEach(function (mute) { own.appendChild(copy(mute)); });
+      link.replaceWith(own);
+    });
+  }
+  page.addEventListener('toggle', function (event) { if (event.target.matches('.g')) { expand(event.target); } }, true);
+
   // A line about what is pointed at or tapped.
   function line(event) {
+    var row = event.target.closest ? event.target.closest('.g') : null;
+    if (row) { expand(row); }
     var item = event.target.closest ? event.target.closest('.g li, .g li b, .g li u, .g:not([open]) summary, .o li, .bands b') : null;
     if (!item) { if (event.type === 'click') { detail.hidden = true; } return; }
     var group = item.closest('.g'), parts = [];
@@ -62,7 +84,10 @@ pub(crate) const SCRIPT: &str = "
     if (route) { if (!found.routes.has(route)) { return false; } }
     if (state) { if (!group.querySelector(state)) { return false; } }
     if (words.length === 0) { return true; }
-    if (found.text === null) { found.text = group.textContent.toLowerCase().replace(/\"/g, ''); }
+    if (found.text === null) {
+      found.text = [group].concat(links(group).map(list)).map(function (it) { return it.textContent; }).join(' ').toLowerCase();
+      found.text = found.text.replace(/\"/g, '');
+    }
     return words.every(function (word) { return found.text.includes(word); });
   }
   function filter() {
@@ -88,7 +113,7 @@ pub(crate) const SCRIPT: &str = "
   // Times in the zone of who reads. Names and labels stay as they are.
   var start = new Date(page.body.dataset.start), old = new Map();
   var whole = /\\b(?:(\\d{4}-\\d\\d-\\d\\d)T|(?:(\\d\\d)-(\\d\\d) )?)(\\d\\d):(\\d\\d)(?::(\\d\\d)(\\.\\d+)?)?Z/g;
-  var names = 'script, h1, small, summary, h4, h4 i, .g ol li, .bands span';
+  var names = 'script, h1, small, summary, h4, h4 i, .g ol li, a, .bands span';
   function two(number) { return (10 > number ? '0' : '') + number; }
   function day(at) { return at.getFullYear() + '-' + two(at.getMonth() + 1) + '-' + two(at.getDate()); }
   function local(text, date, month, dayOfMonth, hours, minutes, seconds, rest) {

@@ -1,4 +1,4 @@
-//! `Span`: a stretch of time in which an alert fires. `alerts` calls it.
+//! `Span`: a stretch of time in which an alert fires.
 use am_alerts::alert::Alert;
 use std::alloc::AllocError;
 

@@ -1,4 +1,4 @@
-//! `Story`: what a page is drawn from. `am_rehearse` makes one.
+//! `Story`: what a page is drawn from.
 use am_alerts::labels::Labels;
 use am_terms::rehearsal::Outage;
 use am_timeline::filtered::Filter;

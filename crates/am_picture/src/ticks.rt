@@ -1,4 +1,4 @@
-//! `Ticks`: the round times of an axis. `axis` calls it.
+//! `Ticks`: the round times of an axis.
 ghost use Rattle.std.specs.Prelude.{◌≤◌};
 
 /// How many ticks there are about, at most.

@@ -1,4 +1,4 @@
-//! The expectations of a page, with what became of them: those that aren't met first. `page` calls it.
+//! The expectations of a page, with what became of them: those that aren't met first.
 use crate::content::{push_content, push_count};
 use crate::story::Verdict;
 use std::alloc::AllocError;

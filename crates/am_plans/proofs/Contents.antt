@@ -1,21 +1,23 @@
 -- The members of an expectation say one target and one content at most.
-use Rattle.std.proofs.Common.{◌≡◌, ◌∙◌, ◌++◌, ◌&&◌, ℕ, suc, Bool, not, List, [], ◌∷◌, Option, Some, None, MatchOption, codes, refl, sym, ap, subst, arith}
+use Rattle.std.proofs.Common.{◌≡◌, ◌∙◌, ◌++◌, ◌&&◌, ℕ, suc, Bool, true, not, List, [], ◌∷◌, Option, Some, None, MatchOption, codes, refl, sym, ap, subst, arith}
 use Rattle.std.specs.List.{list_any}
-use Rattle.std.specs.Prelude.{IsSomeAnd, IsTrue}
-use Rattle.std.specs.Option.{option_or}
+use Rattle.std.specs.Prelude.{⊤, IsSomeAnd, IsTrue}
+use Rattle.std.specs.Option.{option_map_or, option_or}
 use Rattle.serde_json.specs.Data.{Data, null, boolean, number, string, array, object, Members}
 use Rattle.serde_json.specs.Find.{as_object, as_str, get_member}
+use Rattle.am_alerts.specs.Matcher.{compare_texts}
 use Rattle.am_alerts.specs.declared.labels.Label.{Label}
 use Rattle.am_alerts.specs.declared.matcher.MatcherParts.{MatcherParts}
-use Rattle.am_cli.proofs.Once.{one_list, one_matcher}
-use Rattle.am_cli.specs.Configured.{DecodesToLabels, DecodesToMatcher}
+use Rattle.am_cli.proofs.Once.{one_list, one_matcher_list}
+use Rattle.am_cli.specs.Configured.{DecodesToLabels}
 use Rattle.am_cli.specs.Read.{has_only, number_in}
 use Rattle.am_cli.specs.declared.reader.Mode.{Mode}
 use Rattle.am_model.specs.declared.config.Config.{Config}
 use Rattle.am_model.specs.declared.config.Receiver.{Receiver}
 use Rattle.am_plans.proofs.Decodings.{same_some}
 use Rattle.am_plans.proofs.LabelSets.{one_labels}
-use Rattle.am_plans.specs.Expected.{AreMatchersIn, AreSetsIn, HasContentIn, HasNoSlash, IsExpectedIn, IsExpectedOf, IsSplit, IsTargetIn, IsTargetOf}
+use Rattle.am_plans.proofs.NoRegex.{no_regex_said}
+use Rattle.am_plans.specs.Expected.{AreMatchersIn, AreSetsIn, HasContentIn, HasNoRegex, HasNoRegexIn, HasNoSlash, IsExpectedIn, IsExpectedOf, IsSplit, IsTargetIn, IsTargetOf}
 use Rattle.am_plans.specs.Expected.{field_names, has_integration, has_target, is_named, position_named, said_or_of, some_has_target}
 use Rattle.am_terms.specs.declared.expectation.Content.{Content}
 use Rattle.am_terms.specs.declared.expectation.Expectation.{Expectation}
@@ -73,12 +75,12 @@ one_target (Some member) k l p q is also = one_target_of member k l p q is also
 
 -- ---- contents
 
-same_matchers : (mode : Mode) (found : Option Data) (a b : Option (List MatcherParts)) → AreMatchersIn mode found a → AreMatchersIn mode found b → a ≡ b
-same_matchers mode None a b is also = is ∙ sym also
-same_matchers mode (Some value) None b is also = absurd is
-same_matchers mode (Some value) (Some a) None is also = absurd also
-same_matchers mode (Some value) (Some a) (Some b) is also =
-    ap Some (one_list (DecodesToMatcher mode) (one_matcher mode) value a b is.listed also.listed)
+same_matchers : (mode : Mode) (found : Option Data) (a b : Option (List MatcherParts)) → option_map_or compare_texts a true ≡ true
+    → AreMatchersIn mode found a → AreMatchersIn mode found b → a ≡ b
+same_matchers mode None a b compare is also = is ∙ sym also
+same_matchers mode (Some value) None b compare is also = absurd is
+same_matchers mode (Some value) (Some a) None compare is also = absurd also
+same_matchers mode (Some value) (Some a) (Some b) compare is also = ap Some (one_matcher_list mode value a b compare is.listed also.listed)
 
 same_sets : (mode : Mode) (found : Option Data) (a b : Option (List (List Label))) → AreSetsIn mode found a → AreSetsIn mode found b → a ≡ b
 same_sets mode None a b is also = is ∙ sym also
@@ -92,13 +94,16 @@ same_resolved : (mode : Mode) (exactly found : Option Data) (a b : Option (List 
 same_resolved mode None found a b is also = same_sets mode found a b is also
 same_resolved mode (Some value) found a b is also = is ∙ sym also
 
-pub one_content : (mode : Mode) (members : Members) (a b : Content) → HasContentIn mode members a → HasContentIn mode members b → a ≡ b
-one_content mode members a b is also =
+pub one_content : (mode : Mode) (members : Members) (a b : Content) → HasNoRegex mode members → HasContentIn mode members a
+    → HasContentIn mode members b → a ≡ b
+one_content mode members a b without is also =
     let resolves : is.resolves ≡ also.resolves = same_some is.when also.when in
+    let own = subst (λ (r : Bool). AreMatchersIn mode (said_or_of (not r) (codes "has") members) a.has) resolves is.has in
     let has = same_matchers mode (said_or_of (not also.resolves) (codes "has") members) a.has b.has
-    (subst (λ (r : Bool). AreMatchersIn mode (said_or_of (not r) (codes "has") members) a.has) resolves is.has) also.has in
+    (no_regex_said mode (not also.resolves) (codes "has") members a.has without.has without.of own) own also.has in
+    let own_resolved = subst (λ (r : Bool). AreMatchersIn mode (said_or_of r (codes "has_resolved") members) a.has_resolved) resolves is.has_resolved in
     let has_resolved = same_matchers mode (said_or_of also.resolves (codes "has_resolved") members) a.has_resolved b.has_resolved
-    (subst (λ (r : Bool). AreMatchersIn mode (said_or_of r (codes "has_resolved") members) a.has_resolved) resolves is.has_resolved) also.has_resolved in
+    (no_regex_said mode also.resolves (codes "has_resolved") members a.has_resolved without.has_resolved without.of own_resolved) own_resolved also.has_resolved in
     let firing = same_sets mode (option_or (get_member (codes "exactly") members) (get_member (codes "firing") members)) a.firing b.firing is.firing also.firing in
     let resolved = same_resolved mode (get_member (codes "exactly") members) (get_member (codes "resolved") members) a.resolved b.resolved is.resolved also.resolved in
     let reason = same_some is.reason also.reason in
@@ -114,25 +119,25 @@ pub record AreAlike (x y : Expectation) : Type 0 where
   pub content : x.content ≡ y.content
 
 alike_in : (mode : Mode) (until last : ℕ) (plans : List TimedAction) (members : Members) (x y : Expectation)
-    → IsExpectedOf mode until last plans members x → IsExpectedOf mode until last plans members y → AreAlike x y
-alike_in mode until last plans members x y is also =
+    → HasNoRegex mode members → IsExpectedOf mode until last plans members x → IsExpectedOf mode until last plans members y → AreAlike x y
+alike_in mode until last plans members x y without is also =
     let target = one_target (get_member (codes "integration") members) x.kind y.kind x.integration y.integration is.integration also.integration in
     record {
       receiver = same_some is.receiver also.receiver;
       kind = target.0;
       integration = target.1;
-      content = one_content mode members x.content y.content is.content also.content;
+      content = one_content mode members x.content y.content without is.content also.content;
     }
 
-alike_by : (mode : Mode) (until last : ℕ) (plans : List TimedAction) (object : Option Members) (x y : Expectation)
+alike_by : (mode : Mode) (until last : ℕ) (plans : List TimedAction) (object : Option Members) (x y : Expectation) → MatchOption object ⊤ (HasNoRegex mode)
     → IsSomeAnd object (λ ms. IsExpectedOf mode until last plans ms x × IsTrue (has_only mode field_names ms))
     → IsSomeAnd object (λ ms. IsExpectedOf mode until last plans ms y × IsTrue (has_only mode field_names ms)) → AreAlike x y
-alike_by mode until last plans None x y is also = absurd is
-alike_by mode until last plans (Some members) x y is also = alike_in mode until last plans members x y is.0 also.0
+alike_by mode until last plans None x y without is also = absurd is
+alike_by mode until last plans (Some members) x y without is also = alike_in mode until last plans members x y without is.0 also.0
 
 pub are_alike : (mode : Mode) (until last : ℕ) (plans : List TimedAction) (value : Data) (x y : Expectation)
-    → IsExpectedIn mode until last plans value x → IsExpectedIn mode until last plans value y → AreAlike x y
-are_alike mode until last plans value x y is also = alike_by mode until last plans (as_object value) x y is also
+    → HasNoRegexIn mode value → IsExpectedIn mode until last plans value x → IsExpectedIn mode until last plans value y → AreAlike x y
+are_alike mode until last plans value x y without is also = alike_by mode until last plans (as_object value) x y without is also
 
 same_target_in : (x y : Expectation) → AreAlike x y → (config : Config) → has_target config x ≡ has_target config y
 same_target_in x y same config =

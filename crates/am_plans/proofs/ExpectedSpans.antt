@@ -1,11 +1,12 @@
 -- Spans of expectations: what is given with `within`, and the matchers of `of`.
-use Rattle.std.proofs.Common.{◌≡◌, ◌≤◌, ◌+◌, ◌^◌, ℕ, List, Option, Some, None, MatchOption, codes, arith}
+use Rattle.std.proofs.Common.{◌≡◌, ◌≤◌, ◌+◌, ◌^◌, ℕ, true, List, Option, Some, None, MatchOption, codes, sym, arith}
 use Rattle.std.specs.Prelude.{IsSomeAnd}
 use Rattle.serde_json.specs.Data.{Data, Members}
 use Rattle.serde_json.specs.Find.{get_member}
+use Rattle.am_alerts.specs.Matcher.{compare_texts}
 use Rattle.am_alerts.specs.declared.matcher.MatcherParts.{MatcherParts}
 use Rattle.am_cli.proofs.Decoding.{found}
-use Rattle.am_cli.proofs.Once.{one_list, one_matcher}
+use Rattle.am_cli.proofs.Once.{one_matcher_list}
 use Rattle.am_cli.specs.Configured.{DecodesToMatcher}
 use Rattle.am_cli.specs.Decoding.{HasNone, IsList}
 use Rattle.am_cli.specs.declared.reader.Mode.{Mode}
@@ -36,10 +37,11 @@ pub are_listed : (mode : Mode) (o : Option Data) (ms : List MatcherParts) → Ma
 are_listed mode None ms decoded = decoded
 are_listed mode (Some value) ms decoded = decoded.listed
 
-pub one_of : (mode : Mode) (o : Option Data) (ms ns : List MatcherParts) → MatchOption o ⊥ (λ value. AreMatchersOf mode value ms)
+-- and one list at most, where they need no regex
+pub one_of : (mode : Mode) (o : Option Data) (ms ns : List MatcherParts) → compare_texts ns ≡ true → MatchOption o ⊥ (λ value. AreMatchersOf mode value ms)
     → MatchOption o ⊥ (λ value. AreMatchersOf mode value ns) → ms ≡ ns
-one_of mode None ms ns is also = absurd is
-one_of mode (Some value) ms ns is also = one_list (DecodesToMatcher mode) (one_matcher mode) value ms ns is.listed also.listed
+one_of mode None ms ns compare is also = absurd is
+one_of mode (Some value) ms ns compare is also = sym (one_matcher_list mode value ns ms compare also.listed is.listed)
 
 -- an end that is none
 pub no_end_of : (o : Option ℕ) (from to length : ℕ) → Some length ≡ o → 2 ^ 64 ≤ from + length → IsSomeAnd o (IsEndOf from to) → ⊥

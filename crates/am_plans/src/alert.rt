@@ -1,5 +1,4 @@
-//! The alerts of a rehearsal with their spans, and how they are read. `planned` makes inserts of
-//! them.
+//! The alerts of a rehearsal with their spans, and how they are read.
 ghost use Rattle.std.specs.Prelude.{◌≡◌, ◌≢◌, IfErr, IfOk, None, OnOk, Some, false, nat_le};
 ghost use Rattle.std.specs.Option.{option_map_or};
 ghost use Rattle.serde_json.specs.Find.{get_member};

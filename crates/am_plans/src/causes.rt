@@ -1,4 +1,4 @@
-//! Why the alerts of an expectation are refused. `am_console` says it in words.
+//! Why the alerts of an expectation are refused.
 use crate::expectation::alerts::has_insert;
 use crate::expectation::content::read_matchers;
 use crate::expectation::span::first_insert;

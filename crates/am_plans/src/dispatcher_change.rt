@@ -1,5 +1,4 @@
-//! The reloads and restarts of a story, and how they are read, except for the configurations of reloads. `am_input` calls
-//! it.
+//! The reloads and restarts of a story, and how they are read, except for the configurations of reloads.
 ghost use Rattle.std.specs.Prelude.{◌≡◌, ◌==◌, ◌&&◌, ◌∷◌, [], IfErr, IfOk, IsTrue, List, OnOk, length, map, nat_le, nat_lt};
 ghost use Rattle.std.specs.Prelude.{not, option_map};
 ghost use Rattle.std.specs.List.{list_any};

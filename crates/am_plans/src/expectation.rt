@@ -1,4 +1,4 @@
-//! The expectations of a rehearsal, and how they are read. `am_input` calls it.
+//! The expectations of a rehearsal, and how they are read.
 //!
 //! An expectation without `to` reaches to the end of the rehearsal, and not to the ends of the
 //! notices in flight then.

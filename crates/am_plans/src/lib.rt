@@ -1,5 +1,5 @@
 //! Reads what happens in a story, and what is expected of it, as JSON values: alerts and silences as planned actions,
-//! outages, expectations. `am_input` calls it for the fields of a story.
+//! outages, expectations.
 //!
 //! It doesn't read the configuration, so it is proved at the same time as `am_config`.
 #![tactic(auto)]

@@ -1,4 +1,4 @@
-//! The pointer of a planned action. `am_rehearse` reports it if a limit leaves no capacity for the action.
+//! The pointer of a planned action.
 ghost use Rattle.am_cli.specs.Read.{IsRefusedBy};
 
 use am_cli::fault::{FaultKind, InputFault};

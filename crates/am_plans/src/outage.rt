@@ -1,4 +1,4 @@
-//! The outages of a rehearsal, and how they are read. `am_input` calls it.
+//! The outages of a rehearsal, and how they are read.
 ghost use Rattle.std.specs.Prelude.{◌≡◌, [], IfErr, IfOk, IsTrue, List, OnOk, codes, false, map, true};
 ghost use Rattle.serde_json.specs.View.{members_view};
 ghost use Rattle.am_cli.specs.Decoding.{HasOr, IsAnswer, IsList};

@@ -1,4 +1,4 @@
-//! The planned actions of a rehearsal, in the order of their times. `am_input` calls it.
+//! The planned actions of a rehearsal, in the order of their times.
 //!
 //! An alert's span is two inserts: one without an end at its start, one with its end at that time.
 ghost use Rattle.std.specs.Prelude.{◌≡◌, ◌<◌, ◌+◌, ◌&&◌, [], ◌∷◌, IfErr, IfOk, OnOk, map};

@@ -1,4 +1,4 @@
-//! The silences of a rehearsal, and how they are read. `planned` and `am_input` call it.
+//! The silences of a rehearsal, and how they are read.
 //!
 //! A silence is set where its span begins, unless `set` gives another time.
 ghost use Rattle.std.specs.Prelude.{◌<◌, ℕ, IfErr, IfOk, codes};

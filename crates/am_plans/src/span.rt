@@ -1,4 +1,4 @@
-//! Spans of time, and how they are read. Alerts, silences and outages call it.
+//! Spans of time of alerts, silences and outages, and how they are read.
 ghost use Rattle.std.specs.Prelude.{◌<◌, ℕ, IfErr, IfOk, IfSome, Option, codes};
 ghost use Rattle.serde_json.specs.View.{members_view};
 ghost use Rattle.am_cli.specs.Decoding.{HasIf, IsDuration};

@@ -1,4 +1,4 @@
-//! `Courier`: who makes the attempts. Embedders implement it, `deliver` calls it.
+//! `Courier`: who makes the attempts. Embedders implement it.
 ghost use Rattle.std.specs.Prelude.{◌≡◌, ℕ, ◌+◌, List, [], ◌∷◌, ◌++◌, IfOk, OnOk, OnErr};
 ghost use Rattle.am_pool.specs.Tries.{tried};
 ghost use Rattle.am_pool.specs.declared.courier.Tried.{Tried};

@@ -1,5 +1,4 @@
-//! The delivery of one notice. Embedders and the pool's workers call `deliver`, and `am_rehearsal`
-//! calls `deliver_by`.
+//! The delivery of one notice: `deliver` tries until it succeeds or fails for good, `deliver_by` until a time at the latest.
 ghost use Rattle.std.specs.Prelude.{◌≡◌, ◌≤◌, false};
 ghost use Rattle.am_alerts.specs.declared.limits.TheConstants.{MAX_TIME};
 ghost use Rattle.am_model.specs.Notice.{is_nothing};

@@ -1,4 +1,4 @@
-//! Why jobs aren't sent. `run_jobs` returns it.
+//! Why jobs aren't sent.
 ghost use Rattle.std.specs.Prelude.{◌≡◌};
 ghost use Rattle.am_pool.specs.declared.fault.PoolFault.TheVariants as pool_fault;
 
@@ -10,7 +10,7 @@ use thiserror::Error;
 pub enum PoolFault {
     #[error("out of memory")]
     NoMemory = 1,
-    #[error("there are more than 1,024 jobs")]
+    #[error("there are more than 8,192 jobs")]
     TooManyJobs = 2,
     #[error("there are no workers, or more than 8")]
     BadWorkers = 3,

@@ -1,5 +1,4 @@
 //! The sending of notices: `Courier`, `deliver` for one notice, `run_jobs` for many in threads.
-//! Embedders, `am_rehearsal` and `am_run` call it.
 //!
 //! A courier makes the attempts. `am_retry` says when there is another one and how they end. All
 //! times are in milliseconds.

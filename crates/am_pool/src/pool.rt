@@ -1,5 +1,5 @@
 //! The pool: `run_jobs` lets workers share the jobs, each with a courier and in a thread of its
-//! own. Embedders and `am_run` call it.
+//! own.
 //!
 //! All memory comes first: the list of reports, the queue, and a worker for each courier. A worker
 //! has capacity for the report of every job, since it can run them all. `fill` puts the numbers of
@@ -44,7 +44,7 @@ use std::thread::{Threads, join_mut};
 ///
 /// In this order, and then nothing was sent:
 /// - `BadWorkers`: no courier, or more than 8.
-/// - `TooManyJobs`: more than 1,024.
+/// - `TooManyJobs`: more than 8,192.
 /// - `NoMemory`. All memory is allocated before the first attempt, at most 1 MB.
 ///
 /// Cost: the deliveries, shared by the couriers; a push and a pop for each job, and a pop more for

@@ -1,4 +1,4 @@
-//! The queue of job numbers, under a rule. `pool` fills it, `worker` takes from it.
+//! The queue of job numbers, under a rule.
 //!
 //! Each put, take, split and join keeps the rule (`Dealt`), whatever the other threads do. By the
 //! rule the numbers below one are gone, each into the list of one pass. The others are in the

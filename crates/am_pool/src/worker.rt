@@ -1,5 +1,4 @@
-//! A worker: it takes job numbers until there are none, and its courier runs their jobs. `pool`
-//! calls it.
+//! A worker: it takes job numbers until there are none, and its courier runs their jobs.
 ghost use Rattle.std.specs.Prelude.{◌≡◌, ◌<◌, ◌≤◌, All, length, vec_len, vec_capacity};
 ghost use Rattle.crossbeam_queue.specs.Passes.{view, IsPassOf};
 ghost use Rattle.am_pool.specs.Work.{IsReady, DidWork, HasSpace, OneMoreRan};

@@ -26,6 +26,7 @@ use Rattle.am_pool.specs.Sendings.{note_at}
 use Rattle.am_rehearsal.specs.Simulations.{IsThereFor}
 use Rattle.am_rehearsal.specs.Next.{next, next_at, next_plan}
 use Rattle.am_rehearsal.specs.Planned.{InputTrace, call_of, input_of, inputs_in, input_trace, no_inputs, planned, refuses, with_inputs}
+use Rattle.am_rehearsal.specs.Laws.{PlaysHaveTheirInputs}
 use Rattle.am_rehearsal.specs.Play.{PlaysTo, LeadsIn}
 use Rattle.am_rehearsal.specs.Scene.{Scene, SendingData, Setting, opening_scene}
 use Rattle.am_rehearsal.specs.Steps.{IsBegun, IsDone, IsPlanDone, IsReplied, Steps, after_end, after_finish, is_success, with_call, with_note, with_report}
@@ -207,3 +208,7 @@ module _ (r : Setting) where
 
     pub play_planned : inputs_in board.history ≡ planned r.until plans
     play_planned = acted_of-input_trace board (with_inputs (no_inputs config) (planned r.until plans)) inputs_played
+
+-- law: a play has its inputs
+pub have_inputs : PlaysHaveTheirInputs
+have_inputs r config plans board events play = (play_configured r config plans board events play, play_planned r config plans board events play)

@@ -1,8 +1,8 @@
 -- The parts of a rehearsal: one change of the dispatcher more, and one played part more.
-use Rattle.std.proofs.Common.{◌≡◌, ◌∙◌, ◌<◌, ℕ, ◌+◌, ◌-◌, suc, get_or, take, if◌then◌else◌, List, [], ◌∷◌, ◌++◌, length, Option, Some, None, Result, Ok, Err, ap, sym, refl, arith, subst}
+use Rattle.std.proofs.Common.{◌≡◌, ◌∙◌, ◌<◌, ℕ, ◌+◌, ◌-◌, suc, get_or, take, if◌then◌else◌, List, [], ◌∷◌, ◌++◌, length, Option, Some, None, ap, sym, refl, arith, subst}
 use Rattle.std.specs.List.{count_by, flat_map}
 use Rattle.std.specs.Option.{IsSomeAnd}
-use Rattle.std.specs.Prelude.{IfOk, slice_get}
+use Rattle.std.specs.Prelude.{slice_get}
 use Rattle.std.proofs.lemmas.List.{append_assoc, flat_map_more, take_more}
 use Rattle.std.proofs.lemmas.List.Sums.{sum_by_push}
 use Rattle.std.proofs.lemmas.Option.{none-some, same_Some, slice_get_read}
@@ -26,11 +26,6 @@ pub parts_more : (first : PartData) (done : List DispatcherChange) (parts : List
     → ArePartsSoFar first done parts part → ArePartsSoFar first (done ++ h ∷ []) (parts ++ cut_at h.at part ∷ []) (after h part)
 parts_more first done parts part h so_far rest =
     ap (parts_from first) (append_assoc done (h ∷ []) rest) ∙ so_far (h ∷ rest) ∙ sym (append_assoc parts (cut_at h.at part ∷ []) (parts_from (after h part) rest))
-
--- what is true of an answer that is weaker
-pub ok_weaker : {T E : Type 0} (r : Result T E) (P Q : T → Type 0) → ((x : T) → P x → Q x) → IfOk r P → IfOk r Q
-ok_weaker (Ok x) P Q weaker h = weaker x h
-ok_weaker (Err y) P Q weaker h = tt
 
 -- the board of the last played part
 pub board_of_last : (before : Option BoardData) (played : List PlayedPart) (q : PlayedPart) → slice_get played (length played - 1) ≡ Some q

@@ -1,6 +1,6 @@
 -- DispatcherChange: what a new dispatcher of a rehearsal is given before its own plans.
 use Rattle.std.specs.Prelude.{ℕ, ◌+◌, ◌==◌, ◌&&◌, Bool, true, false, not, nat_lt, List, [], ◌∷◌}
-use Rattle.std.specs.Prelude.{◌++◌, map, Option, Some, None, if◌then◌else◌}
+use Rattle.std.specs.Prelude.{map, Option, Some, None, if◌then◌else◌}
 use Rattle.std.specs.List.{list_any}
 use Rattle.am_alerts.specs.Labels.{same_label_set}
 use Rattle.am_model.specs.declared.views.RowView.{RowView}
@@ -66,7 +66,3 @@ set_again carryover at (p ∷ ps) =
 -- loads of these log rows at a time
 abbrev pub loads : ℕ → List RowView → List TimedAction
 loads at rows = map (λ row. planned_at at (Load row)) rows
-
--- handed_on: what a new dispatcher is given at a time, after these plans were done: the log rows, and then what is set again
-abbrev pub handed_on : Carryover → ℕ → List TimedAction → List RowView → List TimedAction
-handed_on carryover at done rows = loads at rows ++ set_again carryover at done

@@ -39,7 +39,8 @@ Keeps old new = (begin : ℕ) (next : Option ℕ) → IsTrue (has_key old begin 
 
 -- all keys stay but those of this begin
 abbrev pub KeepsOthers : ℕ → FlightKeys → FlightKeys → Type 0
-KeepsOthers begin old new = (other : ℕ) (next : Option ℕ) → other ≢ begin → IsTrue (has_key old other next) → IsTrue (has_key new other next)
+KeepsOthers begin old new =
+    (other : ℕ) (next : Option ℕ) → other ≢ begin → IsTrue (has_key old other next) → IsTrue (has_key new other next)
 
 -- a key was put to the others
 pub record IsPut (old : FlightKeys) (begin : ℕ) (next : Option ℕ) (new : FlightKeys) : Type 0 where
@@ -71,7 +72,8 @@ AreKeyed k low high (s ∷ ss) = (low ≤ s.begin) × IsTrue (has_key k s.begin 
 -- this step is the next end of the flush of a key, and comes at the key's time
 abbrev pub IsEndOfKey : List SendingData → EndKey → Next → Type 0
 IsEndOfKey ss key n =
-    (position : ℕ) × IsSomeAnd (slice_get ss position) (λ s. (s.begin ≡ key.begin) × (next_end_of position 0 s.ends ≡ Some n) × (n.at ≡ key.at))
+    (position : ℕ) × IsSomeAnd (slice_get ss position)
+    (λ s. (s.begin ≡ key.begin) × (next_end_of position 0 s.ends ≡ Some n) × (n.at ≡ key.at))
 
 -- the end at an index was taken out of the flush at a position, which is this one
 abbrev pub IsEndTaken : List SendingData → ℕ → ℕ → End → List SendingData → SendingData → Type 0

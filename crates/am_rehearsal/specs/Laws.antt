@@ -4,6 +4,7 @@ use Rattle.am_model.specs.declared.config.Config.{Config}
 use Rattle.am_board.specs.History.{BoardData}
 use Rattle.am_model.specs.Notice.{NoticeData}
 use Rattle.am_rehearsal.specs.Answers.{IsEndOf, answer_of}
+use Rattle.am_rehearsal.specs.Planned.{inputs_in, planned}
 use Rattle.am_rehearsal.specs.Play.{PlaysTo}
 use Rattle.am_rehearsal.specs.Scene.{Setting}
 use Rattle.am_rehearsal.specs.declared.next.End.{End}
@@ -17,6 +18,14 @@ RehearsalsHaveOnePlay =
     (r : Setting) (config : Config) (plans : List TimedAction) (one other : BoardData) (events others : List Event)
     → PlaysTo r config plans one events → PlaysTo r config plans other others
     → (one ≡ other) × (events ≡ others)
+
+-- law: a play has its configuration, and its inserts, silences and loads are the planned ones, in order and at their times, up to the
+-- first plan that is after its end
+abbrev pub PlaysHaveTheirInputs : Type 0
+PlaysHaveTheirInputs =
+    (r : Setting) (config : Config) (plans : List TimedAction) (board : BoardData) (events : List Event)
+    → PlaysTo r config plans board events
+    → (board.config ≡ config) × (inputs_in board.history ≡ planned r.until plans)
 
 -- the sending of a notice from a time on ends by the cut, or at once if that is later; where an attempt was made, it ends by the cut
 abbrev pub EndsByCut : ℕ → ℕ → End → Type 0

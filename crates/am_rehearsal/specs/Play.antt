@@ -3,11 +3,10 @@ use Rattle.std.specs.Prelude.{◌≡◌, ℕ, zero, suc, List, None}
 use Rattle.am_model.specs.declared.config.Config.{Config}
 use Rattle.am_board.specs.History.{BoardData}
 use Rattle.am_rehearsal.specs.Next.{next}
-use Rattle.am_rehearsal.specs.Scene.{Scene, Setting, opening_scene, setting_with}
+use Rattle.am_rehearsal.specs.Scene.{Scene, Setting, opening_scene}
 use Rattle.am_rehearsal.specs.Steps.{Steps}
 use Rattle.am_rehearsal.specs.declared.span.Span.{Span}
 use Rattle.am_terms.specs.declared.event.Event.{Event}
-use Rattle.am_terms.specs.declared.rehearsal.Rehearsal.{Rehearsal}
 use Rattle.am_terms.specs.declared.rehearsal.TimedAction.{TimedAction}
 
 -- so many steps lead from one scene to another
@@ -31,11 +30,3 @@ pub record PlaysTo (r : Setting) (config : Config) (plans : List TimedAction) (b
 -- the span of a dispatcher that runs from the start, and isn't stopped
 abbrev pub whole : Span
 whole = record { since = 0; cut = None }
-
--- the setting of a rehearsal whose dispatcher runs in this span
-abbrev pub setting_in_span : Span → Rehearsal → Setting
-setting_in_span span rehearsal = setting_with rehearsal.until rehearsal.upkeep rehearsal.outages.items span
-
--- the setting of a rehearsal
-abbrev pub setting_of : Rehearsal → Setting
-setting_of rehearsal = setting_in_span whole rehearsal

@@ -1,7 +1,7 @@
 -- Playing: the parts of a rehearsal, played one after another, each by a board of its own.
 use Rattle.std.specs.Prelude.{◌≡◌, ◌≢◌, ◌&&◌, ℕ, Bool, true, false, not, nat_lt, List, [], ◌∷◌, ◌++◌, length}
-use Rattle.std.specs.Prelude.{take, slice_get, Option, Some, None, if◌then◌else◌}
-use Rattle.std.specs.List.{count_by, flat_map, list_any}
+use Rattle.std.specs.Prelude.{take, slice_get, vec_len, Option, Some, None, if◌then◌else◌}
+use Rattle.std.specs.List.{count_by, flat_map, list_any, range_with_len}
 use Rattle.std.specs.Option.{IsSomeAnd}
 use Rattle.am_model.specs.Carry.{is_led_to}
 use Rattle.am_model.specs.Config.{config_fault}
@@ -11,10 +11,13 @@ use Rattle.am_model.specs.declared.config.Config.{Config}
 use Rattle.am_model.specs.declared.views.RowView.{RowView}
 use Rattle.am_board.specs.History.{BoardData, state_at}
 use Rattle.am_rehearsal.specs.DispatcherChange.{loads}
+use Rattle.am_rehearsal.specs.EventOrder.{begin_indices}
 use Rattle.am_rehearsal.specs.Parts.{PartData}
 use Rattle.am_rehearsal.specs.Play.{PlaysTo}
+use Rattle.am_rehearsal.specs.Previews.{previews_of}
 use Rattle.am_rehearsal.specs.Scene.{Setting, setting_with}
 use Rattle.am_rehearsal.specs.CauseOfFault.{IsCauseOfFault}
+use Rattle.am_rehearsal.specs.declared.limits.TheConstants.{BOARD_ID}
 use Rattle.am_rehearsal.specs.declared.play.PlayFault.{PlayFault}
 use Rattle.am_rehearsal.specs.declared.play.PlayFault.TheVariants as play
 use Rattle.am_rehearsal.specs.declared.playing.PartFault.{PartFault}
@@ -49,12 +52,14 @@ is_taken at reload row = not (nat_lt row.expiry at) && list_any (is_led_to reloa
 -- again, if the log is kept
 abbrev pub taken_over : Carryover → Config → Option BoardData → List RowView
 taken_over carryover config None = []
-taken_over carryover config (Some b) = if carries_log carryover then flat_map (rekeyed (reload_of b config)) (row_views (state_at b)) else []
+taken_over carryover config (Some b) =
+    if carries_log carryover then flat_map (rekeyed (reload_of b config)) (row_views (state_at b)) else []
 
 -- how many log rows of the board before are taken over at a time
 abbrev pub taken_count : Carryover → ℕ → Config → Option BoardData → ℕ
 taken_count carryover at config None = 0
-taken_count carryover at config (Some b) = if carries_log carryover then count_by (is_taken at (reload_of b config)) (row_views (state_at b)) else 0
+taken_count carryover at config (Some b) =
+    if carries_log carryover then count_by (is_taken at (reload_of b config)) (row_views (state_at b)) else 0
 
 -- the plans of a part with the loads of the log rows that its dispatcher takes over in front of them
 abbrev pub loaded_plans : Option BoardData → PartData → List TimedAction
@@ -64,9 +69,13 @@ loaded_plans before p = loads p.span.since (taken_over p.carryover p.config befo
 abbrev pub setting_of_part : Upkeep → List Outage → PartData → Setting
 setting_of_part upkeep outages p = setting_with p.until upkeep outages p.span
 
--- a part plays so after the board before it, and so many of that board's log rows were taken over
+-- a part plays so after the board before it: its board has the id of all rehearsals, it has the preview of each begin of its history that
+-- took a group, its events name each of these begins, once and in order, and so many log rows of the board before were taken over
 pub record PlaysPart (upkeep : Upkeep) (outages : List Outage) (before : Option BoardData) (p : PartData) (q : PlayedPart) : Type 0 where
   pub plays : PlaysTo (setting_of_part upkeep outages p) p.config (loaded_plans before p) q.played.value.board q.played.value.events.items
+  pub ours : q.played.value.board.id ≡ BOARD_ID
+  pub previews : q.played.value.begins.items ≡ previews_of q.played.value.board.config q.played.value.board.history
+  pub begun : begin_indices q.played.value.events.items ≡ range_with_len 0 (vec_len q.played.value.begins)
   pub rows : q.rows ≡ length (rows_before before)
   pub taken : q.taken ≡ taken_count p.carryover p.span.since p.config before
 

@@ -1,4 +1,4 @@
--- Courses: the scene of a rehearsal that is being played.
+-- Simulations: the scene of a rehearsal that is being played.
 use Rattle.std.specs.Prelude.{◌≡◌, ◌<◌, ◌≤◌, ◌-◌, ◌||◌, ℕ, Bool, true, false, IsTrue, not, length, slice_get, Option, Some, None}
 use Rattle.std.specs.Option.{IsSomeAnd}
 use Rattle.am_model.specs.declared.fault.Fault.{Fault}
@@ -10,6 +10,8 @@ use Rattle.am_rehearsal.specs.Next.{next}
 use Rattle.am_rehearsal.specs.Play.{Reaches}
 use Rattle.am_rehearsal.specs.Scene.{Scene, Setting, setting_with}
 use Rattle.am_rehearsal.specs.CauseOfFault.{IsHistoryFull, own_cause, refuses_first}
+use Rattle.am_rehearsal.specs.declared.play.Conditions.{Conditions}
+use Rattle.am_rehearsal.specs.declared.play.LoadedPart.{LoadedPart}
 use Rattle.am_rehearsal.specs.declared.play.Simulation.{Simulation}
 use Rattle.am_rehearsal.specs.declared.play.PlayFault.{PlayFault}
 use Rattle.am_rehearsal.specs.declared.play.PlayFault.TheVariants as play
@@ -17,6 +19,10 @@ use Rattle.am_rehearsal.specs.declared.play.PlayFault.TheVariants as play
 -- what doesn't change in it
 abbrev pub setting_in : Simulation → Setting
 setting_in simulation = setting_with simulation.until simulation.upkeep simulation.outages.now simulation.span
+
+-- what doesn't change in a part that is to be played under these conditions
+abbrev pub setting_of : Conditions → LoadedPart → Setting
+setting_of conditions part = setting_with part.until conditions.upkeep conditions.outages.now part.span
 
 -- how far it has come
 abbrev pub scene_in : Simulation → Scene

@@ -1,4 +1,4 @@
-//! Why a planned action isn't done. `previewing` returns it, and `play` adds the action's position.
+//! Why a planned action isn't done.
 use am_board::fault::{Fault, LoadFault};
 
 /// Why a board doesn't do a planned action.

@@ -1,5 +1,4 @@
 //! A courier that answers as the outages say, up to the time at which its dispatcher is stopped.
-//! `sending` sends by it.
 //!
 //! The outages, the receiver and that time are named by a type (`Outages`), which a caller picks with `Brand`.
 //! So it is known of each such courier how its attempts are answered, though `deliver` says nothing

@@ -1,10 +1,10 @@
-//! What a new dispatcher of a rehearsal is given before its own plans. Callers of `play_span` put it
-//! before the plans of the next dispatcher.
+//! What a new dispatcher of a rehearsal is given before its own plans: `loads` of log rows, and
+//! what of the plans before it still counts (`set_again`).
 //!
 //! The plans that were done are gone through from the end. So the first action of a label set or of
 //! a silence's id is the one that counts, and each is looked up once.
 ghost use Rattle.std.specs.Prelude.{◌≡◌, ◌++◌, ◌∷◌, ◌&&◌, ◌||◌, [], IfOk, OnOk, if◌then◌else◌, not, reverse};
-ghost use Rattle.am_rehearsal.specs.DispatcherChange.{handed_on, carries_silences, loads, planned_at, replaces, set_again, still_counts};
+ghost use Rattle.am_rehearsal.specs.DispatcherChange.{carries_silences, loads, planned_at, replaces, set_again, still_counts};
 ghost use Rattle.am_rehearsal.specs.DispatcherChange.{window_of};
 ghost use Rattle.am_rehearsal.specs.Seen.{is_seen, SeesNothing};
 ghost use Rattle.am_terms.specs.declared.rehearsal.Action.{Action};
@@ -19,41 +19,16 @@ use am_terms::rehearsal::{Action, TimedAction};
 use std::alloc::{AllocError, Global};
 use std::collections::HashSet;
 
-/// Returns what a new dispatcher is given at `at` (milliseconds), after these plans of the one before
-/// it were done.
-///
-/// First each of these log rows is loaded: the caller has moved them to the new configuration
-/// (`am_model::carry`). Then the last insert of each label set is made again, if the alert fires or
-/// ended just before, and the last silence of each id is set again, if it isn't over and silences
-/// are kept. They come in the order of the plans.
-///
-/// # Errors
-///
-/// `AllocError`: out of memory.
-///
-/// Cost: one look-up for each plan, whose hashes start from `seed`, and a copy of each action that is set again.
-pub fn handed_on(
-    alloc: Global,
-    seed: Seed,
-    carryover: Carryover,
-    at: u64,
-    done: &[TimedAction],
-    rows: Vec<RowView>,
-) -> Result<Vec<TimedAction>, AllocError>
-    ensures { IfOk result (λ plans. plans.items ≡ handed_on carryover at done.now rows.items) }
-{
-    let mut plans = loads(alloc, at, rows)?;
-    let mut again = set_again(alloc, seed, carryover, at, done)?;
-    plans.append(&mut again)?;
-    Ok(plans)
-}
-
 /// Returns loads of these log rows at `at` (milliseconds), in their order.
 ///
 /// # Errors
 ///
 /// `AllocError`: out of memory.
-pub fn loads(alloc: Global, at: u64, rows: Vec<RowView>) -> Result<Vec<TimedAction>, AllocError>
+pub(crate) fn loads(
+    alloc: Global,
+    at: u64,
+    rows: Vec<RowView>,
+) -> Result<Vec<TimedAction>, AllocError>
     ensures { IfOk result (λ plans. plans.items ≡ loads at rows.items) }
 {
     let mut plans = Vec::with_capacity(alloc, rows.len())?;
@@ -66,13 +41,17 @@ pub fn loads(alloc: Global, at: u64, rows: Vec<RowView>) -> Result<Vec<TimedActi
     Ok(plans)
 }
 
-/// Returns what of these plans is set again at `at` (milliseconds), in their order. It is what
-/// `handed_on` returns without the rows, for callers that have the plans before they have the rows.
+/// Returns what of these plans is set again at `at` (milliseconds), in their order.
+///
+/// This is the last insert of each label set, if the alert fires or ended just before, and the last
+/// silence of each id, if it isn't over and silences are kept.
 ///
 /// # Errors
 ///
 /// `AllocError`: out of memory.
-pub fn set_again(
+///
+/// Cost: one look-up for each plan, whose hashes start from `seed`, and a copy of each action that is set again.
+pub(crate) fn set_again(
     alloc: Global,
     seed: Seed,
     carryover: Carryover,

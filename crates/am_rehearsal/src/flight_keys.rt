@@ -1,7 +1,7 @@
-//! When the next ends of flushes in flight come. `flights` keeps it.
+//! When the next ends of flushes in flight come.
 //!
 //! Keys only save time: where memory for one lacks, or begins don't rise, the keys aren't whole any
-//! more, and `flights` walks over its list.
+//! more, and the list of flushes is walked over.
 ghost use Rattle.std.specs.Prelude.{◌≡◌, ◌≢◌, ◌≤◌, ◌+◌, ℕ, IfNone, IfSome, IsTrue, false, true};
 ghost use Rattle.am_rehearsal.specs.FlightKeys.{has_key, IsAdded, IsFirstEnd, IsFirstReady, IsPut, KeepsOthers};
 

@@ -1,4 +1,4 @@
-//! `Flights`: the flushes whose notices are in flight, in the order of their begins. `play` has them.
+//! `Flights`: the flushes whose notices are in flight, in the order of their begins.
 //!
 //! Each has a key, by which its next end is found without a walk over all.
 ghost use Rattle.std.specs.Prelude.{◌≡◌, ◌==◌, ◌<◌, ◌+◌, ◌++◌, [], ◌∷◌, IfErr, IfSome, OnOk, Some, length, remove, slice_get, slice_set};

@@ -1,7 +1,7 @@
-//! The limits of a rehearsal, that it has one play, and that sendings end by a cut, as laws that
-//! verifiers read.
+//! The limits of a rehearsal, that it has one play with the planned inputs, and that sendings end by
+//! a cut, as laws that verifiers read.
 ghost use Rattle.std.specs.Prelude.{◌≡◌};
-ghost use Rattle.am_rehearsal.specs.Laws.{RehearsalsHaveOnePlay, SendingsEndByCut};
+ghost use Rattle.am_rehearsal.specs.Laws.{PlaysHaveTheirInputs, RehearsalsHaveOnePlay, SendingsEndByCut};
 ghost use Rattle.am_rehearsal.specs.declared.limits.TheConstants.{BOARD_ID};
 ghost use Rattle.am_terms.specs.declared.rehearsal.TheConstants.{MAX_UNTIL};
 
@@ -17,6 +17,13 @@ pub fn limits_are()
 /// events to which it comes.
 pub fn rehearsals_have_one_play()
     ensures { RehearsalsHaveOnePlay }
+{}
+
+/// States that a play has its configuration, and the planned inserts, silences and loads.
+///
+/// They come in order and at their times, up to the first that is after the end.
+pub fn plays_have_their_inputs()
+    ensures { PlaysHaveTheirInputs }
 {}
 
 /// States that a sending ends by the time at which its dispatcher is stopped.

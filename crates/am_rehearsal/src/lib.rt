@@ -1,13 +1,13 @@
 //! Rehearsals: alerts, silences and outages run against a board on a simulated clock, and what each
-//! begin was to do is kept. `am_rehearse` calls `play`, or `play_parts` where the dispatcher is
-//! reloaded or restarted.
+//! begin was to do is kept. `parts::parts_of` makes a part for each dispatcher: the first one, and
+//! one for each reload and restart. `playing::play_parts` plays the parts.
 //!
 //! All times are in milliseconds from the start of the rehearsal.
 #![tactic(auto)]
 
 mod acting;
 mod courier;
-pub mod dispatcher_change;
+mod dispatcher_change;
 mod flight_keys;
 mod flights;
 mod law;
@@ -22,5 +22,7 @@ mod sending;
 pub mod span;
 mod taken;
 
-pub use law::{limits_are, rehearsals_have_one_play, sendings_end_by_the_cut};
+pub use law::{
+    limits_are, plays_have_their_inputs, rehearsals_have_one_play, sendings_end_by_the_cut,
+};
 pub use limits::BOARD_ID;

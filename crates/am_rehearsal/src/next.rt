@@ -1,4 +1,4 @@
-//! What a rehearsal does next. `play` asks for it before each step.
+//! What a rehearsal does next.
 ghost use Rattle.std.specs.Prelude.{◌≡◌, ◌≤◌};
 ghost use Rattle.am_rehearsal.specs.Next.{comes_by, earlier, in_time, tick_after};
 

@@ -1,5 +1,5 @@
 //! A rehearsal in which the dispatcher is reloaded or restarted, as a list of parts: one for each
-//! dispatcher. `am_rehearse` calls `parts_of`, and `playing` plays them.
+//! dispatcher.
 ghost use Rattle.std.specs.Prelude.{◌≡◌, ◌≤◌, ◌++◌, IfOk, OnOk};
 ghost use Rattle.std.specs.List.{prefix_len};
 ghost use Rattle.am_rehearsal.specs.DispatcherChange.{set_again};

@@ -1,10 +1,10 @@
-//! The clock of a rehearsal. `am_rehearse` calls `play`.
+//! The clock of a dispatcher's part of a rehearsal.
 //!
-//! A rehearsal goes step by step: `next` says what comes next, `step` does it. A step is a removal of
-//! empty groups, the end of the sending of a notice, the finish of a flush, a planned action, a
+//! A part goes step by step: `next` says what comes next, `step` does it. A step is a removal
+//! of empty groups, the end of the sending of a notice, the finish of a flush, a planned action, a
 //! maintenance or a begin. The earliest comes first, and of one time in this order, so a begin sees
-//! everything of its time. A begin that took a group is followed by another at once. All steps but the
-//! ends of failed sendings are calls of a board: this module decides only when they are made.
+//! everything of its time. A begin that took a group is followed by another at once. All steps but
+//! the ends of failed sendings are calls of a board: this module decides only when they are made.
 //!
 //! Empty groups are removed at ticks, which come at each multiple of `remove_empty_groups` after the
 //! dispatcher's start. A tick at which no group is empty is no step, and makes no record. A tick comes
@@ -14,21 +14,22 @@
 //! soon as it is begun, and their reports wait until the clock comes to their ends. When as many
 //! flushes are open as the limit allows, groups stay due, and no begin is tried until a flush is
 //! finished.
-ghost use Rattle.std.specs.Prelude.{◌≡◌, ◌≢◌, ◌<◌, ◌≤◌, ◌+◌, ◌-◌, ◌++◌, [], false, IfErr, IfOk, OnOk, None, Some};
+ghost use Rattle.std.specs.Prelude.{◌≡◌, ◌≢◌, ◌<◌, ◌≤◌, ◌+◌, ◌-◌, [], false, IfErr, IfOk, OnOk, None, Some};
 ghost use Rattle.std.specs.Prelude.{length, slice_get, vec_len};
 ghost use Rattle.std.specs.List.{range_with_len};
 ghost use Rattle.std.specs.Option.{IsSomeAnd};
 ghost use Rattle.am_alerts.specs.declared.limits.TheConstants.{MAX_TIME};
 ghost use Rattle.am_model.specs.Config.{config_fault};
 ghost use Rattle.am_model.specs.Replay.{IsLegal};
-ghost use Rattle.am_rehearsal.specs.Simulations.{scene_in, setting_in, IsAllowed, IsHindered, IsOwnFault, IsPlanFault, IsStopped};
+ghost use Rattle.am_rehearsal.specs.Simulations.{scene_in, setting_in, setting_of};
+ghost use Rattle.am_rehearsal.specs.Simulations.{IsAllowed, IsHindered, IsOwnFault, IsPlanFault, IsStopped};
 ghost use Rattle.am_rehearsal.specs.EventOrder.{begin_indices};
 ghost use Rattle.am_rehearsal.specs.Faults.{fault_of_call};
 ghost use Rattle.am_rehearsal.specs.Next.{begins_on, next, next_but_begins, next_begin, next_plan, next_removal};
-ghost use Rattle.am_rehearsal.specs.Planned.{inputs_in, planned, refuses};
-ghost use Rattle.am_rehearsal.specs.Play.{setting_in_span, setting_of, PlaysTo, Reaches};
+ghost use Rattle.am_rehearsal.specs.Planned.{refuses};
+ghost use Rattle.am_rehearsal.specs.Play.{PlaysTo, Reaches};
 ghost use Rattle.am_rehearsal.specs.Previews.{previews_of};
-ghost use Rattle.am_rehearsal.specs.Scene.{opening_scene, setting_with};
+ghost use Rattle.am_rehearsal.specs.Scene.{opening_scene};
 ghost use Rattle.am_rehearsal.specs.Steps.{after_plan, with_sending, IsDone, IsSendingAdded, Steps};
 ghost use Rattle.am_rehearsal.specs.CauseOfFault.{own_cause, IsCauseOfFault};
 ghost use Rattle.am_rehearsal.specs.declared.limits.TheConstants.{BOARD_ID};
@@ -50,7 +51,7 @@ use am_board::own_ticket::OwnTicket;
 use am_board::record::Record;
 use am_seed::Seed;
 use am_terms::event::{Event, PreviewedBegin};
-use am_terms::rehearsal::{Outage, Rehearsal, TimedAction, Upkeep};
+use am_terms::rehearsal::{Outage, TimedAction, Upkeep};
 use am_terms::watch::Watch;
 use std::alloc::{AllocError, Global};
 use std::collections::VecDeque;
@@ -95,115 +96,43 @@ pub enum PlayFault {
     Full,
 }
 
-/// Runs a rehearsal to its end. Notices that are in flight then are sent to their own end. `watch` is called at each step.
-///
-/// Clause `planned`: the inserts, silences and loads of the history are the planned ones, in order
-/// and at their times, up to the first that is after the end. Clause `previews`: the reasons of each
-/// begin are those that the history before it gives. Clause `begun`: the events have each begin that took
-/// a group, once and in order. Clause `played`: board and events are those to which the rehearsal
-/// plays (`PlaysTo`), step by step. `law::rehearsals_have_one_play`: there is only one such pair. The
-/// board has the id `BOARD_ID`. Hashes start from `seed`, on which nothing depends. Clause `refused`:
-/// a fault other than `NoMemory` comes only where it is the cause (`IsCauseOfFault`).
-///
-/// # Errors
-///
-/// The first of these on the way:
-/// - `BadConfig`: no board takes the configuration.
-/// - `PlanRefused`: the planned action at this position comes next, and the board refuses it: at a
-///   limit, or a log row that doesn't fit.
-/// - `Full`: a begin, a maintenance or a removal of empty groups comes next, and the history has no
-///   capacity for it.
-/// - `NoMemory`.
-///
-/// Cost: its board calls, with a preview for each begin, and at each event the notices of one flush.
-pub fn play<W: Watch>(
-    alloc: Global,
-    seed: Seed,
-    rehearsal: Rehearsal,
-    watch: &mut W,
-) -> Result<Played, PlayFault>
-    ensures configured { IfOk result (λ played. played.board.config ≡ rehearsal.config) }
-    ensures ours { IfOk result (λ played. played.board.id ≡ BOARD_ID) }
-    ensures planned { IfOk result (λ played.
-        inputs_in played.board.history ≡ planned rehearsal.until rehearsal.plans.items) }
-    ensures previews { IfOk result (λ played. played.begins.items ≡ previews_of played.board.config played.board.history) }
-    ensures begun { IfOk result (λ played.
-        begin_indices played.events.items ≡ range_with_len 0 (vec_len played.begins)) }
-    ensures played { IfOk result (λ played.
-        PlaysTo (setting_of rehearsal) rehearsal.config rehearsal.plans.items played.board played.events.items) }
-    ensures refused { IfErr result (IsCauseOfFault (setting_of rehearsal) rehearsal.config rehearsal.plans.items) }
-{
-    play_span(alloc, seed, rehearsal, Span::whole(), watch)
+/// What all dispatchers of a rehearsal share.
+#[derive(Clone, Copy)]
+pub(crate) struct Conditions<'o> {
+    pub(crate) alloc: Global,
+    /// What hashes start from.
+    pub(crate) seed: Seed,
+    pub(crate) upkeep: Upkeep,
+    pub(crate) outages: &'o [Outage],
 }
 
-/// Runs the part of a rehearsal that one dispatcher has, to its end. It starts with an empty board.
+/// What one dispatcher has of a rehearsal, with its loads of log rows in front of its plans.
+#[derive(Drop)]
+pub(crate) struct LoadedPart {
+    pub(crate) config: Config,
+    pub(crate) span: Span,
+    /// The last time of its plans, maintenances, removals and begins.
+    pub(crate) until: u64,
+    pub(crate) plans: Vec<TimedAction>,
+}
+
+/// Runs the part of a rehearsal that one dispatcher has to its end. It starts with an empty board.
+/// Notices that are in flight at the end are sent to their own end.
 ///
 /// The clock starts at `span.since`, and the first maintenance and the first tick come their time
 /// after that. An attempt that would end after `span.cut` fails at the cut, without another try. No
-/// attempt begins from the cut on. All else is as in `play`, with the same clauses.
-///
-/// # Errors
-///
-/// Those of `play`.
-pub fn play_span<W: Watch>(
-    alloc: Global,
-    seed: Seed,
-    rehearsal: Rehearsal,
-    span: Span,
+/// attempt begins from the cut on.
+pub(crate) fn play_loaded<W: Watch>(
+    conditions: &Conditions<'_>,
+    part: LoadedPart,
     watch: &mut W,
 ) -> Result<Played, PlayFault>
-    ensures configured { IfOk result (λ played. played.board.config ≡ rehearsal.config) }
-    ensures ours { IfOk result (λ played. played.board.id ≡ BOARD_ID) }
-    ensures planned { IfOk result (λ played.
-        inputs_in played.board.history ≡ planned rehearsal.until rehearsal.plans.items) }
-    ensures previews { IfOk result (λ played. played.begins.items ≡ previews_of played.board.config played.board.history) }
-    ensures begun { IfOk result (λ played.
-        begin_indices played.events.items ≡ range_with_len 0 (vec_len played.begins)) }
+    requires until { part.until ≤ MAX_UNTIL }
     ensures played { IfOk result (λ played.
-        PlaysTo (setting_in_span span rehearsal) rehearsal.config rehearsal.plans.items played.board played.events.items) }
-    ensures refused { IfErr result (IsCauseOfFault (setting_in_span span rehearsal) rehearsal.config rehearsal.plans.items) }
+        PlaysTo (setting_of conditions.now part) part.config part.plans.items played.board played.events.items) }
+    ensures refused { IfErr result (IsCauseOfFault (setting_of conditions.now part) part.config part.plans.items) }
 {
-    let Rehearsal {
-        config,
-        until,
-        upkeep,
-        plans,
-        outages,
-    } = rehearsal;
-    play_pieces(
-        alloc,
-        seed,
-        config,
-        until,
-        upkeep,
-        plans,
-        outages.as_slice(),
-        span,
-        watch,
-    )
-}
-
-/// Runs the part of a rehearsal that one dispatcher has, given by its pieces, to its end. The
-/// outages are borrowed: the parts of a rehearsal share them.
-pub(crate) fn play_pieces<W: Watch>(
-    alloc: Global,
-    seed: Seed,
-    config: Config,
-    until: u64,
-    upkeep: Upkeep,
-    plans: Vec<TimedAction>,
-    outages: &[Outage],
-    span: Span,
-    watch: &mut W,
-) -> Result<Played, PlayFault>
-    requires until { until ≤ MAX_UNTIL }
-    ensures played { IfOk result (λ played.
-        PlaysTo (setting_with until upkeep outages.now span) config plans.items played.board played.events.items) }
-    ensures refused { IfErr result (IsCauseOfFault (setting_with until upkeep outages.now span) config plans.items) }
-{
-    let mut simulation = Simulation::open(
-        alloc, seed, config, until, upkeep, plans, outages, span,
-    )?;
+    let mut simulation = Simulation::open(conditions, part)?;
     match simulation.run(watch) {
         Ok(()) => Ok(simulation.into_played()?),
         Err(fault) => {
@@ -239,28 +168,28 @@ struct Simulation<'o> {
 
 impl<'o> Simulation<'o> {
     /// A rehearsal at its start.
-    fn open(
-        alloc: Global,
-        seed: Seed,
-        config: Config,
-        until: u64,
-        upkeep: Upkeep,
-        plans: Vec<TimedAction>,
-        outages: &'o [Outage],
-        span: Span,
-    ) -> Result<Simulation<'o>, PlayFault>
-        ensures setting { IfOk result (λ simulation. setting_in simulation ≡ setting_with until upkeep outages.now span) }
+    fn open(conditions: &Conditions<'o>, part: LoadedPart) -> Result<Simulation<'o>, PlayFault>
+        ensures setting { IfOk result (λ simulation. setting_in simulation ≡ setting_of conditions.now part) }
         ensures scene { IfOk result (λ simulation.
-            scene_in simulation ≡ opening_scene (setting_with until upkeep outages.now span) config plans.items) }
-        ensures counted { IfOk result (λ simulation. simulation.count ≡ length plans.items) }
-        ensures faultless { OnOk result (config_fault config ≡ None) }
-        ensures refused { IfErr result (λ fault. (fault ≡ PlayFault.BadConfig) × (config_fault config ≢ None)) }
+            scene_in simulation ≡ opening_scene (setting_of conditions.now part) part.config part.plans.items) }
+        ensures counted { IfOk result (λ simulation. simulation.count ≡ length part.plans.items) }
+        ensures faultless { OnOk result (config_fault part.config ≡ None) }
+        ensures refused { IfErr result (λ fault. (fault ≡ PlayFault.BadConfig) × (config_fault part.config ≢ None)) }
     {
+        let alloc = conditions.alloc;
+        let seed = conditions.seed;
+        let upkeep = conditions.upkeep;
+        let LoadedPart {
+            config,
+            span,
+            until,
+            plans,
+        } = part;
         Ok(Simulation {
             alloc,
             seed,
             board: PreviewingBoard::new(alloc, seed, config)?,
-            outages,
+            outages: conditions.outages,
             until,
             upkeep,
             span,

@@ -1,5 +1,4 @@
-//! Plays the parts of a rehearsal one after another, each by a board of its own. `am_rehearse` calls
-//! `play_parts` with what `parts::parts_of` returns.
+//! Plays the parts of a rehearsal (`parts`) one after another, each by a board of its own.
 //!
 //! A dispatcher that keeps the log gets the rows of the board before it as loads, in front of its own
 //! plans. Boards are in boxes: the proof of a function that lets a whole board go takes half a minute.
@@ -10,22 +9,21 @@ ghost use Rattle.am_model.specs.Carry.{is_led_to};
 ghost use Rattle.am_model.specs.Rekey.{rekeyed};
 ghost use Rattle.am_rehearsal.specs.Playing.{is_taken, carries_log, last_board, rows_before, taken_count, taken_over};
 ghost use Rattle.am_rehearsal.specs.Playing.{ArePlayed, IsPlayedNext, IsTakeFault, IsCauseOfPartFault, IsCauseOfPartsFault, PlaysPart};
-ghost use Rattle.am_rehearsal.specs.Scene.{setting_with};
+ghost use Rattle.am_rehearsal.specs.Simulations.{setting_of};
 ghost use Rattle.am_rehearsal.specs.Play.{PlaysTo};
 ghost use Rattle.am_rehearsal.specs.CauseOfFault.{IsCauseOfFault};
 ghost use Rattle.am_terms.specs.declared.rehearsal.TheConstants.{MAX_UNTIL};
 
 use crate::dispatcher_change::loads;
 use crate::parts::Part;
-use crate::play::{PlayFault, Played, play_pieces};
-use crate::span::Span;
+use crate::play::{Conditions, LoadedPart, PlayFault, Played, play_loaded};
 use am_board::board::Board;
 use am_board::config::Config;
 use am_model::rekey::{Rekeying, is_led_to};
 use am_model::views::RowView;
 use am_seed::Seed;
 use am_terms::dispatcher_change::Carryover;
-use am_terms::rehearsal::{Outage, TimedAction, Upkeep};
+use am_terms::rehearsal::{Outage, Upkeep};
 use am_terms::watch::Watch;
 use std::alloc::{AllocError, Global};
 
@@ -49,18 +47,32 @@ pub struct PartFault {
 
 /// Runs the parts of a rehearsal to their ends, one after another.
 ///
-/// `upkeep` says how often each dispatcher removes what is over. Each part runs as by
-/// `play_span`. Before its own plans come loads of the log rows that it takes over of the board
-/// before it, if it keeps the log (`am_model::rekey`). `watch` is called at each step.
+/// `upkeep` says how often each dispatcher removes what is over. Each part starts with an empty board
+/// at the start of its span. Before its own plans come loads of the log rows that it takes over of the
+/// board before it, if it keeps the log (`am_model::rekey`). Notices that are in flight at its end are
+/// sent to their own end, or fail at the cut of its span. `watch` is called at each step. Hashes start
+/// from `seed`, on which nothing depends.
 ///
-/// Clause `played`: each part plays to its board and events (`PlaysTo`), and the numbers of log rows
-/// are right. Clause `refused`: the parts before the failing one run, and for that one the
-/// fault is the cause (`IsCauseOfFault`).
+/// Clause `played`: each part plays to its board and events (`PlaysTo`), step by step.
+/// `law::rehearsals_have_one_play`: there is only one such pair. `law::plays_have_their_inputs`: the
+/// inserts, silences and loads of the history are the planned ones. The reasons of each begin are those
+/// that the history before it gives. The events have each begin that took a group, once and in order.
+/// The board has the id `BOARD_ID`. The numbers of log rows are right (`PlaysPart`).
+///
+/// Clause `refused`: the parts before the failing one run. For that one a fault other than `NoMemory`
+/// comes only where it is the cause (`IsCauseOfFault`).
 ///
 /// # Errors
 ///
-/// The first fault of `play_span` on the way, with the position of its part. The planned action that
-/// `PlanRefused` names counts with the loads in front.
+/// The first of these on the way, with the position of its part:
+/// - `BadConfig`: no board takes the configuration.
+/// - `PlanRefused`: the planned action at this position comes next, and the board refuses it: at a
+///   limit, or a log row that doesn't fit. The position counts with the loads in front.
+/// - `Full`: a begin, a maintenance or a removal of empty groups comes next, and the history has no
+///   capacity for it.
+/// - `NoMemory`.
+///
+/// Cost: its board calls, with a preview for each begin, and at each event the notices of one flush.
 pub fn play_parts<W: Watch>(
     alloc: Global,
     seed: Seed,
@@ -72,9 +84,15 @@ pub fn play_parts<W: Watch>(
     ensures played { IfOk result (λ played. ArePlayed upkeep outages.now None parts.items played.items) }
     ensures refused { IfErr result (IsCauseOfPartsFault upkeep outages.now parts.items) }
 {
+    let conditions = Conditions {
+        alloc,
+        seed,
+        upkeep,
+        outages,
+    };
     let mut played = Vec::new(alloc);
     for part in parts {
-        match play_next(alloc, seed, part, upkeep, outages, &mut played, watch) {
+        match play_next(&conditions, part, &mut played, watch) {
             Ok(()) => {}
             Err(fault) => {
                 return Err(PartFault {
@@ -89,21 +107,20 @@ pub fn play_parts<W: Watch>(
 
 /// Plays a part after these, and adds it.
 fn play_next<W: Watch>(
-    alloc: Global,
-    seed: Seed,
+    conditions: &Conditions<'_>,
     part: Part,
-    upkeep: Upkeep,
-    outages: &[Outage],
     played: &mut Vec<PlayedPart>,
     watch: &mut W,
 ) -> Result<(), PlayFault>
-    ensures added { OnOk result (IsPlayedNext upkeep outages.now part played.old.items played.new.items) }
+    ensures added { OnOk result
+        (IsPlayedNext conditions.now.upkeep conditions.now.outages.now part played.old.items played.new.items) }
     ensures kept { OnErr result (played.new.items ≡ played.old.items) }
-    ensures refused { IfErr result (IsCauseOfPartFault upkeep outages.now (last_board None played.old.items) part) }
+    ensures refused { IfErr result
+        (IsCauseOfPartFault conditions.now.upkeep conditions.now.outages.now (last_board None played.old.items) part) }
 {
     played.reserve(1)?;
     let before = last_board(played.as_slice());
-    let next = play_part(alloc, seed, before, part, upkeep, outages, watch)?;
+    let next = play_part(conditions, before, part, watch)?;
     played.push_reserved(next);
     Ok(())
 }
@@ -120,17 +137,17 @@ fn last_board(played: &[PlayedPart]) -> Option<&Board>
 
 /// Plays a part after a board.
 fn play_part<W: Watch>(
-    alloc: Global,
-    seed: Seed,
+    conditions: &Conditions<'_>,
     before: Option<&Board>,
     part: Part,
-    upkeep: Upkeep,
-    outages: &[Outage],
     watch: &mut W,
 ) -> Result<PlayedPart, PlayFault>
-    ensures played { IfOk result (PlaysPart upkeep outages.now (option_copied before.entry) part) }
-    ensures refused { IfErr result (IsCauseOfPartFault upkeep outages.now (option_copied before.entry) part) }
+    ensures played { IfOk result
+        (PlaysPart conditions.now.upkeep conditions.now.outages.now (option_copied before.entry) part) }
+    ensures refused { IfErr result
+        (IsCauseOfPartFault conditions.now.upkeep conditions.now.outages.now (option_copied before.entry) part) }
 {
+    let alloc = conditions.alloc;
     let Part {
         config,
         span,
@@ -141,9 +158,13 @@ fn play_part<W: Watch>(
     let log = take_over(alloc, before, carryover, span.since, &config)?;
     let mut plans = loads(alloc, span.since, log.found)?;
     plans.append(&mut own)?;
-    let played = play_boxed(
-        alloc, seed, config, until, upkeep, plans, outages, span, watch,
-    )?;
+    let loaded = LoadedPart {
+        config,
+        span,
+        until,
+        plans,
+    };
+    let played = play_boxed(conditions, loaded, watch)?;
     Ok(PlayedPart {
         played,
         rows: log.rows,
@@ -151,27 +172,19 @@ fn play_part<W: Watch>(
     })
 }
 
-/// `play_pieces`, with what ran in a box.
+/// `play_loaded`, with what ran in a box.
 fn play_boxed<W: Watch>(
-    alloc: Global,
-    seed: Seed,
-    config: Config,
-    until: u64,
-    upkeep: Upkeep,
-    plans: Vec<TimedAction>,
-    outages: &[Outage],
-    span: Span,
+    conditions: &Conditions<'_>,
+    part: LoadedPart,
     watch: &mut W,
 ) -> Result<Box<Played>, PlayFault>
-    requires until { until ≤ MAX_UNTIL }
-    ensures played { IfOk result (λ played. PlaysTo (setting_with until upkeep outages.now span) config plans.items
+    requires until { part.until ≤ MAX_UNTIL }
+    ensures played { IfOk result (λ played. PlaysTo (setting_of conditions.now part) part.config part.plans.items
         played.value.board played.value.events.items) }
-    ensures refused { IfErr result (IsCauseOfFault (setting_with until upkeep outages.now span) config plans.items) }
+    ensures refused { IfErr result (IsCauseOfFault (setting_of conditions.now part) part.config part.plans.items) }
 {
-    let played = play_pieces(
-        alloc, seed, config, until, upkeep, plans, outages, span, watch,
-    )?;
-    match Box::new(alloc, played) {
+    let played = play_loaded(conditions, part, watch)?;
+    match Box::new(conditions.alloc, played) {
         Ok(played) => Ok(played),
         Err(refused) => {
             drop(refused);

@@ -1,4 +1,4 @@
-//! What the begins of a board were to do. `previewing` adds to it.
+//! What the begins of a board were to do.
 //!
 //! A begin that was made can't be undone, so it is added without memory: the newest one waits as it is, and becomes one
 //! that shares its preview before the next one is made.

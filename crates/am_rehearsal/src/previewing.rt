@@ -1,4 +1,4 @@
-//! A board that keeps what each of its begins was to do, and what happened. `play` calls it.
+//! A board that keeps what each of its begins was to do, and what happened.
 //!
 //! `PreviewingBoard` begins with a preview. By its invariant the previews are those
 //! that the definitions give for its history (`Previews`). Each of these begins is once among the

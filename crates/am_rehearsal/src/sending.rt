@@ -1,5 +1,4 @@
-//! The notices in flight. `play` adds a `Sending` for each flush, and reports the ends to the
-//! board.
+//! The notices in flight: a `Sending` for each flush, whose ends are reported to the board.
 ghost use Rattle.std.specs.Prelude.{◌≡◌, ◌≤◌, ◌<◌, ◌+◌, ◌++◌, ◌^◌, Some, IfOk, OnOk, length, remove, slice_get, if◌then◌else◌};
 ghost use Rattle.am_alerts.specs.declared.limits.TheConstants.{MAX_TIME};
 ghost use Rattle.am_rehearsal.specs.Answers.{answer_of, AreEndsOf, IsEndOf};

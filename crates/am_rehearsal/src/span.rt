@@ -1,4 +1,5 @@
-//! When a dispatcher of a rehearsal runs. `play_span` takes it.
+//! When a dispatcher of a rehearsal runs: its start, and the time at which a reload or a restart
+//! stops it.
 ghost use Rattle.std.specs.Prelude.{◌≡◌};
 ghost use Rattle.am_rehearsal.specs.Play.{whole};
 

@@ -1,4 +1,4 @@
-//! What a begin came to. `previewing` makes it.
+//! What a begin came to.
 use crate::limits::BOARD_ID;
 use am_board::own_ticket::OwnTicket;
 

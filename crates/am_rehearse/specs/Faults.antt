@@ -69,7 +69,8 @@ IsCauseOfPlayFault rehearsal dispatcher_changes why =
 
 -- a limit leaves no capacity for what happens in a rehearsal, or a log row that a new dispatcher takes over doesn't fit
 abbrev pub IsTooLarge : Rehearsal → List DispatcherChange → Type 0
-IsTooLarge rehearsal dispatcher_changes = (why : PartFault) × IsTrue (is_limit why.fault) × IsCauseOfPlayFault rehearsal dispatcher_changes why
+IsTooLarge rehearsal dispatcher_changes =
+    (why : PartFault) × IsTrue (is_limit why.fault) × IsCauseOfPlayFault rehearsal dispatcher_changes why
 
 -- a value asks for such a rehearsal
 pub record RequestsTooMuch (changes : Changes) (value : Data) : Type 0 where

@@ -127,8 +127,8 @@ HasLegalHistory p = IsLegal p.played.value.board.config BOARD_ID p.played.value.
 
 -- the text is this output of dispatchers that ran and changed so, whose histories are legal; the lines are those that are wanted,
 -- and `met` is whether it came as each of these expectations says
-pub record IsOutputOf (changes : List Change) (played : List PlayedPart) (output : Output) (options : OutputOptions) (times : TimeFormatData)
-    (expectations : List Expectation) (met : Bool) (text : List ℕ) : Type 0 where
+pub record IsOutputOf (changes : List Change) (played : List PlayedPart) (output : Output) (options : OutputOptions)
+    (times : TimeFormatData) (expectations : List Expectation) (met : Bool) (text : List ℕ) : Type 0 where
   pub legal : AllByRecursion HasLegalHistory played
   pub judges : list_all (is_met (map playback_of played)) expectations ≡ met
   pub is : IsPrinted output options (heads_of changes (drop 1 played)) (map playback_of played) times expectations text
@@ -140,8 +140,8 @@ PlaysThrough rehearsal dispatcher_changes played =
     (parts_from (whole_part rehearsal.config rehearsal.until rehearsal.plans.items) dispatcher_changes) played
 
 -- the text is this output of what a rehearsal with these changes of the dispatcher plays to
-pub record IsOutputOfRun (rehearsal : Rehearsal) (dispatcher_changes : List DispatcherChange) (output : Output) (options : OutputOptions) (times : TimeFormatData)
-    (expectations : List Expectation) (met : Bool) (text : List ℕ) : Type 0 where
+pub record IsOutputOfRun (rehearsal : Rehearsal) (dispatcher_changes : List DispatcherChange) (output : Output) (options : OutputOptions)
+    (times : TimeFormatData) (expectations : List Expectation) (met : Bool) (text : List ℕ) : Type 0 where
   pub played : List PlayedPart
   pub plays : PlaysThrough rehearsal dispatcher_changes played
   pub tale : IsOutputOf (map change_of dispatcher_changes) played output options times expectations met text
@@ -158,7 +158,8 @@ pub record IsOutputFor (changes : Changes) (options : OutputOptions) (value : Da
   pub tale : IsOutputOfRun rehearsal dispatcher_changes output options (times_from start) expectations met text
 
 -- of bytes that were taken before and now: what was taken since is the output that a value asks for
-pub record WritesOutput (changes : Changes) (options : OutputOptions) (met : Bool) (value : Data) (taken_before taken : List ℕ) : Type 0 where
+pub record WritesOutput (changes : Changes) (options : OutputOptions) (met : Bool) (value : Data) (taken_before taken : List ℕ)
+    : Type 0 where
   pub text : List ℕ
   pub printed : IsOutputFor changes options value met text
   pub taken_is : taken ≡ taken_before ++ text

@@ -1,5 +1,5 @@
-//! Why a rehearsal ends without its output, or with an expectation that isn't met. `main` ends with
-//! its status.
+//! Why a rehearsal ends without its output, or with an expectation that isn't met, and with which
+//! status.
 use am_cli::fault::{FaultKind, InputFault};
 use am_cli::faults::{Faults, Refusal};
 use am_cli::transfer::Unwritable;

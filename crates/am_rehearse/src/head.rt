@@ -1,4 +1,4 @@
-//! The line between what two dispatchers did, where a story reloads or restarts the dispatcher. `render` prints it.
+//! The line between what two dispatchers did, where a story reloads or restarts the dispatcher.
 ghost use Rattle.std.specs.Prelude.{◌≡◌, ◌++◌, IfOk, OnOk, codes, decimal, map, string_bytes};
 ghost use Rattle.am_rehearse.specs.Head.{change_of, entries_word, head_text, heads_of, kept_text, taken_text};
 

@@ -20,6 +20,7 @@ mod run;
 mod story_files;
 mod suites;
 mod tally;
+mod unknown;
 
 use crate::compare::compare;
 use crate::play::play;

@@ -1,4 +1,4 @@
-//! `OutputOptions`: what the command line wants to see of a rehearsal, and the seed for its hashes. `run` prints it.
+//! `OutputOptions`: what the command line wants to see of a rehearsal, and the seed for its hashes.
 use am_alerts::text::Text;
 use am_seed::Seed;
 use am_timeline::filtered::Filter;

@@ -1,5 +1,4 @@
-//! `Overheard`: a runtime that keeps the lines which are printed to standard error, for the report on a story that is rejected. `play`
-//! runs each story with one.
+//! `Overheard`: a runtime that keeps the lines which are printed to standard error, for the report on a story that is rejected.
 use std::alloc::{AllocError, Allocator, Global};
 use std::cell::RefCell;
 use std::fmt::Display;

@@ -1,4 +1,4 @@
-//! What is printed of a rehearsal that ran: lines, or the page of it. `run` calls it.
+//! What is printed of a rehearsal that ran: lines, or the page of it.
 //!
 //! Of a page no contract says what is on it.
 ghost use Rattle.std.specs.Prelude.{◌≡◌, IfErr, IfOk, string_bytes};
@@ -11,16 +11,15 @@ use crate::render::{Rendered, is_page, later, logbooks_of, playbacks_of, render_
 use am_cli::fault::InputFault;
 use am_input::input::Output;
 use am_judge::expectation::is_met;
-use am_judge::expectation_report::push_answer;
+use am_judge::expectation_report::push_judged;
 use am_picture::page::{Page, draw};
 use am_picture::story::{Change as PageChange, Names, Story, Texts, Verdict};
 use am_rehearsal::playing::PlayedPart;
-use am_terms::clock::{Elapsed, TimeFormat, push_number};
+use am_terms::clock::{Elapsed, TimeFormat};
 use am_terms::dated::UtcDates;
 use am_terms::expectation::Expectation;
 use am_terms::rehearsal::Outage;
 use am_timeline::playback::Playback;
-use am_timeline::shown::push_text;
 use am_timeline::table::table_text;
 use am_undelivered::report::undelivered;
 use std::alloc::{AllocError, Global};
@@ -230,19 +229,7 @@ fn verdict_on<C: TimeFormat>(
 ) -> Result<Verdict, AllocError> {
     let is_met = is_met(alloc, playbacks, expectation)?;
     let mut text = String::new(alloc);
-    text.push_str("expect ")?;
-    push_number(number as u64, &mut text)?;
-    if let Some(name) = &expectation.name {
-        text.push_str(" \"")?;
-        push_text(name.as_str(), &mut text)?;
-        text.push_str("\"")?;
-    }
-    if is_met {
-        text.push_str(": met\n")?;
-    } else {
-        text.push_str(": not met\n")?;
-        push_answer(alloc, playbacks, clock, expectation, &mut text)?;
-    }
+    push_judged(alloc, playbacks, clock, number, expectation, &mut text)?;
     Ok(Verdict { is_met, text })
 }
 

@@ -8,6 +8,7 @@ use crate::run::{Judgement, Report, play_value};
 use crate::story_files::story_files;
 use crate::suites::Suites;
 use crate::tally::Tally;
+use crate::unknown::refuse_unknown;
 use am_command::exit_status::ExitStatus;
 use am_command::request::PlayRequest;
 use am_commands::ignored::say_ignored;
@@ -36,6 +37,16 @@ pub(crate) struct Run<'r> {
     /// The configuration that the command line names.
     pub(crate) config: Option<&'r Document<'r>>,
     pub(crate) overrides: Overrides,
+}
+
+impl<'r> Run<'r> {
+    /// What takes the place of a story's own.
+    fn changes(self) -> Changes<'r> {
+        Changes {
+            config: self.config.map(|document| &document.value),
+            overrides: self.overrides,
+        }
+    }
 }
 
 /// Simulates stories, and returns the status: of several the least that isn't 0. Hashes start from this seed.
@@ -201,6 +212,10 @@ fn play_story<R: Files + Eprint + AllocGlobal + Clock>(
     if let Err(status) = refuse_page(rt, console, run, story) {
         return status;
     }
+    let selection = &run.request.selection;
+    if let Err(status) = refuse_unknown(rt, console, selection, story, run.changes()) {
+        return status;
+    }
     let options = match options_of(rt, run.seed, console, run.request, run.path) {
         Ok(options) => options,
         Err(status) => return status,
@@ -220,10 +235,7 @@ fn play_document<R: Files + Eprint + AllocGlobal + Clock>(
     options: &OutputOptions,
     report: &mut Report,
 ) -> Result<(), RehearseFault> {
-    let changes = Changes {
-        config: run.config.map(|document| &document.value),
-        overrides: run.overrides,
-    };
+    let changes = run.changes();
     let mut files = SystemZones::new(rt);
     let mut watch = Progress::begin(rt, console.is_terminal);
     let ended = play_value(

@@ -1,4 +1,4 @@
-//! What is printed of a rehearsal that ran, one dispatcher after another. `picture` calls it.
+//! What is printed of a rehearsal that ran, one dispatcher after another.
 ghost use Rattle.std.specs.Prelude.{◌≡◌, ◌&&◌, ◌++◌, IfErr, IfOk, OnOk, Some, None, false, not, if◌then◌else◌};
 ghost use Rattle.std.specs.Prelude.{drop, map, option_map, string_bytes};
 ghost use Rattle.std.specs.List.{AllByRecursion, list_all};

@@ -1,12 +1,9 @@
-//! The files of the stories that a command line names: files, and those of folders. `play` calls it.
+//! The files of the stories that a command line names: files, and those of folders.
 use am_command::exit_status::ExitStatus;
-use am_command::request::{PlayRequest, STANDARD_INPUT};
+use am_command::request::PlayRequest;
+use am_commands::folders::add_files;
 use am_commands::once::accept_inputs;
 use am_console::console::Console;
-use am_console::files::FileFault;
-use std::alloc::{AllocError, Global};
-use std::fs;
-use std::io::{self, ErrorKind};
 use std::rt::Files;
 
 /// Returns the files of the stories that the command line names: of a folder its files in YAML or JSON, in the order of
@@ -46,69 +43,4 @@ fn accept_all<R: Eprint + AllocGlobal>(
         }
     }
     accept_inputs(rt, inputs.as_slice())
-}
-
-/// Adds a file, or the files of a folder. The error is the status.
-fn add_files<R: Files + Eprint + AllocGlobal + Clone + Drop>(
-    rt: &R,
-    console: &Console,
-    path: &str,
-    files: &mut Vec<String>,
-) -> Result<(), ExitStatus> {
-    if path == STANDARD_INPUT || !is_folder(rt, path) {
-        return match add_file(rt.alloc(), path, files) {
-            Ok(()) => Ok(()),
-            Err(_) => Err(console.complain_of_memory(rt)),
-        };
-    }
-    let before = files.len();
-    match add_folder(rt, path, files) {
-        Ok(()) if files.len() > before => Ok(()),
-        Ok(()) => {
-            let _ = eprintln!(rt;
-                "am-rehearse: {path}: no file in it ends with .yml, .yaml or .json"
-            );
-            Err(ExitStatus::Rejected)
-        }
-        Err(fault) if fault.kind() == ErrorKind::OutOfMemory => Err(console.complain_of_memory(rt)),
-        Err(_) => Err(console.complain_of_file(rt, path, FileFault::Unopened)),
-    }
-}
-
-fn is_folder<R: Files>(rt: &R, path: &str) -> bool {
-    match fs::metadata(rt, path) {
-        Ok(metadata) => metadata.is_dir(),
-        Err(_) => false,
-    }
-}
-
-/// Adds the files of a folder that can be stories, in the order of their names.
-fn add_folder<R: Files + AllocGlobal + Clone + Drop>(
-    rt: &R,
-    path: &str,
-    files: &mut Vec<String>,
-) -> io::Result<()> {
-    let mut found = Vec::new(rt.alloc());
-    for entry in fs::read_dir(rt, path)? {
-        let entry = entry?;
-        if is_story_name(entry.file_name()) {
-            found.push(String::from_str(rt.alloc(), entry.path().to_string_lossy())?)?;
-        }
-    }
-    found.sort()?;
-    for file in found.as_slice() {
-        add_file(rt.alloc(), file.as_str(), files)?;
-    }
-    Ok(())
-}
-
-fn add_file(alloc: Global, path: &str, files: &mut Vec<String>) -> Result<(), AllocError> {
-    files.push(String::from_str(alloc, path)?)?;
-    Ok(())
-}
-
-/// Whether a file of a folder can be a story, by its name.
-fn is_story_name(name: &str) -> bool {
-    !name.starts_with('.')
-        && (name.ends_with(".yml") || name.ends_with(".yaml") || name.ends_with(".json"))
 }

@@ -1,4 +1,4 @@
-//! `Suites`: the report on the expectations of all stories, as one file of JUnit's XML. `play` writes it.
+//! `Suites`: the report on the expectations of all stories, as one file of JUnit's XML.
 use am_console::console::shown;
 use am_terms::clock::push_number;
 use am_timeline::escape::push_escaped;

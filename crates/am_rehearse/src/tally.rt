@@ -1,4 +1,4 @@
-//! `Tally`: what became of several stories. `play` counts them.
+//! `Tally`: what became of several stories.
 use am_command::exit_status::ExitStatus;
 
 /// What became of the stories so far.

@@ -1,4 +1,4 @@
-//! Couriers that answer by the scripts of a scenario. `run` makes them.
+//! Couriers that answer by the scripts of a scenario.
 //!
 //! The scripts are named by a type (`Scripts`), which a caller picks with `Brand`. How attempts are
 //! answered is a predicate of the courier's type (`Answering`), with a law that each attempt is so.

@@ -1,4 +1,4 @@
-//! Why a run ends without its report. `run_scenario` returns it, `main` ends with its status.
+//! Why a run ends without its report, and with which status.
 use am_cli::fault::{FaultKind, InputFault, ParseFault};
 use am_cli::transfer::{ReadFault, Unwritable};
 use thiserror::Error;

@@ -1,5 +1,4 @@
-//! The lanes of a phase, each in a thread of its own, while the couriers send. `phase` calls
-//! `run_concurrently`.
+//! The lanes of a phase, each in a thread of its own, while the couriers send.
 //!
 //! A lane's state is made once, with the pass that the lane keeps for the whole run. Its thread
 //! writes there and nowhere else. A thread is started for each lane of a phase, also for one

@@ -3,7 +3,7 @@
 ghost use Rattle.std.specs.Prelude.{◌≡◌};
 ghost use Rattle.am_run.specs.FirstRun.{FirstIsLegal, FirstRunReportIs};
 ghost use Rattle.am_run.specs.Laws.{ScriptsDetermineReports};
-ghost use Rattle.am_run.specs.declared.run.TheConstants.{BOARD_ID};
+ghost use Rattle.am_run.specs.declared.run.TheConstants.{BOARD_ID, MAX_SCENARIO};
 ghost use Rattle.am_scenario.specs.declared.scenario.TheConstants.{MAX_LANES};
 
 /// The scripts of a scenario determine the reports on notices that are sent from one time on: two
@@ -12,8 +12,9 @@ pub fn scripts_determine_reports()
     ensures { ScriptsDetermineReports }
 {}
 
-/// How many lanes a phase may have, and the id of the desk.
+/// How many bytes a scenario and how many lanes a phase may have, and the id of the desk.
 pub fn limits_are()
+    ensures input { MAX_SCENARIO ≡ 16_777_216 }
     ensures lanes { MAX_LANES ≡ 15 }
     ensures id { BOARD_ID ≡ 1 }
 {}

@@ -1,4 +1,4 @@
-//! The phases of a run. `run` calls `Run::run_phase` for each.
+//! The phases of a run.
 //!
 //! The main thread begins the flushes and meets the passes of the lanes. Then the lanes and the
 //! couriers run in threads (`lane`). When all are joined, the main thread reads the lane states by

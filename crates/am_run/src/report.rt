@@ -1,4 +1,4 @@
-//! The text of the report. `run` calls `report_text`.
+//! The text of the report.
 //!
 //! `nothing` goes by what a notice has, not by what was reported. A notice with something to send
 //! of which nothing was reported would be `unreported`, and no run that succeeds has one. Cost: for

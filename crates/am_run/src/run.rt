@@ -51,13 +51,16 @@ use am_cli::device::{Sink, Source};
 use am_cli::fault::{FaultKind, InputFault};
 use am_cli::pointer::JsonPointer;
 use am_cli::reader::parse;
-use am_cli::transfer::{MAX_INPUT, read_all, write_all};
+use am_cli::transfer::{read_all, write_all};
 use am_desk::{Blank, BlankFault, Brand, Closed, Desk, Name, OpenFault, Pass};
 use am_scenario::scenario::{Phase, Scenario, read_scenario};
 use am_seed::Seed;
 use std::alloc::{AllocError, Global};
 use std::sync::Wait;
 use std::thread::Threads;
+
+/// How many bytes a scenario may have: 16 MiB.
+pub const MAX_SCENARIO: usize = 16_777_216;
 
 /// The id of the desk of a run.
 pub const BOARD_ID: u64 = 1;
@@ -76,10 +79,10 @@ pub fn run_scenario<R: AllocGlobal + Threads + Wait + Sync, S: Source, K: Sink>(
     source: &mut S,
     sink: &mut K,
 ) -> Result<(), RunFault>
-    ensures reads { S.reads source.new ≤ S.reads source.old + (MAX_INPUT + 1) }
+    ensures reads { S.reads source.new ≤ S.reads source.old + (MAX_SCENARIO + 1) }
     ensures unreadable { (result ≡ Err RunFault.Unreadable)
         ↔ ((S.failed source.old < S.failed source.new)
-        ⊎ (length (S.given source.old) + MAX_INPUT < length (S.given source.new))) }
+        ⊎ (length (S.given source.old) + MAX_SCENARIO < length (S.given source.new))) }
     ensures unwritable { (result ≡ Err RunFault.Unwritable)
         ↔ (K.failed sink.old < K.failed sink.new) }
     ensures unwritten { IfErr result (λ fault.
@@ -93,7 +96,7 @@ pub fn run_scenario<R: AllocGlobal + Threads + Wait + Sync, S: Source, K: Sink>(
         × (S.ended source.new ≡ S.ended source.old + 1)) }
 {
     let alloc = rt.alloc();
-    let input = read_all(alloc, source)?;
+    let input = read_all(alloc, source, MAX_SCENARIO)?;
     let report = report_of(rt, alloc, seed, input.as_slice())?;
     Ok(write_all(sink, report.as_bytes())?)
 }

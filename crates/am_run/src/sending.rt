@@ -1,4 +1,4 @@
-//! The sending of notices. `lane` calls `send_jobs`, `phase` the rest.
+//! The sending of notices.
 //!
 //! `send_jobs` concludes from what `run_jobs` ensures that each report is of a sending whose
 //! attempts went as the scripts plan (`Sendings`). They are among the attempts of one courier, all

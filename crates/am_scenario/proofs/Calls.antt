@@ -10,7 +10,7 @@ use Rattle.am_alerts.specs.Matcher.{compare_texts}
 use Rattle.am_alerts.specs.declared.alert.AlertFault.TheVariants.{BadTime, EndBeforeStart, NoLabels}
 use Rattle.am_alerts.specs.declared.labels.Label.{Label}
 use Rattle.am_alerts.specs.declared.limits.TheConstants.{MAX_TIME}
-use Rattle.am_cli.proofs.Once.{IsOne, one_list, one_matcher, one_or, one_pairs, one_read, one_there}
+use Rattle.am_cli.proofs.Once.{IsOne, one_matcher_list, one_or, one_pairs, one_read, one_there, one_there_with}
 use Rattle.am_cli.specs.Configured.{DecodesToLabels, DecodesToMatcher}
 use Rattle.am_cli.specs.Decoding.{Has, HasIf, HasOr, IsList, IsNumber}
 use Rattle.am_cli.specs.Read.{number_in}
@@ -64,13 +64,13 @@ same_fault mode members a b labels also starts starts_too ends ends_too =
 -- ---- silences
 
 -- members say one silence at most
-pub one_silence : (mode : Mode) (members : Members) (s t : SilenceData) → HasSilence mode members s
+pub one_silence : (mode : Mode) (members : Members) (s t : SilenceData) → compare_texts s.matchers ≡ true → HasSilence mode members s
     → Has IsNumber (codes "id") members t.id → Has (IsList (DecodesToMatcher mode)) (codes "matchers") members t.matchers
     → Has IsNumber (codes "start") members t.start → Has IsNumber (codes "end") members t.end → s ≡ t
-one_silence mode members s t is id matchers start end =
+one_silence mode members s t plain is id matchers start end =
     let same_id = one_there IsNumber (one_read number_in) (get_member (codes "id") members) s.id t.id is.id id in
-    let same_matchers = one_there (IsList (DecodesToMatcher mode)) (one_list (DecodesToMatcher mode) (one_matcher mode)) (get_member (codes "matchers") members)
-    s.matchers t.matchers is.matchers matchers in
+    let same_matchers = one_there_with compare_texts (IsList (DecodesToMatcher mode)) (one_matcher_list mode) (get_member (codes "matchers") members)
+    s.matchers t.matchers plain is.matchers matchers in
     let same_start = one_there IsNumber (one_read number_in) (get_member (codes "start") members) s.start t.start is.start start in
     let same_end = one_there IsNumber (one_read number_in) (get_member (codes "end") members) s.end t.end is.end end in
     λ i. record { id = same_id i; matchers = same_matchers i; start = same_start i; end = same_end i }

@@ -1,5 +1,5 @@
 -- What the JSON value of a scenario decodes to, a line for each field.
-use Rattle.std.specs.Prelude.{◌≡◌, ◌≤◌, ◌&&◌, ℕ, Bool, true, false, List, [], Option, Some, None, codes}
+use Rattle.std.specs.Prelude.{◌≡◌, ◌≤◌, ◌&&◌, ℕ, Bool, true, false, List, [], Option, Some, None, codes, length}
 use Rattle.std.specs.List.{list_all}
 use Rattle.serde_json.specs.Data.{Data, no_items, item, string, Members}
 use Rattle.serde_json.specs.Find.{as_array, as_null, get_member}
@@ -7,7 +7,7 @@ use Rattle.serde_json.specs.Read.{read}
 use Rattle.am_alerts.specs.AlertData.{AlertData, alert_fault}
 use Rattle.am_alerts.specs.Matcher.{compare_texts}
 use Rattle.am_alerts.specs.declared.limits.TheConstants.{MAX_DURATION}
-use Rattle.am_cli.specs.Configured.{DecodesToConfig, DecodesToLabels, DecodesToMatcher, config_compares_texts}
+use Rattle.am_cli.specs.Configured.{DecodesToConfig, DecodesToLabels, DecodesToMatcher, config_compares_texts, most_matchers}
 use Rattle.am_cli.specs.Decoding.{IsFlag, IsList, IsNumber, IsObject, Has, HasNone, HasOr, answer_text}
 use Rattle.am_cli.specs.declared.reader.Mode.{Mode}
 use Rattle.am_cli.specs.declared.reader.Mode.TheVariants.{Lenient}
@@ -57,6 +57,7 @@ pub record HasSilence (mode : Mode) (members : Members) (silence : SilenceData) 
   pub matchers : Has (IsList (DecodesToMatcher mode)) (codes "matchers") members silence.matchers
   pub start : Has IsNumber (codes "start") members silence.start
   pub end : Has IsNumber (codes "end") members silence.end
+  pub few : length silence.matchers ≤ most_matchers mode
   pub sound : silence_fault silence ≡ None
 
 abbrev pub DecodesToSilence : Mode → Data → SilenceData → Type 0

@@ -1,4 +1,4 @@
-//! `Scenario` and its parts. `read` makes one, `am_run` runs it.
+//! `Scenario` and its parts.
 ghost use Rattle.std.specs.Prelude.{◌≤◌, vec_len};
 ghost use Rattle.am_scenario.specs.declared.scenario.TheConstants.{MAX_LANES};
 ghost use Rattle.am_alerts.specs.declared.limits.TheConstants.{MAX_TIME};

@@ -1,4 +1,4 @@
-//! Hashes that start from a seed. The maps of a board, of its log and of its indexes have them.
+//! Hashes that start from a seed.
 //!
 //! Whoever chooses labels and knows the seed can make their hashes collide: then a look-up walks all
 //! that collide. A program draws its seed at its start, so nobody who writes labels knows it. No

@@ -1,4 +1,4 @@
-//! URLs, hosts with ports, and durations as Go writes them. `findings` asks whether a text is one.
+//! URLs, hosts with ports, and durations as Go writes them.
 //!
 //! What is one here is one for Go's `url.Parse`, `net.SplitHostPort` and `time.ParseDuration` too. They
 //! accept some more, as a host with two colons, of which nobody can make use.

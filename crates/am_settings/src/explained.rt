@@ -1,5 +1,4 @@
-//! Why a value of an `alertmanager.yml` was rejected, if it is in `global` or in an integration. `am_console`
-//! says it in words.
+//! Why a value of an `alertmanager.yml` was rejected, if it is in `global` or in an integration.
 use crate::findings::{Reason, Rejection, findings_in};
 use crate::kinds::part_of_list;
 use crate::settings::Part;

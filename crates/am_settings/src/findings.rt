@@ -1,5 +1,4 @@
-//! What Alertmanager rejects in the settings of `global` and of integrations. `am_config` makes
-//! faults of it, and `explained` finds the reason for a fault again.
+//! What Alertmanager rejects in the settings of `global` and of integrations.
 use crate::addresses::{is_go_duration, is_host_port, is_proxy_url, is_url};
 use crate::settings::{Part, Rule, Wanted, is_among, row_of, wanted_in};
 use am_alerts::duration::read_duration;

@@ -1,4 +1,4 @@
-//! The rows of the kinds of integrations. `settings` has them.
+//! The rows of the kinds of integrations.
 use crate::settings::{Part, Row, Rule, Wanted};
 
 pub(crate) const WEBHOOK: Row = Row {

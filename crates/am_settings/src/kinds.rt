@@ -1,5 +1,4 @@
-//! The kinds of integrations. `am_config` reads a receiver by them, and `explained` finds the part
-//! of a list.
+//! The kinds of integrations.
 use crate::settings::Part;
 
 /// One kind of integrations.

@@ -1,7 +1,6 @@
 //! The settings of an `alertmanager.yml` that say how and where something is sent: which fields
 //! `global` and each kind of integrations have, which of them are required or exclude each other,
-//! and what Alertmanager rejects in them. `am_config` makes faults of it, `am_console` says it in
-//! words.
+//! and what Alertmanager rejects in them.
 #![tactic(auto)]
 
 mod addresses;

@@ -1,6 +1,5 @@
 //! What Alertmanager reads of the settings of `global`, of integrations and of what is in them: for
-//! each part a row with its fields, and the rules on which of them go together. `findings` checks by
-//! them, `am_console` says them in words.
+//! each part a row with its fields, and the rules on which of them go together.
 //!
 //! The rows are those of release 0.25 (`config/config.go`, `config/notifiers.go`, and the package
 //! `config` of `prometheus/common`), and of later releases what is known of them: the new kinds, and
@@ -92,7 +91,7 @@ pub enum Wanted {
     Parts(Part),
     /// Anything: it isn't looked into.
     Anything,
-    /// Whether a notification of resolved alerts is sent, which `am_config` reads.
+    /// Whether a notification of resolved alerts is sent.
     ReadElsewhere,
 }
 

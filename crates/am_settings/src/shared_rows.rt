@@ -1,4 +1,4 @@
-//! The rows of `global`, and of what is in integrations. `settings` has them.
+//! The rows of `global`, and of what is in integrations.
 use crate::settings::{Part, Row, Rule, Wanted};
 
 pub(crate) const GLOBAL: Row = Row {

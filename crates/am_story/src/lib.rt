@@ -5,5 +5,6 @@ pub mod alertmanager;
 pub mod incident;
 mod labels;
 pub mod prometheus;
+mod repeats;
 mod time;
 mod yaml;

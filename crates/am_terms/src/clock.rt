@@ -1,5 +1,4 @@
-//! `TimeFormat`: how times are shown. Every text of `am_timeline` is generic over it. `am_rehearse`
-//! picks `Elapsed` or `UtcDates`.
+//! `TimeFormat`: how times are shown. Every text of a timeline is generic over it.
 ghost use Rattle.std.specs.Prelude.{◌≡◌, ◌++◌, ◌<◌, OnOk, decimal, replicate, string_bytes};
 ghost use Rattle.am_terms.specs.TimeFormatData.{column, counted, counted_text, fraction_text, three_digits, two_digits};
 

@@ -1,4 +1,4 @@
-//! Times as dates with times of day, in UTC. `am_rehearse` reads `start` by it.
+//! Times as dates with times of day, in UTC.
 ghost use Rattle.std.specs.Prelude.{◌≡◌, ◌+◌, ◌*◌, ◌^◌, ◌<◌, ◌≤◌, ◌++◌, ◌/◌, ◌<ℤ◌, pos, None, IfSome, IsSomeAnd, OnOk, string_bytes};
 ghost use Rattle.am_terms.specs.UtcDates.{day_after, day_at, day_text, days_in_month, four_digits, is_leap_year, next_day};
 ghost use Rattle.am_terms.specs.UtcDates.{IsReadFrom, IsStartAt, StartData, behind_midnight, dated, instant_text, time_at};

@@ -1,5 +1,4 @@
 //! Changes of the dispatcher during a rehearsal: a reload of the configuration, and a restart.
-//! `am_input` reads them of a story.
 
 use am_model::config::Config;
 

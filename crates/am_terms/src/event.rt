@@ -1,4 +1,4 @@
-//! What a rehearsal that ran returns, with its board. `am_rehearsal` returns it, and `am_timeline` shows it.
+//! What a rehearsal that ran returns, with its board.
 //!
 //! A long rehearsal has many thousands of events, and nearly all are quiet begins. So an event is small: a report is boxed.
 ghost use Rattle.std.specs.Prelude.{◌≡◌, IfOk};

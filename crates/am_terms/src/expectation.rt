@@ -1,4 +1,4 @@
-//! What is expected of a rehearsal. `am_plans` reads it of a story, and `am_judge` judges it.
+//! What is expected of a rehearsal.
 ghost use Rattle.std.specs.Prelude.{◌≡◌};
 ghost use Rattle.am_terms.specs.Expectation.{allows, reason_named, wanted_words};
 

@@ -1,7 +1,7 @@
 //! What a story, its play and the texts on it share: what a rehearsal is made of, what happens in
-//! it, how times are shown, and what is expected. `am_input` reads a story by it, `am_rehearsal`
-//! plays it, and `am_timeline` says of it, so each of these is proved without the others. All times
-//! are in milliseconds from the start of the rehearsal.
+//! it, how times are shown, and what is expected. Readers, players and writers of a story need only
+//! these, so each is proved without the others. All times are in milliseconds from the start of the
+//! rehearsal.
 #![tactic(auto)]
 
 pub mod clock;

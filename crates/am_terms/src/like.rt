@@ -1,4 +1,4 @@
-//! Whether two previews differ in their times at most. `SharedPreview` then keeps the rest once.
+//! Whether two previews differ in their times at most.
 ghost use Rattle.std.specs.Prelude.{◌≡◌, ◌↔◌, IsTrue};
 ghost use Rattle.am_mute.specs.declared.mute.MuteCause.TheVariants.{Inhibited, Silenced};
 ghost use Rattle.am_terms.specs.Like.{IsLike};

@@ -1,4 +1,4 @@
-//! What a rehearsal is made of. `am_input` reads one of a story, and `am_rehearsal` plays it.
+//! What a rehearsal is made of.
 ghost use Rattle.std.specs.Prelude.{◌≤◌};
 ghost use Rattle.am_terms.specs.declared.rehearsal.TheConstants.{MAX_UNTIL};
 

@@ -1,10 +1,10 @@
-//! `Watch`: who follows a rehearsal while it runs. `play` of `am_rehearsal` notes the simulated time by it.
+//! `Watch`: who follows a rehearsal while it runs.
 
 /// Who follows a rehearsal while it runs.
 pub trait Watch {
     /// Notes that the simulated clock is at a time, in milliseconds from the start. It is called at each step.
     fn note(&mut self, clock: u64);
 
-    /// Notes that the rehearsal isn't played any more. Whoever called `play` calls it.
+    /// Notes that the rehearsal isn't played any more.
     fn end(&mut self);
 }

@@ -1,4 +1,4 @@
-//! The alerts of a notice, as text. `timeline` and `am_judge` call it.
+//! The alerts of a notice, as text.
 ghost use Rattle.std.specs.Prelude.{◌≡◌, ◌++◌, OnOk, codes, string_bytes};
 ghost use Rattle.std.specs.List.{flat_map};
 ghost use Rattle.am_timeline.specs.Shown.{set_shown};

@@ -1,4 +1,4 @@
-//! Whether the previews of two flushes say that their lines are the same. `runs` then makes the lines of one of them alone.
+//! Whether the previews of two flushes say that their lines are the same.
 ghost use Rattle.std.specs.Prelude.{◌≡◌, IsTrue};
 ghost use Rattle.std.specs.List.{list_all};
 ghost use Rattle.am_timeline.specs.Alike.{AreAlike, has_no_edge, is_unasked};

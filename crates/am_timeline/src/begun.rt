@@ -1,5 +1,4 @@
-//! The lines on begins: the muted alerts, and the integrations that aren't notified. `timeline`
-//! calls it.
+//! The lines on begins: the muted alerts, and the integrations that aren't notified.
 ghost use Rattle.std.specs.Prelude.{◌≡◌, ◌++◌, OnOk, string_bytes};
 ghost use Rattle.std.specs.List.{list_all};
 ghost use Rattle.am_timeline.specs.Timeline.{notified_lines, begun_lines, is_left};

@@ -1,4 +1,4 @@
-//! The events of a rehearsal that say something new. `am_rehearse` prints their lines alone where it is asked to.
+//! The events of a rehearsal that say something new.
 ghost use Rattle.std.specs.Prelude.{◌≡◌, ◌||◌, IfOk, filter, is_some, nat_lt, not};
 ghost use Rattle.am_timeline.specs.Changed.{begins_compared, is_change, is_new};
 ghost use Rattle.am_timeline.specs.Runs.{run_at};

@@ -1,4 +1,4 @@
-//! What the delivered notices of two rehearsals of one story differ in, as text. `am_rehearse` prints it.
+//! What the delivered notices of two rehearsals of one story differ in, as text.
 //!
 //! Two notices are the same if they are for one integration of one receiver, by their names, and say the same alerts.
 //! Another kind next to an integration changes its position, and nothing here. Of the same notices those of one time are

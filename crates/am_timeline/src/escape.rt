@@ -1,5 +1,4 @@
-//! Texts as content of XML and HTML elements. Every module that writes a text which isn't the page's
-//! own calls it.
+//! Texts as content of XML and HTML elements.
 ghost use Rattle.std.specs.Prelude.{◌≡◌, ◌++◌, OnOk, string_bytes};
 ghost use Rattle.am_timeline.specs.Escaped.{char_escaped, escaped, escaped_up_to};
 

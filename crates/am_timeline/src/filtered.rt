@@ -1,5 +1,5 @@
-//! The events of a rehearsal that concern a receiver, a route or some alerts. `am_rehearse` prints their lines alone where it
-//! is asked to. No text of a line and no run changes; only events are left out.
+//! The events of a rehearsal that concern a receiver, a route or some alerts.
+//! No text of a line and no run changes; only events are left out.
 ghost use Rattle.std.specs.Prelude.{◌≡◌, ◌==◌, ◌≤◌, ◌&&◌, ◌||◌, IfOk, IsTrue, OnOk, filter, length};
 ghost use Rattle.std.specs.HashSet.{contains};
 ghost use Rattle.am_alerts.specs.RoutingTree.{last_of};

@@ -1,4 +1,4 @@
-//! `Finishes`: a history with the places of its finishes. `logbook` has one, and `am_undelivered` makes one.
+//! `Finishes`: a history with the places of its finishes.
 //!
 //! Invariant: each number has the place of the first finish of its flush.
 ghost use Rattle.std.specs.Prelude.{◌≡◌, ◌+◌, ℕ, IfOk, OnOk, Some, drop, if◌then◌else◌};

@@ -1,4 +1,4 @@
-//! What becomes of flushes: where runs begin, and the runs. It takes 24 bytes a run. `runs` makes it.
+//! What becomes of flushes: where runs begin, and the runs. It takes 24 bytes a run.
 ghost use Rattle.std.specs.Prelude.{◌≡◌, length};
 ghost use Rattle.am_timeline.specs.Runs.{IsRising, run_at};
 

@@ -1,4 +1,4 @@
-//! `Frame`: what is at the front and at the end of each line on a flush. `begun`, `timeline` and `runs` make one.
+//! `Frame`: what is at the front and at the end of each line on a flush.
 use std::marker::Model;
 
 /// How the lines on a flush are framed.

@@ -1,4 +1,4 @@
-//! Groups, receivers and integrations, as text. The modules of lines call it.
+//! Groups, receivers and integrations, as text.
 ghost use Rattle.std.specs.Prelude.{◌≡◌, ◌++◌, OnOk, string_bytes};
 ghost use Rattle.am_timeline.specs.IntegrationName.{target_name};
 ghost use Rattle.am_timeline.specs.Timeline.{group_shown, target_shown, group_receiver_text};

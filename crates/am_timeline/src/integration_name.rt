@@ -1,5 +1,4 @@
-//! Names of integrations, as Alertmanager prints them: the kind, and the index within the kind. The modules of lines,
-//! `am_judge`, `am_undelivered` and `am_picture` call it.
+//! Names of integrations, as Alertmanager prints them: the kind, and the index within the kind.
 ghost use Rattle.std.specs.Prelude.{◌≡◌, ◌≤◌, ◌++◌, OnOk, length, string_bytes};
 ghost use Rattle.am_model.specs.Carry.{index_at, position_of};
 ghost use Rattle.am_timeline.specs.IntegrationName.{integration_name, name_text};

@@ -1,4 +1,4 @@
-//! The timeline as JSON. `am_rehearse` prints it for `"output": "json"`.
+//! The timeline as JSON.
 ghost use Rattle.std.specs.Prelude.{◌≡◌, ◌++◌, ◌∷◌, [], IfOk, OnOk, codes, string_bytes};
 ghost use Rattle.std.specs.Option.{option_map_or};
 ghost use Rattle.serde_json.specs.Data.{no_members};

@@ -1,5 +1,5 @@
 //! The texts of a rehearsal that ran: the timeline, its notices, the table of receivers, and the same as
-//! JSON. `am_rehearse` calls it. `am_judge`, `am_undelivered` and `am_picture` build theirs of its pieces.
+//! JSON. Other texts of a rehearsal are built of its pieces.
 //!
 //! Each text is one of the history, of what the begins were to do and of what happened, in its
 //! order. A line on a notice takes its content from the begin's record, and its outcome from the

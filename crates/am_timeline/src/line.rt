@@ -1,4 +1,4 @@
-//! The parts of lines. The modules of lines call it.
+//! The parts of lines.
 ghost use Rattle.std.specs.Prelude.{◌≡◌, ◌++◌, OnOk, string_bytes};
 ghost use Rattle.am_timeline.specs.Timeline.{attempts_text, expired_text, expiry_if_first, time_text, reason_text, reason_words};
 ghost use Rattle.am_timeline.specs.Timeline.{is_on_edge, repeat_text, retries_text, sent_reason_text, sent_words};

@@ -1,5 +1,4 @@
-//! `Logbook`: a history with when the log entries expired whose lack its flushes found. `am_rehearse` makes one of a rehearsal that
-//! ran, and playbacks of that.
+//! `Logbook`: a history with when the log entries expired whose lack its flushes found.
 ghost use Rattle.std.specs.Prelude.{◌≡◌, ◌+◌, IfOk, drop};
 ghost use Rattle.am_model.specs.Outcomes.{outcomes_in};
 ghost use Rattle.am_timeline.specs.Expiry.{expired};

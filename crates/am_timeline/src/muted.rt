@@ -1,4 +1,4 @@
-//! Muted alerts with their causes, as text. `begun` and `am_undelivered` call it.
+//! Muted alerts with their causes, as text.
 ghost use Rattle.std.specs.Prelude.{◌≡◌, ◌++◌, OnOk, codes, decimal, string_bytes};
 ghost use Rattle.std.specs.List.{flat_map};
 ghost use Rattle.am_timeline.specs.Timeline.{cause_shown, cause_text, cause_words, muted_alert_text, muted_text};

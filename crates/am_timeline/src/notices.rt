@@ -1,4 +1,4 @@
-//! The notices of a rehearsal, as text. `am_rehearse` prints it for `"output": "notices"`.
+//! The notices of a rehearsal, as text.
 ghost use Rattle.std.specs.Prelude.{◌≡◌, ◌++◌, IfOk, OnOk, string_bytes};
 ghost use Rattle.am_timeline.specs.Notices.{line_if_wanted, notice_of_event, notices_text};
 

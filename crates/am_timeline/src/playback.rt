@@ -1,4 +1,4 @@
-//! `Playback`: a rehearsal that ran, as all texts read it. `am_rehearse` makes one.
+//! `Playback`: a rehearsal that ran, as all texts read it.
 ghost use Rattle.std.specs.Prelude.{◌≡◌, ◌+◌, drop, option_copied};
 ghost use Rattle.am_timeline.specs.Expiry.{expired};
 ghost use Rattle.am_timeline.specs.Playback.{notice_for, notices_at};

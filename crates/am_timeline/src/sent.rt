@@ -1,4 +1,4 @@
-//! Notices whose sending ended. `timeline`, `table`, `json` and `am_judge` call it.
+//! Notices whose sending ended.
 ghost use Rattle.std.specs.Prelude.{◌≡◌};
 ghost use Rattle.am_timeline.specs.Timeline.{expiry_before};
 ghost use Rattle.am_timeline.specs.Playback.{is_delivered, outcome_after, sent_by, sent_of};

@@ -1,4 +1,4 @@
-//! The short timeline: a line for each event of a rehearsal, but one for a run of like flushes. `am_rehearse` prints it.
+//! The short timeline: a line for each event of a rehearsal, but one for a run of like flushes.
 ghost use Rattle.std.specs.Prelude.{◌≡◌, ◌++◌, [], IfOk, OnOk, codes, slice_get, string_bytes};
 ghost use Rattle.std.specs.List.{flat_map};
 ghost use Rattle.std.specs.Option.{option_map_or};

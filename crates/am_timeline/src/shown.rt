@@ -1,5 +1,4 @@
-//! Texts and label sets without characters that a terminal would take as a command. The modules of
-//! lines call it.
+//! Texts and label sets without characters that a terminal would take as a command.
 ghost use Rattle.std.specs.Prelude.{◌≡◌, ◌++◌, ◌∷◌, [], ◌<◌, OnOk, codes, string_bytes};
 ghost use Rattle.std.specs.List.{join_by};
 ghost use Rattle.am_alerts.specs.Labels.{label_in};

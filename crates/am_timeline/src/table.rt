@@ -1,4 +1,4 @@
-//! The table of receivers. `am_rehearse` prints it below the timeline.
+//! The table of receivers.
 ghost use Rattle.std.specs.Prelude.{◌≡◌, ◌++◌, IfOk, ℕ, List, OnOk, codes, string_bytes};
 ghost use Rattle.std.specs.List.{flat_map};
 ghost use Rattle.std.specs.Option.{option_map_or};

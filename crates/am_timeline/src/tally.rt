@@ -1,4 +1,4 @@
-//! Tallies: what each receiver got, counted in one pass over the events. `table` prints them.
+//! Tallies: what each receiver got, counted in one pass over the events.
 ghost use Rattle.std.specs.Prelude.{◌≡◌, ◌<◌, ℕ, IfOk, List, OnOk, if◌then◌else◌};
 ghost use Rattle.std.specs.Str.{bytes_eq};
 ghost use Rattle.am_model.specs.Configured.{route_of};

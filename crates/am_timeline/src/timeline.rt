@@ -1,4 +1,4 @@
-//! The timeline: a line for each event of a rehearsal. `am_rehearse` prints it.
+//! The timeline: a line for each event of a rehearsal.
 ghost use Rattle.std.specs.Prelude.{◌≡◌, ◌++◌, [], IfOk, OnOk, codes, string_bytes};
 ghost use Rattle.std.specs.Option.{option_map_or};
 ghost use Rattle.am_timeline.specs.Playback.{sent_of};

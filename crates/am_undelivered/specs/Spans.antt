@@ -160,7 +160,9 @@ receiver_of f = (route_of f.config f.preview.group).receiver
 -- the position of an integration in the receiver of a flush, if the flush is for it: its position can change with a reload, its name can't
 abbrev pub position_for : FlushData → Recipient → Option ℕ
 position_for f r =
-    if bytes_eq (receiver_of f) r.receiver then position_of r.kind r.index 0 (integrations_named (receiver_of f) f.config.receivers) else None
+    if bytes_eq (receiver_of f) r.receiver
+    then position_of r.kind r.index 0 (integrations_named (receiver_of f) f.config.receivers)
+    else None
 
 -- an integration after a flush that came to this for a label set that fires, or is resolved
 abbrev pub notified : Recipient → Bool → Fate → Recipient

@@ -1,4 +1,4 @@
-//! The spans of firing of a rehearsal that an integration wasn't notified of, or of whose end, and why. `am_rehearse` prints them.
+//! The spans of firing of a rehearsal that an integration wasn't notified of, or of whose end, and why.
 #![tactic(auto)]
 
 mod fate;

@@ -1,5 +1,4 @@
-//! The spans of firing of which an integration that should have been notified wasn't, or not of the end. `am_rehearse` prints them
-//! below the table.
+//! The spans of firing of which an integration that should have been notified wasn't, or not of the end.
 //!
 //! All follows from the histories of a rehearsal and from what its begins were to do. Cost: the histories; each flush costs the alerts
 //! of its group.
@@ -279,7 +278,8 @@ fn push_line<C: TimeFormat>(
     out: &mut String,
 ) -> Result<(), AllocError>
     ensures { OnOk result (string_bytes out.new ≡ string_bytes out.old
-        ++ missed_line playbacks.now (C.times clock.now) of.entry.labels.now of.entry.span.now (whom_text (option_copied whom.entry)) missed) }
+        ++ missed_line playbacks.now (C.times clock.now) of.entry.labels.now of.entry.span.now
+        (whom_text (option_copied whom.entry)) missed) }
 {
     push_front(clock, of, whom, out)?;
     push_missed(playbacks, clock, of, missed, out)?;
@@ -394,10 +394,9 @@ fn push_missed<C: TimeFormat>(
     ensures { OnOk result (string_bytes out.new ≡ string_bytes out.old
         ++ missed_text playbacks.now (C.times clock.now) of.entry.labels.now (is_some of.entry.span.now.ends) missed) }
 {
-    let is_over = of.span.ends().is_some();
     match missed {
-        Missed::Page(fate) => push_fate(playbacks, clock, of.labels, true, is_over, fate, out),
-        Missed::Clear(fate) => push_clear(playbacks, clock, of.labels, is_over, fate, out),
+        Missed::Page(fate) => push_fate(playbacks, clock, of, true, fate, out),
+        Missed::Clear(fate) => push_clear(playbacks, clock, of, fate, out),
     }
 }
 
@@ -405,37 +404,36 @@ fn push_missed<C: TimeFormat>(
 fn push_clear<C: TimeFormat>(
     playbacks: &[Playback<'_>],
     clock: &C,
-    labels: &Labels,
-    is_over: bool,
+    of: SpanOf<'_>,
     fate: Fate,
     out: &mut String,
 ) -> Result<(), AllocError>
     ensures { OnOk result (string_bytes out.new ≡ string_bytes out.old
-        ++ (codes "resolved unseen: " ++ fate_text playbacks.now (C.times clock.now) labels.now false is_over fate)) }
+        ++ (codes "resolved unseen: "
+        ++ fate_text playbacks.now (C.times clock.now) of.entry.labels.now false (is_some of.entry.span.now.ends) fate)) }
 {
     out.push_str("resolved unseen: ")?;
-    push_fate(playbacks, clock, labels, false, is_over, fate, out)
+    push_fate(playbacks, clock, of, false, fate, out)
 }
 
-/// Adds why an integration wasn't notified that an alert fires, or of its end, where the alert is over or not.
+/// Adds why an integration wasn't notified that an alert fires, or of its end.
 fn push_fate<C: TimeFormat>(
     playbacks: &[Playback<'_>],
     clock: &C,
-    labels: &Labels,
+    of: SpanOf<'_>,
     fires: bool,
-    is_over: bool,
     fate: Fate,
     out: &mut String,
 ) -> Result<(), AllocError>
-    ensures { OnOk result (string_bytes out.new
-        ≡ string_bytes out.old ++ fate_text playbacks.now (C.times clock.now) labels.now fires is_over fate) }
+    ensures { OnOk result (string_bytes out.new ≡ string_bytes out.old
+        ++ fate_text playbacks.now (C.times clock.now) of.entry.labels.now fires (is_some of.entry.span.now.ends) fate) }
 {
     match fate {
-        Fate::Unflushed => out.push_str(unflushed_text(fires, is_over)),
+        Fate::Unflushed => out.push_str(unflushed_text(fires, of.span.ends().is_some())),
         Fate::Unlisted => out.push_str("a flush sent nothing of it"),
         Fate::Muted { part, begin } => {
             out.push_str(left_out_front(fires))?;
-            push_cause_at(clock, labels, preview_at(playbacks, part, begin), out)
+            push_cause_at(clock, of.labels, preview_at(playbacks, part, begin), out)
         }
         Fate::Failed => out.push_str("every notice failed"),
         Fate::Seen => Ok(()),

@@ -1,4 +1,4 @@
-//! `Watches`: the spans of firing of all label sets, while a rehearsal is looked back on. `report` calls it.
+//! `Watches`: the spans of firing of all label sets, while a rehearsal is looked back on.
 ghost use Rattle.std.specs.Prelude.{◌≡◌, ◌+◌, List, IfOk, OnOk, if◌then◌else◌, option_copied};
 ghost use Rattle.std.specs.HashMap.{get};
 ghost use Rattle.std.specs.Option.{option_map};

@@ -38,8 +38,12 @@ pub enum Reason {
     Depth,
     /// A plain scalar that starts with a character which YAML keeps for itself.
     Reserved,
-    /// A quoted scalar or a flow collection without its end.
+    /// A quoted scalar without its end.
     Unterminated,
+    /// A bracket without its end.
+    Bracket,
+    /// A brace without its end.
+    Brace,
     /// An escape that YAML doesn't have.
     Escape,
     /// The first line of a block scalar says more than how it is written.
@@ -62,8 +66,8 @@ pub enum YamlFault {
         column: usize,
         reason: Reason,
     },
-    /// The text has more than 16,777,216 bytes.
-    #[error("more than 16 MiB")]
+    /// The text has more than 67,108,864 bytes.
+    #[error("more than 64 MiB")]
     TooLong,
     /// Out of memory.
     #[error("no memory")]
@@ -111,6 +115,8 @@ impl fmt::Display for Reason {
             Reason::Depth => "more than 100 levels",
             Reason::Reserved => "a text that has to be in quotes",
             Reason::Unterminated => "its end is missing",
+            Reason::Bracket => "this `[` has no end; write `]` behind its last item",
+            Reason::Brace => "this `{` has no end; write `}` behind its last value",
             Reason::Escape => "an escape that YAML doesn't have",
             Reason::Header => "a wrong first line of a block scalar",
             Reason::Number => "a number that JSON can't hold; write it in quotes if it is a text",

@@ -22,7 +22,7 @@ impl Cursor<'_> {
             self.step();
             is_apart = true;
             if self.is_marker() {
-                return Err(self.stop(Reason::Unterminated));
+                return Err(self.stop(Reason::Flow));
             }
         }
         Ok(())
@@ -53,7 +53,7 @@ impl Parser<'_> {
             b'{' => self.flow_mapping(floor, levels),
             b'*' => self.alias(levels),
             b'\'' | b'"' => Ok(Value::String(self.quoted()?)),
-            END => Err(self.cursor.stop(Reason::Unterminated)),
+            END => Err(self.cursor.stop(Reason::Flow)),
             _ => self.plain_value(ScalarContext::Flow { floor }),
         }
     }
@@ -64,13 +64,15 @@ impl Parser<'_> {
         let Some(below) = levels.checked_sub(1) else {
             return Err(self.cursor.stop(Reason::Depth));
         };
-        let start = self.cursor;
+        let outer = self.open;
+        self.open = Some(self.cursor);
         let mut items = Vec::new(self.alloc);
         self.cursor.step();
         for _ in self.cursor.at()..=self.cursor.len() {
             self.cursor.skip_flow_gap()?;
             if self.cursor.byte() == b']' {
                 self.cursor.step();
+                self.open = outer;
                 return Ok(Value::Array(items));
             }
             let is_entered = self
@@ -78,9 +80,9 @@ impl Parser<'_> {
                 .enter_item(depth_at(levels), items.len(), self.cursor.at());
             items.push(self.flow_node(floor, below)?)?;
             self.path.leave(is_entered);
-            self.flow_separator(start, b']')?;
+            self.flow_separator(b']')?;
         }
-        Err(start.stop(Reason::Unterminated))
+        Err(self.cursor.stop(Reason::Flow))
     }
 
     /// Reads a mapping in braces.
@@ -89,13 +91,15 @@ impl Parser<'_> {
         let Some(below) = levels.checked_sub(1) else {
             return Err(self.cursor.stop(Reason::Depth));
         };
-        let start = self.cursor;
+        let outer = self.open;
+        self.open = Some(self.cursor);
         let mut members = Members::new(self.alloc);
         self.cursor.step();
         for _ in self.cursor.at()..=self.cursor.len() {
             self.cursor.skip_flow_gap()?;
             if self.cursor.byte() == b'}' {
                 self.cursor.step();
+                self.open = outer;
                 return members.end();
             }
             let key = self.flow_key(floor)?;
@@ -108,9 +112,9 @@ impl Parser<'_> {
             self.end_value(before);
             self.path.leave(is_entered);
             members.add(key, value)?;
-            self.flow_separator(start, b'}')?;
+            self.flow_separator(b'}')?;
         }
-        Err(start.stop(Reason::Unterminated))
+        Err(self.cursor.stop(Reason::Flow))
     }
 
     /// Reads what is behind a key between braces, which can be nothing.
@@ -138,9 +142,8 @@ impl Parser<'_> {
         Ok(key)
     }
 
-    /// Reads the comma behind an item, or stays before the end. A colon on a line below the collection's start is that of the next
-    /// key, which is reached where the end is missing.
-    fn flow_separator(&mut self, start: Cursor<'_>, end: u8) -> Result<(), Stop> {
+    /// Reads the comma behind an item, or stays before the end.
+    fn flow_separator(&mut self, end: u8) -> Result<(), Stop> {
         self.cursor.skip_flow_gap()?;
         let byte = self.cursor.byte();
         if byte == b',' {
@@ -148,10 +151,6 @@ impl Parser<'_> {
             Ok(())
         } else if byte == end {
             Ok(())
-        } else if byte == END {
-            Err(self.cursor.stop(Reason::Unterminated))
-        } else if byte == b':' && self.cursor.is_far(start, usize::MAX) {
-            Err(start.stop(Reason::Unterminated))
         } else {
             Err(self.cursor.stop(Reason::Flow))
         }

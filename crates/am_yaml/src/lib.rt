@@ -21,3 +21,4 @@ mod plain;
 mod quoted;
 pub mod reader;
 mod resolve;
+mod unclosed;

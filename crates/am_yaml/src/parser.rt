@@ -64,6 +64,8 @@ pub(crate) struct Parser<'t> {
     pub(crate) cursor: Cursor<'t>,
     pub(crate) anchors: Anchors,
     pub(crate) path: Path<'t>,
+    /// The start of the innermost flow collection that isn't read to its end.
+    pub(crate) open: Option<Cursor<'t>>,
     meaning: Meaning,
     /// Whether a key can be twice between braces, as in JSON.
     may_repeat: bool,
@@ -117,6 +119,7 @@ impl<'t> Parser<'t> {
             cursor: Cursor::new(text),
             anchors: Anchors::new(alloc),
             path: Path::new(steps),
+            open: None,
             meaning: Meaning::Core,
             may_repeat: false,
         }

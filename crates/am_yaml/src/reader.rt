@@ -11,11 +11,12 @@ use crate::fault::{Reason, Stop, YamlFault};
 use crate::location::Location;
 use crate::measure::is_within;
 use crate::parser::{MAX_DEPTH, Parser};
+use crate::unclosed::named;
 use serde_json::Value;
 use std::alloc::{AllocError, Global};
 
-/// How many bytes a text may have: 16 MiB.
-pub const MAX_INPUT: usize = 16_777_216;
+/// How many bytes a text may have: 64 MiB.
+pub const MAX_INPUT: usize = 67_108_864;
 
 /// The value that a YAML document says, as JSON, or the first fault.
 pub fn read_yaml(alloc: Global, text: &str) -> Result<Value, YamlFault>
@@ -119,7 +120,10 @@ fn read_document(alloc: Global, text: &str) -> Result<Value, Stop>
     ensures { IfOk result (λ value. depth (view value) ≤ MAX_DEPTH) }
 {
     let mut parser = Parser::new(alloc, text, &[]);
-    let value = parser.whole_document()?;
+    let value = match parser.whole_document() {
+        Ok(value) => value,
+        Err(stop) => return Err(named(stop, parser.open)),
+    };
     if !is_within(&value, MAX_DEPTH) {
         return Err(Stop::At {
             at: 0,

@@ -1,5 +1,5 @@
-//! Keys of due times, of which only the one that is due first is found. `due` keeps a place here for
-//! the key of each group with an open flush: a finish puts it back without memory.
+//! Keys of due times, of which only the one that is due first is found. There is a place for the
+//! key of each group with an open flush: a finish puts it back without memory.
 ghost use Rattle.std.specs.Prelude.{◌≡◌, [], IfSome, OnOk, Some, false, slice_get, true};
 ghost use Rattle.std.specs.Ordering.{is_eq};
 ghost use Rattle.am_board.specs.DueOrder.{has_key, key_at, key_cmp, IsFront};

@@ -1,5 +1,5 @@
-//! Keys of due times in order, the one that is due first at the front. `due` puts keys here that
-//! come behind the last one: that takes one comparison and no search.
+//! Keys of due times in order, the one that is due first at the front. A key that comes behind the
+//! last one is added with one comparison, and without a search.
 ghost use Rattle.std.specs.Prelude.{◌≡◌, ◌∷◌, [], ◌++◌, Some, if◌then◌else◌, is_ok, slice_get, true};
 ghost use Rattle.std.specs.Option.{option_to_list};
 ghost use Rattle.am_board.specs.DueOrder.{key_at, AreRising, IsFront};

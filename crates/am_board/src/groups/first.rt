@@ -1,4 +1,4 @@
-//! The group that a begin takes. `begin`, `preview` and `next_due` call `Groups::first_due`.
+//! The group that a begin takes.
 //!
 //! Of each list of the set of due times it looks at the key in front, and takes the earliest of the
 //! groups that it finds. While the set is incomplete, or where a key in front is stale, it walks
@@ -78,7 +78,8 @@ fn first_in(
     requires keyed { AreKeyed name_of groups.now.entries }
     requires distinct { IsDistinct same_name (keys_of groups.now.entries) }
     ensures within { IfSome result (λ found. IfSome found (λ i. i < length (values_of groups.now.entries))) }
-    ensures first { (flushes : List FlushState) (keys : List DueKey) → HaveOpenFlags flushes (values_of groups.now.entries) → IsFront keys front.entry
+    ensures first { (flushes : List FlushState) (keys : List DueKey)
+        → HaveOpenFlags flushes (values_of groups.now.entries) → IsFront keys front.entry
         → IfSome result (IsFirstOfKeys flushes t (values_of groups.now.entries) keys) }
 {
     let Some(key) = front else {

@@ -60,7 +60,7 @@ fn insert_all<N: Name + Send + Sync, R: Threads + Wait + Abort + Sync>(
 }
 
 /// A desk of this configuration and blank, with its passes.
-fn open<N: Name>(
+pub fn open<N: Name>(
     rt: &impl Abort,
     alloc: Global,
     config: Config,
@@ -75,14 +75,14 @@ fn open<N: Name>(
 }
 
 /// The pass with the greatest number of those that are left.
-fn take<N: Name>(rt: &impl Abort, passes: &mut Vec<Pass<N>>) -> Pass<N> {
+pub fn take<N: Name>(rt: &impl Abort, passes: &mut Vec<Pass<N>>) -> Pass<N> {
     let Some(pass) = passes.pop() else {
         panic!(rt; "a pass")
     };
     pass
 }
 
-fn put<N: Name>(rt: &impl Abort, passes: &mut Vec<Pass<N>>, pass: Pass<N>) {
+pub fn put<N: Name>(rt: &impl Abort, passes: &mut Vec<Pass<N>>, pass: Pass<N>) {
     assert!(rt; passes.push(pass).is_ok());
 }
 
@@ -157,7 +157,7 @@ fn insert_last<N: Name, R: Wait + Abort>(
 }
 
 /// Closes a desk with all its passes.
-fn close<N: Name>(rt: &impl Abort, desk: Desk<N>, passes: Vec<Pass<N>>) -> Closed {
+pub fn close<N: Name>(rt: &impl Abort, desk: Desk<N>, passes: Vec<Pass<N>>) -> Closed {
     match desk.close(passes) {
         Ok(closed) => closed,
         Err(

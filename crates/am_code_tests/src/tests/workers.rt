@@ -56,7 +56,7 @@ fn meet(flags: &[AtomicCell<u64>], own: usize) -> bool {
 fn workers_meet(rt: HostRuntime) -> Result<(), Fail> {
     check_jobs(&rt, rt.alloc(), 2, 2)?;
     check_jobs(&rt, rt.alloc(), 8, 8)?;
-    // As many jobs as the limit allows.
+    // Each courier sends many notices.
     check_jobs(&rt, rt.alloc(), 8, 1_024)
 }
 

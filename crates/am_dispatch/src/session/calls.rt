@@ -1,16 +1,20 @@
-//! What a session does with what a line asks: the calls of its board, and the answers. `serve` calls `open`, `answer` and `close`.
-ghost use Rattle.std.specs.Prelude.{◌≡◌, ◌≢◌, ◌<◌, ◌++◌, [], ◌∷◌, codes, IfErr, IfOk, IsOk, IsSome, Ok, OnOk, Some};
+//! What a session does with what a line asks: the calls of its board, and the answers.
+ghost use Rattle.std.specs.Prelude.{◌≡◌, ◌≢◌, ◌<◌, ◌++◌, [], ◌∷◌, codes, IfErr, IfOk, IsOk, IsSome, Ok, OnOk, Some, option_copied};
 ghost use Rattle.std.specs.VecDeque.{deque_capacity, deque_len};
 ghost use Rattle.json.specs.Print.{print};
 ghost use Rattle.am_model.specs.Begin.{next_due};
 ghost use Rattle.am_model.specs.Records.{call_of_silence};
 ghost use Rattle.am_model.specs.Replay.{IsLegal};
+ghost use Rattle.am_model.specs.Status.{label_status};
 ghost use Rattle.am_model.specs.Views.{group_views, row_views};
 ghost use Rattle.am_model.specs.look_back.Preview.{preview};
 ghost use Rattle.am_board.specs.History.{IsFresh, kept_of, opening, reply_of, state_at};
+ghost use Rattle.am_lines.specs.Begun.{begun_flush, begun_tokens};
+ghost use Rattle.am_lines.specs.Check.{checked_tokens};
 ghost use Rattle.am_lines.specs.Lines.{IsOneLine};
 ghost use Rattle.am_lines.specs.Logged.{finished_tokens, noted_tokens};
-ghost use Rattle.am_lines.specs.Reply.{flush_tokens, reply_tokens};
+ghost use Rattle.am_lines.specs.Reply.{reply_tokens};
+ghost use Rattle.am_lines.specs.Status.{status_tokens};
 ghost use Rattle.am_lines.specs.View.{due_tokens, group_view_tokens, listed, outlook_tokens, row_tokens};
 ghost use Rattle.am_dispatch.specs.Refusal.{IsCauseOfUnopened};
 ghost use Rattle.am_dispatch.specs.Session.{Begins, Does, Finishes, KeepsTicket, Leaves};
@@ -22,6 +26,7 @@ ghost use Rattle.am_dispatch.specs.declared.ticket.TheConstants.{BOARD_ID};
 use crate::row::row_of;
 use crate::session::Session;
 use crate::ticket::{BOARD_ID, find_notice, find_ticket, record_at, rises_with, write_tickets};
+use am_alerts::labels::Labels;
 use am_board::begin::Begun;
 use am_board::board::Board;
 use am_board::config::Config;
@@ -30,14 +35,19 @@ use am_board::own_ticket::OwnTicket;
 use am_board::record::{Call, Finished, Record, Reply};
 use am_board::ticket::Ticket;
 use am_lines::answer::Answer;
+use am_lines::begun::{put_why, write_quiet};
+use am_lines::check::{LinePart, write_checked};
 use am_lines::fault::LineFault;
 use am_lines::inserts::InsertEnd;
 use am_lines::logged::{write_finished, write_noted};
-use am_lines::reply::{write_flush, write_named, write_opened, write_reply};
+use am_lines::opening::Opening;
+use am_lines::reply::{begin, end, put_flush, write_named, write_opened, write_reply};
 use am_lines::request::{
-    Finishing, Insertion, ListedInsert, Loading, Noting, Opening, Reporting, Request, Silencing,
+    Finishing, Insertion, ListedInsert, Loading, Noting, Reporting, Request, Silencing,
 };
+use am_lines::status::write_status;
 use am_lines::view::{write_due, write_list, write_outlook, write_summary};
+use am_model::preview::Preview;
 use am_model::views::RowView;
 use am_seed::Seed;
 use std::alloc::{AllocError, Global};
@@ -89,11 +99,13 @@ impl Session {
             Request::Load(loading) => self.load(alloc, loading, answer),
             Request::NextDue => self.show_due(answer),
             Request::Outlook(timed) => self.show_outlook(alloc, timed.now, answer),
+            Request::Status(asked) => self.show_status(alloc, &asked.labels, asked.now, answer),
             Request::Rows => self.show_rows(alloc, answer),
             Request::Groups => self.show_groups(alloc, answer),
             Request::Summary => self.show_summary(answer),
             Request::Tickets => self.show_tickets(answer),
             Request::TakeHistory => unreachable!(),
+            Request::Check(part) => show_checked(&part, answer),
         }
     }
 
@@ -192,42 +204,53 @@ impl Session {
     {
         // (the memory for a ticket comes before the ticket)
         self.tickets.reserve(1)?;
-        match self.board.begin(alloc, PASS, now) {
-            Ok(begun) => self.keep(begun, answer),
+        match self.board.begin_previewed(alloc, PASS, now) {
+            Ok((begun, preview)) => self.keep(begun, preview, answer),
             Err(fault) => Err(LineFault::of_board("/begin", fault)),
         }
     }
 
     /// Writes the answer to a begin, and keeps its ticket where it has one.
-    fn keep(&mut self, begun: Begun, answer: &mut Answer) -> Result<(), LineFault>
+    fn keep(
+        &mut self,
+        begun: Begun,
+        preview: Option<Preview>,
+        answer: &mut Answer,
+    ) -> Result<(), LineFault>
         requires fresh { IsFresh BOARD_ID begun }
         requires space { deque_len self.old.tickets < deque_capacity self.old.tickets }
-        ensures answered { OnOk result (answer.new ≡ answer.old ++ reply_tokens self.old.board.config (reply_of begun)) }
+        ensures answered { OnOk result (answer.new ≡ answer.old ++ begun_tokens self.old.board.config (reply_of begun) preview) }
         ensures untold { IfErr result (λ fault. fault ≡ LineFault.Untold) }
         ensures board { self.new.board ≡ self.old.board }
         ensures tickets { KeepsTicket begun self.old.tickets.items self.new.tickets.items }
     {
         match begun {
             Begun::NothingDue => self.answer_with(&Reply::NothingDue, answer),
-            Begun::Quiet { group, removed } => self.answer_with(
-                &Reply::Quiet { group, removed },
-                answer,
-            ),
-            Begun::Flush(ticket) => self.keep_ticket(ticket, answer),
+            Begun::Quiet { group, removed } => {
+                let preview = preview.as_ref();
+                answered(write_quiet(self.board.config(), &group, removed, preview, answer))
+            }
+            Begun::Flush(ticket) => self.keep_ticket(ticket, preview.as_ref(), answer),
         }
     }
 
     /// Keeps the ticket of a flush that was begun, and writes the answer.
-    fn keep_ticket(&mut self, ticket: Ticket, answer: &mut Answer) -> Result<(), LineFault>
+    fn keep_ticket(
+        &mut self,
+        ticket: Ticket,
+        preview: Option<&Preview>,
+        answer: &mut Answer,
+    ) -> Result<(), LineFault>
         requires ours { ticket.board_id ≡ BOARD_ID }
         requires space { deque_len self.old.tickets < deque_capacity self.old.tickets }
         ensures answered { OnOk result (answer.new ≡ answer.old
-            ++ flush_tokens self.old.board.config ticket.number ticket.group ticket.deadline ticket.notices) }
+            ++ begun_flush self.old.board.config ticket.number ticket.group ticket.deadline ticket.notices
+            (option_copied preview.entry)) }
         ensures untold { IfErr result (λ fault. fault ≡ LineFault.Untold) }
         ensures board { self.new.board ≡ self.old.board }
         ensures tickets { self.new.tickets.items ≡ self.old.tickets.items ++ ticket ∷ [] }
     {
-        let written = write_begun(self.board.config(), &ticket, answer);
+        let written = write_begun(self.board.config(), &ticket, preview, answer);
         self.is_rising = self.is_rising && rises_with(&self.tickets, ticket.number());
         self.tickets.push_back_reserved(OwnTicket::new(ticket));
         answered(written)
@@ -424,6 +447,21 @@ impl Session {
         Ok(write_outlook(self.board.config(), preview.as_ref(), answer)?)
     }
 
+    fn show_status(
+        &self,
+        alloc: Global,
+        labels: &Labels,
+        now: u64,
+        answer: &mut Answer,
+    ) -> Result<(), LineFault>
+        ensures answered { OnOk result (answer.new ≡ answer.old ++ status_tokens self.now.board.config
+            (label_status self.now.board.config (state_at self.now.board) labels.now now)) }
+        ensures refused { IfErr result (λ fault. fault ≡ LineFault.NoMemory) }
+    {
+        let status = self.board.status(alloc, labels, now)?;
+        Ok(write_status(self.board.config(), &status, answer)?)
+    }
+
     fn show_rows(&self, alloc: Global, answer: &mut Answer) -> Result<(), LineFault>
         ensures answered { OnOk result (answer.new ≡ answer.old
             ++ listed (codes "rows") (row_tokens self.now.board.config) (row_views (state_at self.now.board))) }
@@ -506,19 +544,36 @@ impl Session {
     }
 }
 
-/// Writes the flush of a ticket that was begun.
-fn write_begun(config: &Config, ticket: &Ticket, answer: &mut Answer) -> Result<(), AllocError>
-    ensures { OnOk result (answer.new ≡ answer.old
-        ++ flush_tokens config.now ticket.now.number ticket.now.group ticket.now.deadline ticket.now.notices) }
+/// Writes that a part of a line would be read, as it was.
+fn show_checked(part: &LinePart, answer: &mut Answer) -> Result<(), LineFault>
+    ensures answered { OnOk result (answer.new ≡ answer.old ++ checked_tokens part.now) }
+    ensures refused { IfErr result (λ fault. fault ≡ LineFault.NoMemory) }
 {
-    write_flush(
+    Ok(write_checked(part, answer)?)
+}
+
+/// Writes the flush of a ticket that was begun, and why.
+fn write_begun(
+    config: &Config,
+    ticket: &Ticket,
+    preview: Option<&Preview>,
+    answer: &mut Answer,
+) -> Result<(), AllocError>
+    ensures { OnOk result (answer.new ≡ answer.old
+        ++ begun_flush config.now ticket.now.number ticket.now.group ticket.now.deadline ticket.now.notices
+        (option_copied preview.entry)) }
+{
+    begin("flush", answer)?;
+    put_flush(
         config,
         ticket.number(),
         ticket.group(),
         ticket.deadline(),
         ticket.notices(),
         answer,
-    )
+    )?;
+    put_why(config, preview, answer)?;
+    end(answer)
 }
 
 /// Puts a board in the place of another one, which goes.

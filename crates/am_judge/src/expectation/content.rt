@@ -1,4 +1,4 @@
-//! Whether a notice has the content that an expectation wants. `expectation` and `expectation_report` call it.
+//! Whether a notice has the content that an expectation wants.
 ghost use Rattle.std.specs.Prelude.{◌≡◌, IfOk, option_copied};
 ghost use Rattle.std.specs.List.{list_all};
 ghost use Rattle.am_judge.specs.Expectation.{are_as_wanted, has_as_wanted, has_content, has_match, have_just};
@@ -116,7 +116,8 @@ pub(crate) fn is_sent_as_wanted(
     }
 }
 
-fn is_sent_for(playback: &Playback, reason: SentReason, sent: &Sent) -> bool
+/// Returns whether a notice was sent for a reason.
+pub(crate) fn is_sent_for(playback: &Playback, reason: SentReason, sent: &Sent) -> bool
     ensures { result ≡ is_sent_for playback.now reason sent.now }
 {
     let notice = sent.notice;

@@ -1,4 +1,4 @@
-//! The notices that came, as text. `expectation_report` calls it.
+//! The notices that came, as text.
 ghost use Rattle.std.specs.Prelude.{◌≡◌, ◌++◌, IfOk, OnOk, string_bytes};
 ghost use Rattle.std.specs.List.{list_any};
 ghost use Rattle.am_judge.specs.Expectation.{has_in_scope};
@@ -6,6 +6,7 @@ ghost use Rattle.am_judge.specs.ExpectationReport.{all_got, came_front, came_lin
 ghost use Rattle.am_judge.specs.ExpectationReport.{got_in, got_text, is_shown, nearest_text, none_text, resolved_word, unfitting_text};
 
 use crate::expectation::{count_fitting, fits, has_in_scope, is_in_scope};
+use crate::expectation_report::Question;
 use crate::expectation_report::differences::push_differences;
 use crate::expectation_report::nearest::nearest_of;
 use am_alerts::alert::Alert;
@@ -32,43 +33,44 @@ pub(crate) fn push_got<C: TimeFormat>(
     ensures { OnOk result (string_bytes out.new ≡ string_bytes out.old
         ++ got_text playbacks.now (C.times clock.now) expectation.now) }
 {
+    let question = Question {
+        alloc,
+        playbacks,
+        expectation,
+    };
     if count_fitting(alloc, playbacks, expectation)? == 0 {
-        return push_unfitting(alloc, playbacks, clock, expectation, out);
+        return push_unfitting(&question, clock, out);
     }
-    push_all_got(alloc, true, playbacks, clock, expectation, out)
+    push_all_got(&question, true, clock, out)
 }
 
 /// Adds those in scope, or else the nearest.
 fn push_unfitting<C: TimeFormat>(
-    alloc: Global,
-    playbacks: &[Playback<'_>],
+    question: &Question<'_>,
     clock: &C,
-    expectation: &Expectation,
     out: &mut String,
 ) -> Result<(), AllocError>
     ensures { OnOk result (string_bytes out.new ≡ string_bytes out.old
-        ++ unfitting_text playbacks.now (C.times clock.now) expectation.now) }
+        ++ unfitting_text question.now.playbacks.now (C.times clock.now) question.now.expectation.now) }
 {
-    if have_in_scope(playbacks, expectation) {
-        return push_all_got(alloc, false, playbacks, clock, expectation, out);
+    if have_in_scope(question.playbacks, question.expectation) {
+        return push_all_got(question, false, clock, out);
     }
-    push_none(alloc, playbacks, clock, expectation, out)
+    push_none(question, clock, out)
 }
 
 /// Adds that none came in scope, and the nearest.
 #[tactic(auto, unfolding(crate::specs::ExpectationReport::none_text))]
 fn push_none<C: TimeFormat>(
-    alloc: Global,
-    playbacks: &[Playback<'_>],
+    question: &Question<'_>,
     clock: &C,
-    expectation: &Expectation,
     out: &mut String,
 ) -> Result<(), AllocError>
     ensures { OnOk result (string_bytes out.new ≡ string_bytes out.old
-        ++ none_text playbacks.now (C.times clock.now) expectation.now) }
+        ++ none_text question.now.playbacks.now (C.times clock.now) question.now.expectation.now) }
 {
     out.push_str("  got       none\n")?;
-    push_nearest(alloc, playbacks, clock, expectation, out)
+    push_nearest(question, clock, out)
 }
 
 /// Whether a playback has a notice in scope.
@@ -82,122 +84,106 @@ fn have_in_scope(playbacks: &[Playback<'_>], expectation: &Expectation) -> bool
 
 /// Adds the notices of all playbacks that are shown.
 fn push_all_got<C: TimeFormat>(
-    alloc: Global,
+    question: &Question<'_>,
     some_fit: bool,
-    playbacks: &[Playback<'_>],
     clock: &C,
-    expectation: &Expectation,
     out: &mut String,
 ) -> Result<(), AllocError>
     ensures { OnOk result (string_bytes out.new ≡ string_bytes out.old
-        ++ all_got some_fit playbacks.now (C.times clock.now) expectation.now) }
+        ++ all_got some_fit question.now.playbacks.now (C.times clock.now) question.now.expectation.now) }
 {
+    let playbacks = question.playbacks;
     for playback in playbacks {
-        push_got_in(alloc, some_fit, playback, clock, expectation, out)?;
+        push_got_in(question, some_fit, playback, clock, out)?;
     }
     Ok(())
 }
 
 /// Adds the notices of a playback that are shown.
 fn push_got_in<C: TimeFormat>(
-    alloc: Global,
+    question: &Question<'_>,
     some_fit: bool,
     playback: &Playback,
     clock: &C,
-    expectation: &Expectation,
     out: &mut String,
 ) -> Result<(), AllocError>
     ensures { OnOk result (string_bytes out.new ≡ string_bytes out.old
-        ++ got_in some_fit (C.times clock.now) expectation.now playback.now) }
+        ++ got_in some_fit (C.times clock.now) question.now.expectation.now playback.now) }
 {
     let events = playback.events();
     for event in events {
-        push_got_by(alloc, some_fit, playback, clock, expectation, event, out)?;
+        push_got_by(question, some_fit, playback, clock, event, out)?;
     }
     Ok(())
 }
 
 /// Adds the notice that is shown whose sending ended by this, if there is one.
 fn push_got_by<C: TimeFormat>(
-    alloc: Global,
+    question: &Question<'_>,
     some_fit: bool,
     playback: &Playback,
     clock: &C,
-    expectation: &Expectation,
     event: &Event,
     out: &mut String,
 ) -> Result<(), AllocError>
     ensures { OnOk result (string_bytes out.new ≡ string_bytes out.old
-        ++ got_by some_fit playback.now (C.times clock.now) expectation.now event.now) }
+        ++ got_by some_fit playback.now (C.times clock.now) question.now.expectation.now event.now) }
 {
     match sent_of(playback, event) {
         None => Ok(()),
-        Some(sent) => push_if_shown(alloc, some_fit, playback, clock, expectation, &sent, out),
+        Some(sent) => push_if_shown(question, some_fit, playback, clock, &sent, out),
     }
 }
 
 fn push_if_shown<C: TimeFormat>(
-    alloc: Global,
+    question: &Question<'_>,
     some_fit: bool,
     playback: &Playback,
     clock: &C,
-    expectation: &Expectation,
     sent: &Sent,
     out: &mut String,
 ) -> Result<(), AllocError>
     ensures { OnOk result (string_bytes out.new ≡ string_bytes out.old
-        ++ got_if_shown some_fit playback.now (C.times clock.now) expectation.now sent.now) }
+        ++ got_if_shown some_fit playback.now (C.times clock.now) question.now.expectation.now sent.now) }
 {
-    if is_shown(alloc, some_fit, playback, expectation, sent)? {
-        return push_line(
-            alloc,
-            "  got       ",
-            playback,
-            clock,
-            expectation,
-            sent,
-            out,
-        );
+    if is_shown(question, some_fit, playback, sent)? {
+        return push_line(question, "  got       ", playback, clock, sent, out);
     }
     Ok(())
 }
 
 /// Whether a notice is shown: one that fits, or one in scope where none fits.
 fn is_shown(
-    alloc: Global,
+    question: &Question<'_>,
     some_fit: bool,
     playback: &Playback,
-    expectation: &Expectation,
     sent: &Sent,
 ) -> Result<bool, AllocError>
-    ensures { IfOk result (λ shown. shown ≡ is_shown some_fit playback.now expectation.now sent.now) }
+    ensures { IfOk result (λ shown. shown ≡ is_shown some_fit playback.now question.now.expectation.now sent.now) }
 {
     if some_fit {
-        return fits(alloc, playback, expectation, sent);
+        return fits(question.alloc, playback, question.expectation, sent);
     }
-    Ok(is_in_scope(playback.config(), expectation, sent))
+    Ok(is_in_scope(playback.config(), question.expectation, sent))
 }
 
 /// Adds the nearest notice, and how it differs; nothing where none was delivered to the receiver.
 #[tactic(auto, unfolding(crate::specs::ExpectationReport::nearest_text))]
 fn push_nearest<C: TimeFormat>(
-    alloc: Global,
-    playbacks: &[Playback<'_>],
+    question: &Question<'_>,
     clock: &C,
-    expectation: &Expectation,
     out: &mut String,
 ) -> Result<(), AllocError>
     ensures { OnOk result (string_bytes out.new ≡ string_bytes out.old
-        ++ nearest_text playbacks.now (C.times clock.now) expectation.now) }
+        ++ nearest_text question.now.playbacks.now (C.times clock.now) question.now.expectation.now) }
 {
-    match nearest_of(alloc, playbacks, expectation)? {
+    match nearest_of(question.alloc, question.playbacks, question.expectation)? {
         None => Ok(()),
         Some(found) => push_line(
-            alloc,
+            question,
             "  nearest   ",
             found.playback,
             clock,
-            expectation,
             &found.sent,
             out,
         ),
@@ -207,21 +193,20 @@ fn push_nearest<C: TimeFormat>(
 /// Adds a notice behind a word, and how it differs from what is expected.
 #[tactic(auto, unfolding(crate::specs::ExpectationReport::came_line))]
 fn push_line<C: TimeFormat>(
-    alloc: Global,
+    question: &Question<'_>,
     word: &str,
     playback: &Playback,
     clock: &C,
-    expectation: &Expectation,
     sent: &Sent,
     out: &mut String,
 ) -> Result<(), AllocError>
     ensures { OnOk result (string_bytes out.new ≡ string_bytes out.old
-        ++ came_line word.now playback.now (C.times clock.now) expectation.now sent.now) }
+        ++ came_line word.now playback.now (C.times clock.now) question.now.expectation.now sent.now) }
 {
     push_front(word, playback.config(), clock, sent, out)?;
     out.push_str(": ")?;
     push_got_alerts(sent.notice, out)?;
-    push_differences(alloc, playback, expectation, sent, out)?;
+    push_differences(question.alloc, playback, question.expectation, sent, out)?;
     out.push_str("\n")
 }
 
@@ -244,7 +229,11 @@ fn push_front<C: TimeFormat>(
 
 /// Adds who got a notice.
 #[tactic(auto, unfolding(crate::specs::ExpectationReport::getter_text))]
-fn push_getter(config: &Config, notice: &Notice, out: &mut String) -> Result<(), AllocError>
+pub(crate) fn push_getter(
+    config: &Config,
+    notice: &Notice,
+    out: &mut String,
+) -> Result<(), AllocError>
     ensures { OnOk result (string_bytes out.new ≡ string_bytes out.old ++ getter_text config.now notice.now) }
 {
     out.push_str(" -> ")?;

@@ -1,4 +1,4 @@
-//! How a notice differs from what is expected, as text. `came` calls it.
+//! How a notice differs from what is expected, as text.
 ghost use Rattle.std.specs.Prelude.{◌≡◌, ◌++◌, OnOk, string_bytes};
 ghost use Rattle.am_judge.specs.ExpectationReport.{content_differences, differences, early_text, exact_differences, has_differences};
 ghost use Rattle.am_judge.specs.ExpectationReport.{integration_difference, off_span_text};

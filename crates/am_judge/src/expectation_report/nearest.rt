@@ -1,4 +1,4 @@
-//! The notice that is nearest to what is expected. `came` calls it.
+//! The notice that is nearest to what is expected.
 ghost use Rattle.std.specs.Prelude.{◌≡◌, IfOk, None};
 ghost use Rattle.am_judge.specs.ExpectationReport.{candidate_by, distance, if_alike, is_alike, nearer, nearest_in, nearest_of};
 ghost use Rattle.am_judge.specs.ExpectationReport.{nearest_with};

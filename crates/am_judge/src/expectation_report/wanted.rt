@@ -1,4 +1,4 @@
-//! What is expected, as text. `expectation_report` calls it.
+//! What is expected, as text.
 ghost use Rattle.std.specs.Prelude.{◌≡◌, ◌++◌, OnOk, Some, codes, option_copied, string_bytes};
 ghost use Rattle.std.specs.List.{flat_map, join_by};
 ghost use Rattle.am_judge.specs.ExpectationReport.{about_text, amount_text, any_text, exact_text, expected_line, has_at, has_text};

@@ -31,13 +31,13 @@ pub record IsBounded (config : Config) (records : ℕ) (s : State) : Type 0 wher
   pub next_number : s.next_number ≤ records + 1
   pub groups : All (λ g. g.name.route ≤ last_route config) s.groups
   pub flushes : All (λ f. f.group.route ≤ last_route config) s.flushes
-  pub alerts : last_route config ≤ 1_023 → sum_by (λ g. length g.members) s.groups ≤ 1_024 * s.inserts
+  pub alerts : last_route config ≤ 16_383 → sum_by (λ g. length g.members) s.groups ≤ 16_384 * s.inserts
 
 -- what doesn't depend on the number of records, by recursion along the lists
 record IsSmall (config : Config) (s : State) : Type 0 where
   groups : AllByRecursion (λ g. g.name.route ≤ last_route config) s.groups
   flushes : AllByRecursion (λ f. f.group.route ≤ last_route config) s.flushes
-  alerts : last_route config ≤ 1_023 → count_alerts s.groups ≤ 1_024 * s.inserts
+  alerts : last_route config ≤ 16_383 → count_alerts s.groups ≤ 16_384 * s.inserts
 
 -- a step counts one insert and one flush at most
 record IsStep (s after : State) : Type 0 where
@@ -51,7 +51,7 @@ bounded_from config records s few numbers h =
       next_number = numbers;
       groups = all_from (λ (g : GroupState). g.name.route ≤ last_route config) s.groups h.groups;
       flushes = all_from (λ (f : FlushState). f.group.route ≤ last_route config) s.flushes h.flushes;
-      alerts = λ within. subst (λ n. n ≤ 1_024 * s.inserts) (sym (count_alerts-sum s.groups)) (h.alerts within);
+      alerts = λ within. subst (λ n. n ≤ 16_384 * s.inserts) (sym (count_alerts-sum s.groups)) (h.alerts within);
     }
 
 -- ---- what each call keeps

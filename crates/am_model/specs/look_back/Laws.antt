@@ -308,8 +308,8 @@ NoticesListPresentAlerts config history = AtEach (λ r past. IsReplyFound config
 
 -- what follows from a history alone: its alerts and its rows, no two of which are alike; only what was delivered is logged, except for
 -- what was handed in, which is put in only where it is later; and at each record a refiring alert stays, flushes end once, and a begin is
--- at least an interval after any other of its group, unless a maintenance between them found it without alerts, notifies those that it has a
--- reason to notify, and its reply has the group's alerts
+-- at least an interval after any other of its group, unless a maintenance between them found it without alerts, notifies those that it has
+-- a reason to notify, and its reply has the group's alerts
 pub record LooksBack (config : Config) (history : List Record) : Type 0 where
   pub consistent : IsConsistent (replay config history)
   pub alerts : AlertsAreFound config history

@@ -121,7 +121,8 @@ ReasonApplies reason config name t past i =
 abbrev pub is_notified_in : ℕ → Reply → Bool
 is_notified_in integration reply = list_any (λ n. n.integration == integration) (notices_in reply)
 
--- a record that takes a group notifies each integration of its receiver exactly if there is a reason to notify it, in their order, and no other
+-- a record that takes a group notifies each integration of its receiver exactly if there is a reason to notify it, in their order, and no
+-- other
 pub record NotifiesForReasons (config : Config) (r : Record) (past : Past) : Type 0 where
   pub each : (name : GroupName) → takes name r.reply ≡ true
       → All (λ i. is_notified_in i.0 r.reply ≡ notifies (reason_in config name (time_at (r ∷ past)) past i)) (integrations_of config name)

@@ -1,5 +1,5 @@
 //! The receivers of a configuration: a list, and a map from each name to its place. Contracts see
-//! the list. `Config` finds receivers by it, in the time of one look-up however many there are.
+//! the list. A receiver is found in the time of one look-up, however many there are.
 //!
 //! Invariant: the map has the first place of each name, and it is known whether a name is twice.
 ghost use Rattle.std.specs.Prelude.{◌≡◌, IfOk, find, length};

@@ -1,4 +1,4 @@
-//! Whether a story has the alerts of an expectation. `expectation` calls it.
+//! Whether a story has the alerts of an expectation.
 ghost use Rattle.std.specs.Prelude.{◌≡◌, ◌&&◌, IfErr, OnOk, false, option_copied, true};
 ghost use Rattle.std.specs.List.{list_all};
 ghost use Rattle.am_plans.specs.Decoding.{Denies};

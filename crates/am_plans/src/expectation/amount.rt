@@ -1,4 +1,4 @@
-//! How many notices an expectation wants. `expectation` calls it.
+//! How many notices an expectation wants.
 ghost use Rattle.std.specs.Prelude.{◌≡◌, ◌&&◌, ◌||◌, IfErr, IfOk, None, OnOk, Some, false, true, is_some};
 ghost use Rattle.serde_json.specs.Find.{get_member};
 ghost use Rattle.serde_json.specs.View.{members_view};

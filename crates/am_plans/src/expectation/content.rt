@@ -1,4 +1,4 @@
-//! What an expectation wants a notice to say. `expectation` calls it.
+//! What an expectation wants a notice to say.
 ghost use Rattle.std.specs.Prelude.{◌≡◌, IfErr, IfOk, IsTrue, List, OnOk, Option, codes, true};
 ghost use Rattle.std.specs.Option.{option_map_or};
 ghost use Rattle.std.specs.Result.{result_ok};

@@ -1,4 +1,4 @@
-//! Whether a configuration of a story has the receiver and the integration of an expectation. `expectation` calls it.
+//! Whether a configuration of a story has the receiver and the integration of an expectation.
 ghost use Rattle.std.specs.Prelude.{◌≡◌, IfErr, OnOk, false, true};
 ghost use Rattle.std.specs.List.{list_any};
 ghost use Rattle.am_plans.specs.Expected.{has_integration, has_kind, has_target, is_named, is_target};

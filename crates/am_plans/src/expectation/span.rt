@@ -1,4 +1,4 @@
-//! The span of an expectation: its times, or so long from when an alert fires or is resolved. `expectation` calls it.
+//! The span of an expectation: its times, or so long from when an alert fires or is resolved.
 ghost use Rattle.std.specs.Prelude.{◌≡◌, ◌≢◌, ◌≤◌, ◌<◌, ◌&&◌, ℕ, IfErr, IfOk, IsSomeAnd, IsTrue};
 ghost use Rattle.std.specs.Prelude.{MatchOption, None, OnOk, Some, codes, nat_le};
 ghost use Rattle.std.specs.Result.{result_ok};

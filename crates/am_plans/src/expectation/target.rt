@@ -1,4 +1,4 @@
-//! The integration of an expectation: a position, a kind, or a kind with its position. `expectation` calls it.
+//! The integration of an expectation: a position, a kind, or a kind with its position.
 ghost use Rattle.std.specs.Prelude.{◌≡◌, ℕ, IfErr, IfOk, List, Option, codes};
 ghost use Rattle.serde_json.specs.Find.{get_member};
 ghost use Rattle.serde_json.specs.View.{members_view, view};

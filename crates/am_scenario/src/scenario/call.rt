@@ -1,4 +1,4 @@
-//! The calls of a lane, and how they are read. `read` calls it.
+//! The calls of a lane, and how they are read.
 ghost use Rattle.std.specs.Prelude.{None, IfErr, IfOk, IfSome, IsTrue, Option, codes};
 ghost use Rattle.serde_json.specs.View.{members_view, view};
 ghost use Rattle.am_alerts.specs.Matcher.{compare_texts};
@@ -9,6 +9,7 @@ ghost use Rattle.am_scenario.specs.Decoding.{IsEnd, DecodesToAlert, DecodesToSil
 
 use am_alerts::alert::Alert;
 use am_alerts::matcher::Matcher;
+use am_cli::config::most_matchers;
 use am_cli::fault::{FaultKind, InputFault};
 use am_cli::labels::read_labels;
 use am_cli::reader::{FromJson, Object, Reader};
@@ -115,6 +116,10 @@ fn read_set(reader: &Reader<'_, '_>) -> Result<Silence, InputFault>
     let matchers = silence.required("matchers")?.list::<Matcher>()?;
     let start = silence.required("start")?.number()?;
     let end = silence.required("end")?.number()?;
+    let most = most_matchers(silence.mode());
+    if matchers.len() > most {
+        return Err(reader.refuse(FaultKind::BadValue));
+    }
     match Silence::new(id, matchers, start, end) {
         Ok(silence) => Ok(silence),
         Err(_) => Err(reader.refuse(FaultKind::BadValue)),

@@ -1,5 +1,5 @@
 //! Lists whose JSON values are let go one by one, each as soon as it was read: its memory serves what
-//! is made of the next. `read` calls it.
+//! is made of the next.
 //!
 //! Such a value is taken out of the one that holds it, and is read as a value of its own. A fault in
 //! it is then given at its pointer in the other (`under`).

@@ -1,4 +1,4 @@
-//! How a scenario is read. `am_run` calls `read_scenario`.
+//! How a scenario is read.
 //!
 //! The length of a pair, a matcher, a script item or the list of lanes is looked at before its
 //! items. Exception: the matchers of a silence are read before they are counted. A call with two

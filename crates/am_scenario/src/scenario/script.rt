@@ -1,4 +1,4 @@
-//! The answers to the attempts of a notice, and how they are read. `read` calls it.
+//! The answers to the attempts of a notice, and how they are read.
 ghost use Rattle.std.specs.Prelude.{◌≡◌};
 ghost use Rattle.am_scenario.specs.Scripts.{answer_to, at_once, sent_at};
 

@@ -1,4 +1,4 @@
-//! Log entries that had expired when flushes began. `logbook` keeps a table of them.
+//! Log entries that had expired when flushes began.
 ghost use Rattle.std.specs.Prelude.{◌≡◌, ◌*◌, min, ◌&&◌, ◌==◌, ℕ, IfOk, None, OnOk, if◌then◌else◌};
 ghost use Rattle.std.specs.Prelude.{nat_lt, option_copied};
 ghost use Rattle.std.specs.HashMap.{get};

@@ -1,4 +1,4 @@
-//! `Log`: what is kept of a history while its expired log entries are found. `logbook` makes one.
+//! `Log`: what is kept of a history while its expired log entries are found.
 ghost use Rattle.std.specs.Prelude.{◌≡◌, ◌∷◌, ◌&&◌, ◌||◌, ◌==◌, [], ℕ, OnOk, Some, not, if◌then◌else◌};
 ghost use Rattle.std.specs.Prelude.{max, min, nat_eq};
 ghost use Rattle.std.specs.HashMap.{get};

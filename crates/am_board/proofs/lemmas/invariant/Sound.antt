@@ -106,10 +106,10 @@ module _ (b : Inside) (sound : IsSound b) where
       }
 
   -- the alerts over all groups are few, and so are the inserts
-  pub few_alerts : sum_by (λ g. length g.members) (state_of b.state).groups ≤ 1_024 * b.state.inserts
+  pub few_alerts : sum_by (λ g. length g.members) (state_of b.state).groups ≤ 16_384 * b.state.inserts
   few_alerts =
       let few : IsBounded b.config (length (whole b)) replayed = bounded b.config (whole b) in
-      subst (λ (s : State). sum_by (λ g. length g.members) s.groups ≤ 1_024 * s.inserts) (sym sound.agrees.rest) (few.alerts sound.few_routes)
+      subst (λ (s : State). sum_by (λ g. length g.members) s.groups ≤ 16_384 * s.inserts) (sym sound.agrees.rest) (few.alerts sound.few_routes)
 
   pub few_inserts : b.state.inserts ≤ MAX_CALLS
   few_inserts = good.inserts

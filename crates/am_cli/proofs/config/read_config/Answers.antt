@@ -37,7 +37,7 @@ pub returns-in-Ok-2-clause-refused : goal.returns-in-Ok-2-clause-refused
 returns-in-Ok-2-clause-refused c refusal x decoded =
     let mode : Mode = c.args.reader.now.mode in
     let config : Config = c.in_ok-config.config in
-    let same : x ≡ config = one_parts mode (view c.args.reader.now.value) x config decoded.0.parts c.in_ok-config.ensures.decoded in
+    let same : x ≡ config = one_parts mode (view c.args.reader.now.value) x config decoded.1 decoded.0.parts c.in_ok-config.ensures.decoded in
     differs (are_at_most (limits_in mode) config.limits && has_few_parts mode config)
     (ap (λ (m : Mode). are_at_most (limits_in m) config.limits && has_few_parts m config) (sym c.mode.ensures) ∙ sym c.keeps_bounds.ensures ∙ c.if-keeps_bounds.false)
     (both (are_at_most (limits_in mode) config.limits) (has_few_parts mode config)
@@ -48,5 +48,5 @@ returns-in-Ok-2-clause-refused c refusal x decoded =
 pub returns-in-Err-clause-refused : goal.returns-in-Err-clause-refused
 returns-in-Err-clause-refused c refusal x decoded =
     let config = c.in_ok-config.config in
-    let same : x ≡ config = one_parts c.args.reader.now.mode (view c.args.reader.now.value) x config decoded.0.parts c.in_ok-config.ensures.decoded in
+    let same : x ≡ config = one_parts c.args.reader.now.mode (view c.args.reader.now.value) x config decoded.1 decoded.0.parts c.in_ok-config.ensures.decoded in
     unmade (config_fault config) tt _ c.in-Err.ensures.fault (ap config_fault (sym same) ∙ decoded.0.sound)

@@ -15,7 +15,7 @@ use Rattle.am_cli.specs.Decoding.{IsList, Has, HasOr}
 use Rattle.am_cli.specs.declared.reader.Mode.{Mode}
 use Rattle.am_cli.proofs.Configured.{few_receivers, plain_children, plain_rules}
 use Rattle.am_cli.proofs.Decoding.{all_sure, as_listed, as_decoded, as_decoded_in, decoded_or, handed_on, in_object, listed_in, missing, refused_or, decoded_in, starved, unknown}
-use Rattle.am_cli.proofs.Once.{one_child, one_list, one_or, one_receiver, one_root, one_there}
+use Rattle.am_cli.proofs.Once.{one_children, one_list, one_receiver, one_root, one_there}
 use Rattle.am_cli.proofs.config.read_parts.Goals as goal
 
 -- what is never refused
@@ -116,8 +116,8 @@ returns-in_err-routes-clause-refused c =
     let root = one_there (DecodesToRoot c.in_ok-config.config.mode) (one_root c.in_ok-config.config.mode) (get_member (codes "route") (members_view c.in_ok-config.config.members)) x.routes.root c.in_ok-root.root is.root
     (as_decoded_in DecodesToRoot c.in_ok-config.config.mode c.in_ok-required-2.field-0.mode (view c.in_ok-required-2.field-0.value) (get_member (codes "route") (members_view c.in_ok-config.config.members)) c.in_ok-root.root c.in_ok-required-2.ensures.value
     c.in_ok-required-2.ensures.mode c.in_ok-root.ensures.decoded) in
-    let children = one_or (IsList (DecodesToChild c.in_ok-config.config.mode)) (one_list (DecodesToChild c.in_ok-config.config.mode) (one_child c.in_ok-config.config.mode)) []
-    (get_member (codes "children") (members_view c.in_ok-config.config.members)) is.children c.in_ok-children.children.items is.listed c.in_ok-children.ensures.decoded in
+    let children = one_children c.in_ok-config.config.mode (members_view c.in_ok-config.config.members) is.children c.in_ok-children.children.items
+    (plain_children x is.children is.tree decoded.1) is.listed c.in_ok-children.ensures.decoded in
     let routes : tree_of c.in_ok-root.root c.in_ok-children.children.items ≡ x.routes = (λ i. tree_of (sym root i) (sym children i)) ∙ sym is.tree in
     c.in_err-routes.ensures.refused (ap level_fault routes ∙ is.sound))
 

@@ -1,27 +1,23 @@
-use Rattle.std.proofs.Common.{◌≡◌, ℕ, List, Bor, true, subst, sym}
-use Rattle.std.specs.List.{list_all}
-use Rattle.std.specs.Prelude.{IfErr, IfOk, IsTrue}
+use Rattle.std.proofs.Common.{◌≡◌, subst, sym}
+use Rattle.std.specs.Prelude.{IfErr, IfOk}
 use Rattle.serde_json.specs.View.{view}
-use Rattle.am_cli.specs.Configured.{DecodesToPairs, IsPair}
-use Rattle.am_cli.specs.Decoding.{IsList}
+use Rattle.am_cli.specs.Configured.{DecodesToPairs}
 use Rattle.am_cli.specs.Read.{Excludes}
 use Rattle.am_cli.specs.declared.reader.Mode.{Mode}
 use Rattle.am_cli.specs.declared.reader.Mode.TheVariants.{Lenient, Strict}
-use Rattle.am_cli.proofs.Decoding.{all_sure, narrowed}
 use Rattle.am_cli.proofs.labels.read_pairs.Goals as goal
 
 pub returns-in-Lenient-clause-decoded : goal.returns-in-Lenient-clause-decoded
 returns-in-Lenient-clause-decoded c =
     let mode : c.args.reader.now.mode ≡ Lenient = cc in
-    subst (λ (d : Mode). IfOk c.list.result (λ pairs. DecodesToPairs d (view c.args.reader.now.value) pairs.items)) (sym mode) c.list.ensures.decoded
+    subst (λ (d : Mode). IfOk c.read_lenient_pairs.result (λ pairs. DecodesToPairs d (view c.args.reader.now.value) pairs.items)) (sym mode)
+    c.read_lenient_pairs.ensures.decoded
 
 pub returns-in-Lenient-clause-refused : goal.returns-in-Lenient-clause-refused
 returns-in-Lenient-clause-refused c =
-    let value = view c.args.reader.now.value in
     let mode : c.args.reader.now.mode ≡ Lenient = cc in
-    subst (λ (d : Mode). IfErr c.list.result (Excludes (DecodesToPairs d value))) (sym mode)
-    (narrowed (λ (ps : List (Bor (List ℕ) × Bor (List ℕ))). IsList IsPair value ps × IsTrue (list_all (λ p. true) ps)) (DecodesToPairs Lenient value)
-    (λ ps decoded. (decoded, all_sure ps)) c.list.result c.list.ensures.refused)
+    subst (λ (d : Mode). IfErr c.read_lenient_pairs.result (Excludes (DecodesToPairs d (view c.args.reader.now.value)))) (sym mode)
+    c.read_lenient_pairs.ensures.refused
 
 pub returns-in-Strict-clause-decoded : goal.returns-in-Strict-clause-decoded
 returns-in-Strict-clause-decoded c =

@@ -3,10 +3,9 @@ use Rattle.std.proofs.lemmas.List.{take_all}
 use Rattle.std.specs.Prelude.{IsSomeAnd}
 use Rattle.serde_json.specs.Find.{as_str}
 use Rattle.serde_json.specs.View.{view}
-use Rattle.am_cli.specs.MatcherText.{IsMatcherText}
 use Rattle.am_config.proofs.Collecting.{ok_kept}
 use Rattle.am_config.proofs.Matched.{adds_written}
-use Rattle.am_config.specs.Matchers.{AreWritten, matchers_in}
+use Rattle.am_config.specs.Matchers.{AreWritten, IsTranslatedText, matchers_in}
 use Rattle.am_config.proofs.matchers.read_text.Goals as goal
 
 pub loop-written-preserved : goal.loop-written-preserved
@@ -18,10 +17,10 @@ loop-written-preserved c = λ none.
     let kept = c.in_ok-matcher.ensures.collects none in
     let capacity = c.in_ok-has_capacity.ensures kept.0 in
     let so_far = l.invariant capacity.0 in
-    let read = ok_kept (IsMatcherText c.as_str.result.now) c.matcher_of_text.result m (sym c.in-Some-2.is ∙ c.in_ok-matcher.ensures.kept) c.matcher_of_text.ensures in (
+    let read = ok_kept (IsTranslatedText c.as_str.result.now) c.matcher_of_text.result m (sym c.in-Some-2.is ∙ c.in_ok-matcher.ensures.kept) c.matcher_of_text.ensures in (
       so_far.0,
       adds_written all l.written-index c.written-item.result m c.args.matchers.now.items l.matchers.items c.push.new.self.items here c.written-item.is so_far.1
-          (subst (λ (text : List ℕ). IsMatcherText text m) c.as_str.ensures.value read) c.in_ok-push.ensures.items,
+          (subst (λ (text : List ℕ). IsTranslatedText text m) c.as_str.ensures.value read) c.in_ok-push.ensures.items,
     )
 
 pub returns : goal.returns

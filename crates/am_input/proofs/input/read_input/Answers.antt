@@ -5,13 +5,12 @@ use Rattle.serde_json.specs.Find.{as_object, get_member}
 use Rattle.serde_json.specs.View.{members_view, view}
 use Rattle.serde_json.specs.declared.value.Value.{Value}
 use Rattle.am_cli.proofs.Decoding.{unknown}
-use Rattle.am_cli.proofs.Once.{one_parts, one_there}
 use Rattle.am_cli.specs.Configured.{DecodesToConfig}
 use Rattle.am_cli.specs.Decoding.{Has, HasNone}
 use Rattle.am_cli.specs.declared.reader.Mode.{Mode}
 use Rattle.am_cli.specs.declared.reader.Mode.TheVariants.{Strict}
 use Rattle.am_input.proofs.Refusals.{one_on, passed_on}
-use Rattle.am_input.proofs.DecodedDispatcherChanges.{one_list}
+use Rattle.am_input.proofs.DecodedDispatcherChanges.{one_list, one_own}
 use Rattle.am_input.specs.Configured.{IsConfigFor, IsReadOfTheirs, DecodesPlainly, file_in}
 use Rattle.am_input.specs.DispatcherChanges.{AreDispatcherChangesWithoutRegexes}
 use Rattle.am_input.specs.Request.{IsWithoutRegexes, Requests, end_for}
@@ -56,8 +55,8 @@ same_config d changes members input config decoded read =
     let read_of : IsConfigFor None d members config = subst (λ (file : Option Data). IsConfigFor file d members config) decoded.1.own read in
     let has = found_none (Has (DecodesToConfig d) (codes "config") members config) (λ value. HasNone (codes "config") members × IsReadOfTheirs value config)
     (get_member (codes "alertmanager") members) (sym decoded.1.ours) read_of in
-    one_there (DecodesToConfig d) (λ value c k is also. one_parts d value c k is.parts also.parts) (get_member (codes "config") members) input.rehearsal.config config
-    (without_patterns d changes members input decoded).0 has
+    let own = without_patterns d changes members input decoded in
+    one_own d members input.rehearsal.config config own.1 own.0 has
 
 -- what is given of an object that was read
 inside : (d : Mode) (changes : Changes) (members : Members) (value : Data) (input : Input) → Some members ≡ as_object value → d ≡ Strict

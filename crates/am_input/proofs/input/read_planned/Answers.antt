@@ -86,7 +86,7 @@ returns-in_err-requested-clause-refused c timed later =
     (λ refusal x decoded.
     let config : x.rehearsal.config ≡ r.config = decoded.1 ∙ sym c.in_ok-rehearsal.ensures.config in
     let until : x.rehearsal.until ≡ r.until = same_some decoded.0.ends (c.requires.ends ∙ ap Some (sym c.in_ok-rehearsal.ensures.until)) in
-    let plans : x.rehearsal.plans.items ≡ r.plans.items = one_plan d members x.rehearsal.plans.items r.plans.items decoded.0.plans c.in_ok-rehearsal.ensures.plans in
+    let plans : x.rehearsal.plans.items ≡ r.plans.items = one_plan d members x.rehearsal.plans.items r.plans.items decoded.3.plans c.in_ok-rehearsal.ensures.plans in
     let requested : Requested = record { start = x.start; expectations = x.expectations; output = x.output } in
     let found = get_member (codes "expect") members in
     let xs = x.expectations.items in

@@ -6,5 +6,5 @@ use Rattle.am_lines.proofs.record.write_silence.Goals as goal
 
 pub returns : goal.returns
 returns c =
-    last_piece c.end.result c.end.new.answer c.put_list.new.self (end_object ∷ end_object ∷ []) (c.args.answer.now ++ silence_tokens c.args.now c.args.id c.args.matchers.now c.args.starts c.args.ends)
+    last_piece c.end.result c.end.new.answer c.put_list.new.self (end_object ∷ end_object ∷ []) (c.args.answer.now ++ silence_tokens c.args.now c.args.id c.args.matchers.now c.args.times.0 c.args.times.1)
     (rw (c.in_ok-put_list.ensures, c.in_ok-put_number-4.ensures, c.in_ok-put_number-3.ensures, c.in_ok-put_number-2.ensures, c.in_ok-put_number.ensures, c.in_ok-begin.ensures) (simp append_assoc)) c.end.ensures

@@ -2,7 +2,7 @@ use Rattle.std.proofs.Common.{subst}
 use Rattle.serde_json.specs.View.{view}
 use Rattle.am_cli.proofs.Decoding.{all_sure, handed_on, sure}
 use Rattle.am_lines.specs.declared.call.CallName.{CallName}
-use Rattle.am_lines.proofs.Asked.{IsSure, of_alertmanager, of_begin, of_config, of_finish, of_forget, of_insert, of_inserts, of_load, of_maintain, of_note, of_outlook, of_remove_empty_groups, of_report, of_silence, of_groups, of_next_due, of_rows, of_summary, of_take_history, of_tickets}
+use Rattle.am_lines.proofs.Asked.{IsSure, of_alertmanager, of_begin, of_check, of_config, of_finish, of_forget, of_insert, of_inserts, of_load, of_maintain, of_note, of_outlook, of_remove_empty_groups, of_report, of_silence, of_status, of_groups, of_next_due, of_open, of_rows, of_summary, of_take_history, of_tickets}
 use Rattle.am_lines.proofs.Refusing.{unasked}
 use Rattle.am_lines.proofs.request.read_call.Goals as goal
 
@@ -15,6 +15,11 @@ pub returns-in_err-read_theirs-in-Alertmanager-clause-refused : goal.returns-in_
 returns-in_err-read_theirs-in-Alertmanager-clause-refused c =
     handed_on (IsSure c.args.value.now.mode c.args.call (view c.args.value.now.value)) c.from_residual-in_err-read_theirs-in-Alertmanager.result c.in_err-read_theirs-in-Alertmanager.field-0.0 c.from_residual-in_err-read_theirs-in-Alertmanager.ensures.1
     (λ refusal asked is. of_alertmanager c.args.value.now.mode (view c.args.value.now.value) asked (subst (λ (n : CallName). IsSure c.args.value.now.mode n (view c.args.value.now.value) asked) c.in-Alertmanager.is is))
+
+pub returns-in_err-read_clocked-in-Open-clause-refused : goal.returns-in_err-read_clocked-in-Open-clause-refused
+returns-in_err-read_clocked-in-Open-clause-refused c =
+    handed_on (IsSure c.args.value.now.mode c.args.call (view c.args.value.now.value)) c.from_residual-in_err-read_clocked-in-Open.result c.in_err-read_clocked-in-Open.field-0.0 c.from_residual-in_err-read_clocked-in-Open.ensures.1
+    (λ refusal asked is. of_open c.args.value.now.mode (view c.args.value.now.value) asked (subst (λ (n : CallName). IsSure c.args.value.now.mode n (view c.args.value.now.value) asked) c.in-Open.is is))
 
 pub returns-in_err-read-in-Insert-clause-refused : goal.returns-in_err-read-in-Insert-clause-refused
 returns-in_err-read-in-Insert-clause-refused c =
@@ -76,6 +81,11 @@ returns-in_err-read-in-Outlook-clause-refused c =
     handed_on (IsSure c.args.value.now.mode c.args.call (view c.args.value.now.value)) c.from_residual-in_err-read-in-Outlook.result c.in_err-read-in-Outlook.field-0.0 c.from_residual-in_err-read-in-Outlook.ensures.1
     (λ refusal asked is. let one = of_outlook c.args.value.now.mode (view c.args.value.now.value) asked (subst (λ (n : CallName). IsSure c.args.value.now.mode n (view c.args.value.now.value) asked) c.in-Outlook.is is) in c.in_err-read-in-Outlook.ensures.refused refusal one.0 (one.1, sure))
 
+pub returns-in_err-read-in-Status-clause-refused : goal.returns-in_err-read-in-Status-clause-refused
+returns-in_err-read-in-Status-clause-refused c =
+    handed_on (IsSure c.args.value.now.mode c.args.call (view c.args.value.now.value)) c.from_residual-in_err-read-in-Status.result c.in_err-read-in-Status.field-0.0 c.from_residual-in_err-read-in-Status.ensures.1
+    (λ refusal asked is. let one = of_status c.args.value.now.mode (view c.args.value.now.value) asked (subst (λ (n : CallName). IsSure c.args.value.now.mode n (view c.args.value.now.value) asked) c.in-Status.is is) in c.in_err-read-in-Status.ensures.refused refusal one.0 (one.1, sure))
+
 pub returns-in-NextDue-clause-refused : goal.returns-in-NextDue-clause-refused
 returns-in-NextDue-clause-refused c =
     unasked (IsSure c.args.value.now.mode c.args.call (view c.args.value.now.value)) c.without_arguments.result _
@@ -105,3 +115,8 @@ pub returns-in-TakeHistory-clause-refused : goal.returns-in-TakeHistory-clause-r
 returns-in-TakeHistory-clause-refused c =
     unasked (IsSure c.args.value.now.mode c.args.call (view c.args.value.now.value)) c.without_arguments-in-TakeHistory.result _
     (λ asked is. of_take_history c.args.value.now.mode (view c.args.value.now.value) asked (subst (λ (n : CallName). IsSure c.args.value.now.mode n (view c.args.value.now.value) asked) c.in-TakeHistory.is is)) c.without_arguments-in-TakeHistory.ensures.refused
+
+pub returns-in_err-read-in-Check-clause-refused : goal.returns-in_err-read-in-Check-clause-refused
+returns-in_err-read-in-Check-clause-refused c =
+    handed_on (IsSure c.args.value.now.mode c.args.call (view c.args.value.now.value)) c.from_residual-in_err-read-in-Check.result c.in_err-read-in-Check.field-0.0 c.from_residual-in_err-read-in-Check.ensures.1
+    (λ refusal asked is. let one = of_check c.args.value.now.mode (view c.args.value.now.value) asked (subst (λ (n : CallName). IsSure c.args.value.now.mode n (view c.args.value.now.value) asked) c.in-Check.is is) in c.in_err-read-in-Check.ensures.refused refusal one.0 (one.1, one.2))

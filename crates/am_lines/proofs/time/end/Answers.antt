@@ -4,7 +4,7 @@ use Rattle.serde_json.specs.Data.{Data}
 use Rattle.serde_json.specs.Find.{as_null}
 use Rattle.serde_json.specs.View.{view}
 use Rattle.am_cli.proofs.Decoding.{handed_on}
-use Rattle.am_lines.specs.Request.{IsEnd, time_in}
+use Rattle.am_lines.specs.Time.{IsEnd, time_in}
 use Rattle.am_lines.proofs.time.end.Goals as goal
 
 no_end : (value : Data) (end : Option ℕ) → is_some (as_null value) ≡ false → None ≡ time_in value → IsEnd value end → ⊥

@@ -1,7 +1,7 @@
 use Rattle.std.proofs.Common.{None, codes}
 use Rattle.serde_json.specs.Find.{get_member}
 use Rattle.serde_json.specs.View.{members_view, view}
-use Rattle.am_lines.specs.Request.{IsEnd}
+use Rattle.am_lines.specs.Time.{IsEnd}
 use Rattle.am_lines.proofs.Refusing.{or_err, or_ok}
 use Rattle.am_lines.proofs.time.ends.Goals as goal
 

@@ -1,7 +1,7 @@
 use Rattle.std.proofs.Common.{◌≡◌, arith}
 use Rattle.serde_json.specs.View.{view}
 use Rattle.am_cli.proofs.Decoding.{handed_on}
-use Rattle.am_lines.specs.Request.{IsNow}
+use Rattle.am_lines.specs.Time.{IsNow}
 use Rattle.am_lines.proofs.time.now.Goals as goal
 
 pub returns-in_err-now-clause-refused : goal.returns-in_err-now-clause-refused

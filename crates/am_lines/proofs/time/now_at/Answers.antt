@@ -3,7 +3,7 @@ use Rattle.serde_json.specs.Find.{get_member}
 use Rattle.serde_json.specs.View.{members_view, view}
 use Rattle.am_cli.specs.Decoding.{Has}
 use Rattle.am_cli.proofs.Decoding.{handed_on, missing}
-use Rattle.am_lines.specs.Request.{IsNow}
+use Rattle.am_lines.specs.Time.{IsNow}
 use Rattle.am_lines.proofs.Refusing.{there_err, there_ok}
 use Rattle.am_lines.proofs.time.now_at.Goals as goal
 

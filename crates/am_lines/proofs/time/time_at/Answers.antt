@@ -2,7 +2,7 @@ use Rattle.serde_json.specs.Find.{get_member}
 use Rattle.serde_json.specs.View.{members_view, view}
 use Rattle.am_cli.specs.Decoding.{Has}
 use Rattle.am_cli.proofs.Decoding.{handed_on, missing}
-use Rattle.am_lines.specs.Request.{IsTime, time_in}
+use Rattle.am_lines.specs.Time.{IsTime, time_in}
 use Rattle.am_lines.proofs.Refusing.{read_err, read_ok, there_err, there_ok}
 use Rattle.am_lines.proofs.time.time_at.Goals as goal
 

@@ -1,6 +1,6 @@
 use Rattle.serde_json.specs.Find.{get_member}
 use Rattle.serde_json.specs.View.{members_view, view}
-use Rattle.am_lines.specs.Request.{IsTime, time_in}
+use Rattle.am_lines.specs.Time.{IsTime, time_in}
 use Rattle.am_lines.proofs.Refusing.{or_err, or_ok, read_err, read_ok}
 use Rattle.am_lines.proofs.time.time_or.Goals as goal
 

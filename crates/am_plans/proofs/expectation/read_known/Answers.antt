@@ -30,7 +30,7 @@ returns-in_err-check_target-clause-refused c =
     let value = view c.args.reader.now.value in
     handed_on (Decodes d (configs_in c.args.configs.now) c.args.until c.args.last c.args.plans.now value) c.from_residual-in_err-check_target.result c.in_err-check_target.field-0.0 c.from_residual-in_err-check_target.ensures.1
     (λ refusal x decoded.
-    let alike = are_alike d c.args.until c.args.last c.args.plans.now value x c.in_ok-expectation.expectation decoded.0.says c.in_ok-expectation.ensures.decoded in
+    let alike = are_alike d c.args.until c.args.last c.args.plans.now value x c.in_ok-expectation.expectation decoded.1 decoded.0.says c.in_ok-expectation.ensures.decoded in
     true_false (same_target (configs_in c.args.configs.now) x c.in_ok-expectation.expectation alike) decoded.0.target c.in_err-check_target.ensures.refused)
 
 pub returns-in_err-check_content-clause-refused : goal.returns-in_err-check_content-clause-refused
@@ -39,6 +39,6 @@ returns-in_err-check_content-clause-refused c =
     let value = view c.args.reader.now.value in
     handed_on (Decodes d (configs_in c.args.configs.now) c.args.until c.args.last c.args.plans.now value) c.from_residual-in_err-check_content.result c.in_err-check_content.field-0.0 c.from_residual-in_err-check_content.ensures.1
     (λ refusal x decoded.
-    let alike = are_alike d c.args.until c.args.last c.args.plans.now value x c.in_ok-expectation.expectation decoded.0.says c.in_ok-expectation.ensures.decoded in
+    let alike = are_alike d c.args.until c.args.last c.args.plans.now value x c.in_ok-expectation.expectation decoded.1 decoded.0.says c.in_ok-expectation.ensures.decoded in
     let there = is_there (λ (ms : Members). IsExpectedOf d c.args.until c.args.last c.args.plans.now ms x × IsTrue (has_only d field_names ms)) (as_object value) decoded.0.says in
     true_false (ap (has_alerts c.args.last c.args.plans.now) alike.content) decoded.0.alerts (c.in_err-check_content.ensures.refused there refusal))

@@ -11,5 +11,5 @@ returns-clause-added g c =
     let before : option_copied c.last_board-before.result ≡ last_board None c.args.played.now.items = c.last_board-before.ensures ∙ ap (last_board None) (c.as_slice.ensures.value ∙ c.in_ok-reserve.ensures.items) in (
       next,
       c.push_reserved.ensures.items ∙ ap (λ (qs : List PlayedPart). qs ++ next ∷ []) c.in_ok-reserve.ensures.items,
-      subst (λ (b : Option BoardData). PlaysPart c.args.upkeep c.args.outages.now b c.args.part next) before c.in_ok-next.ensures.played,
+      subst (λ (b : Option BoardData). PlaysPart c.args.conditions.now.upkeep c.args.conditions.now.outages.now b c.args.part next) before c.in_ok-next.ensures.played,
     )

@@ -4,4 +4,4 @@ use Rattle.am_rehearsal.proofs.playing.play_parts.Given as goal
 
 -- the parts so far run
 abbrev pub invariant-loop-part : goal.invariant-loop-part
-invariant-loop-part g l = ArePlayed l.upkeep l.outages None l.yielded l.played.items
+invariant-loop-part g l = ArePlayed l.fn.upkeep l.outages None l.yielded l.played.items

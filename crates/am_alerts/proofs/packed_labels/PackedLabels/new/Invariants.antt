@@ -7,5 +7,5 @@ use Rattle.am_alerts.proofs.packed_labels.PackedLabels.new.Given as goal
 abbrev pub invariant-loop-pair : goal.invariant-loop-pair
 invariant-loop-pair l = record {
   run : IsRun (string_bytes l.run) l.cuts.items l.is_marked (labels_in (take l.pair-index l.pairs));
-  short : length (string_bytes l.run) ≤ 2050 * l.pair-index;
+  short : length (string_bytes l.run) ≤ 17410 * l.pair-index;
 }

@@ -23,7 +23,7 @@ invariant_of-result c =
     let fits : c.fit-fits.result ≡ (nat_le (length cs) MAX_ROUTES && nat_le (height rules_below) MAX_DEPTH) =
     c.fit-fits.ensures ∙ ap (λ n. nat_le n MAX_ROUTES && c.is_low-low.result) size ∙ ap (λ b. nat_le (length cs) MAX_ROUTES && b) low in
     let none : fault_where (nat_le (length cs) MAX_ROUTES && nat_le (height rules_below) MAX_DEPTH) c.args.root cs ≡ None =
-    sym ((rw c.as_slice-2.ensures.value at c.in-None.ensures) ∙ ap (λ b. fault_where b c.args.root cs) fits) in
+    sym ((rw c.as_slice-3.ensures.value at c.in-None.ensures) ∙ ap (λ b. fault_where b c.args.root cs) fits) in
     rw (c.from.ensures, c.from-in-None.ensures) (is_planted_nested c.args.root rules_below cs ps children layouts none)
 
 pub returns-in-None-clause-value : goal.returns-in-None-clause-value
@@ -51,6 +51,6 @@ returns-in-Some-clause-refused c =
     let fits : c.fit-fits.result ≡ (nat_le (length cs) MAX_ROUTES && nat_le (height rules_below) MAX_DEPTH) =
     c.fit-fits.ensures ∙ ap (λ n. nat_le n MAX_ROUTES && c.is_low-low.result) size ∙ ap (λ b. nat_le (length cs) MAX_ROUTES && b) low in
     let some : tree_fault (nested_of c.args.root rules_below) ≡ Some c.in-Some.fault =
-    sym ((rw c.as_slice-2.ensures.value at c.in-Some.ensures) ∙ ap (λ b. fault_where b c.args.root cs) fits
+    sym ((rw c.as_slice-3.ensures.value at c.in-Some.ensures) ∙ ap (λ b. fault_where b c.args.root cs) fits
     ∙ fault_nested c.args.root rules_below cs ps children layouts) in
     inr (c.in-Some.fault, refl, some)

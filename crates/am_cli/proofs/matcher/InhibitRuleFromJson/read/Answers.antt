@@ -1,13 +1,10 @@
-use Rattle.std.proofs.Common.{◌≡◌, ◌≤◌, ◌||◌, [], Bool, true, false, None, Some, arith, codes, if◌then◌else◌, length, nat_lt, refl, subst, sym}
-use Rattle.std.proofs.lemmas.Bool.{ltb-false}
+use Rattle.std.proofs.Common.{◌≡◌, [], None, Some, codes, subst, sym}
 use Rattle.std.specs.Prelude.{IsTrue}
 use Rattle.serde_json.specs.Data.{Data}
 use Rattle.serde_json.specs.Find.{as_object, get_member}
 use Rattle.serde_json.specs.View.{members_view, view}
 use Rattle.am_alerts.specs.Matcher.{compare_texts}
-use Rattle.am_alerts.specs.declared.limits.TheConstants.{MAX_MATCHERS, MAX_LABEL_NAMES}
 use Rattle.am_mute.specs.Inhibit.{RuleData, rule_of, rule_fault}
-use Rattle.am_mute.specs.declared.inhibit.RuleFault.TheVariants.{TooManyMatchers, TooManyNames}
 use Rattle.am_cli.specs.Configured.{DecodesToRule, HasRule, rule_compares_texts}
 use Rattle.am_cli.specs.Decoding.{IsList, IsText}
 use Rattle.am_cli.specs.Read.{ObjectData}
@@ -26,20 +23,6 @@ inside : (mode : Mode) (value : Data) (o : ObjectData) (rule : RuleData) → Som
     → Decodes mode value rule → HasRule o.mode (members_view o.members) rule
 inside mode value o rule is same decoded = in_object HasRule mode o.mode (members_view o.members) value rule is same decoded.0
 
--- a rule without a fault has few matchers on each side
-few_sides : (r : RuleData) → rule_fault r ≡ None → (length r.source ≤ MAX_MATCHERS) × (length r.target ≤ MAX_MATCHERS)
-few_sides r sound = by (nat_lt MAX_MATCHERS (length r.source)) (nat_lt MAX_MATCHERS (length r.target)) refl refl sound
-  where
-    by : (a b : Bool) → nat_lt MAX_MATCHERS (length r.source) ≡ a → nat_lt MAX_MATCHERS (length r.target) ≡ b
-        → (if a || b then Some TooManyMatchers else (if nat_lt MAX_LABEL_NAMES (length r.equal) then Some TooManyNames else None)) ≡ None
-        → (length r.source ≤ MAX_MATCHERS) × (length r.target ≤ MAX_MATCHERS)
-    by true b a_is b_is none = absurd (cc)
-    by false true a_is b_is none = absurd (cc)
-    by false false a_is b_is none = (
-      omega (arith, ltb-false MAX_MATCHERS (length r.source) a_is),
-      omega (arith, ltb-false MAX_MATCHERS (length r.target) b_is),
-    )
-
 pub returns-in-Ok-clause-decoded : goal.returns-in-Ok-clause-decoded
 returns-in-Ok-clause-decoded c =
     let o = c.in_ok-rule.rule in
@@ -50,6 +33,7 @@ returns-in-Ok-clause-decoded c =
       source = c.in_ok-source.ensures.decoded;
       target = c.in_ok-target.ensures.decoded;
       equal = c.in_ok-equal.ensures.decoded;
+      few = (c.in_ok-source.ensures.few, c.in_ok-target.ensures.few);
       sound = made_well (rule_fault rule) rule c.in-Ok.rule c.in-Ok.ensures;
     } in
     subst (λ (r : RuleData). DecodesToRule c.args.reader.now.mode (view c.args.reader.now.value) r) (sym made)
@@ -72,7 +56,7 @@ returns-in_err-source-clause-refused c =
     (λ refusal x decoded. c.in_err-source.ensures.refused refusal x.source (
       (inside c.args.reader.now.mode (view c.args.reader.now.value) c.in_ok-rule.rule x c.in_ok-rule.ensures.members c.in_ok-rule.ensures.mode decoded).source,
       first (compare_texts x.source) (compare_texts x.target) decoded.1,
-      (few_sides x (inside c.args.reader.now.mode (view c.args.reader.now.value) c.in_ok-rule.rule x c.in_ok-rule.ensures.members c.in_ok-rule.ensures.mode decoded).sound).0,
+      (inside c.args.reader.now.mode (view c.args.reader.now.value) c.in_ok-rule.rule x c.in_ok-rule.ensures.members c.in_ok-rule.ensures.mode decoded).few.0,
     ))
 
 pub returns-in_err-target-clause-refused : goal.returns-in_err-target-clause-refused
@@ -81,7 +65,7 @@ returns-in_err-target-clause-refused c =
     (λ refusal x decoded. c.in_err-target.ensures.refused refusal x.target (
       (inside c.args.reader.now.mode (view c.args.reader.now.value) c.in_ok-rule.rule x c.in_ok-rule.ensures.members c.in_ok-rule.ensures.mode decoded).target,
       second (compare_texts x.source) (compare_texts x.target) decoded.1,
-      (few_sides x (inside c.args.reader.now.mode (view c.args.reader.now.value) c.in_ok-rule.rule x c.in_ok-rule.ensures.members c.in_ok-rule.ensures.mode decoded).sound).1,
+      (inside c.args.reader.now.mode (view c.args.reader.now.value) c.in_ok-rule.rule x c.in_ok-rule.ensures.members c.in_ok-rule.ensures.mode decoded).few.1,
     ))
 
 pub returns-in_err-equal-clause-refused : goal.returns-in_err-equal-clause-refused
@@ -96,8 +80,8 @@ returns-in-Err-clause-refused c refusal x decoded =
     let members = members_view o.members in
     let rule : RuleData = rule_of c.in_ok-source.source.items c.in_ok-target.target.items c.in_ok-equal.equal.items in
     let has = inside c.args.reader.now.mode (view c.args.reader.now.value) o x c.in_ok-rule.ensures.members c.in_ok-rule.ensures.mode decoded in
-    let source = one_matchers o.mode (get_member (codes "source") members) x.source rule.source has.source c.in_ok-source.ensures.decoded in
-    let target = one_matchers o.mode (get_member (codes "target") members) x.target rule.target has.target c.in_ok-target.ensures.decoded in
+    let source = one_matchers o.mode (get_member (codes "source") members) x.source rule.source (first (compare_texts x.source) (compare_texts x.target) decoded.1) has.source c.in_ok-source.ensures.decoded in
+    let target = one_matchers o.mode (get_member (codes "target") members) x.target rule.target (second (compare_texts x.source) (compare_texts x.target) decoded.1) has.target c.in_ok-target.ensures.decoded in
     let equal = one_or (IsList IsText) (one_list IsText one_text_of) [] (get_member (codes "equal") members) x.equal rule.equal has.equal c.in_ok-equal.ensures.decoded in
     let same : x ≡ rule = λ i. record { source = source i; target = target i; equal = equal i } in
     unmade (rule_fault rule) rule _ c.in-Err.ensures (subst (λ (r : RuleData). rule_fault r ≡ None) same has.sound)

@@ -1,14 +1,13 @@
-use Rattle.std.proofs.Common.{◌≡◌, ◌≤◌, List, [], Some, codes, false, length, subst, sym, ap, ℕ, arith}
+use Rattle.std.proofs.Common.{◌≡◌, ◌∙◌, ◌≤◌, List, [], Some, codes, false, length, subst, sym, ap, ℕ, arith}
 use Rattle.std.specs.Prelude.{IsTrue}
 use Rattle.serde_json.specs.Data.{Data}
 use Rattle.serde_json.specs.Find.{as_bool, as_object, get_member}
 use Rattle.serde_json.specs.View.{members_view, view}
 use Rattle.am_alerts.specs.Matcher.{compare_texts}
-use Rattle.am_alerts.specs.declared.limits.TheConstants.{MAX_MATCHERS}
 use Rattle.am_alerts.specs.declared.matcher.MatcherParts.{MatcherParts}
 use Rattle.am_alerts.specs.declared.route.Child.{Child}
 use Rattle.am_alerts.specs.declared.route.Route.{Route}
-use Rattle.am_cli.specs.Configured.{DecodesToChild, DecodesToMatcher, DecodesToOptions, HasChild}
+use Rattle.am_cli.specs.Configured.{DecodesToChild, DecodesToMatcher, DecodesToOptions, HasChild, most_matchers}
 use Rattle.am_cli.specs.Routed.{routed}
 use Rattle.am_cli.specs.Decoding.{IsText, IsList, Has, HasOr}
 use Rattle.am_cli.specs.Read.{ObjectData}
@@ -37,8 +36,8 @@ returns-clause-decoded c =
       name = subst (λ (n : List ℕ). Has IsText (codes "name") members n) (sym (ap (λ (r : Route). r.name) route)) c.in_ok-name.ensures.decoded;
       matchers = subst (λ (ms : List MatcherParts). HasOr (IsList (DecodesToMatcher o.mode)) [] (codes "matchers") members ms) (sym c.from.ensures)
           c.in_ok-matchers.ensures.decoded;
-      few = subst (λ (ms : List MatcherParts). length ms ≤ MAX_MATCHERS) (sym c.from.ensures)
-          (omega (arith, c.in_ok-matchers.ensures.bound, c.in_ok-matchers.matchers.ok.0));
+      few = subst (λ (ms : List MatcherParts). length ms ≤ most_matchers o.mode) (sym c.from.ensures)
+          (omega (arith, c.in_ok-matchers.ensures.bound, c.in_ok-matchers.matchers.ok.0, c.most_matchers-most.ensures ∙ ap most_matchers c.mode.ensures));
       continues = decoded_or as_bool false c.in_ok-continues.continues (get_member (codes "continue") members) c.in_ok-continues.ensures.value;
     } in
     as_decoded HasChild c.args.reader.now.mode o.mode members (view c.args.reader.now.value) child c.in_ok-child.ensures.members
@@ -67,7 +66,11 @@ returns-in_err-name-clause-refused c =
 pub returns-in_err-matchers-clause-refused : goal.returns-in_err-matchers-clause-refused
 returns-in_err-matchers-clause-refused c =
     handed_on (Decodes c.args.reader.now.mode (view c.args.reader.now.value)) c.from_residual-in_err-matchers.result c.in_err-matchers.field-0.0 c.from_residual-in_err-matchers.ensures.1
-    (λ refusal x decoded. c.in_err-matchers.ensures.refused refusal x.matchers ((inside c.args.reader.now.mode (view c.args.reader.now.value) c.in_ok-child.child x c.in_ok-child.ensures.members c.in_ok-child.ensures.mode decoded).matchers, decoded.1, (inside c.args.reader.now.mode (view c.args.reader.now.value) c.in_ok-child.child x c.in_ok-child.ensures.members c.in_ok-child.ensures.mode decoded).few))
+    (λ refusal x decoded.
+    let o = c.in_ok-child.child in
+    let has = inside c.args.reader.now.mode (view c.args.reader.now.value) o x c.in_ok-child.ensures.members c.in_ok-child.ensures.mode decoded in
+    let most : c.most_matchers-most.result ≡ most_matchers o.mode = c.most_matchers-most.ensures ∙ ap most_matchers c.mode.ensures in
+    c.in_err-matchers.ensures.refused refusal x.matchers (has.matchers, decoded.1, subst (λ n. length x.matchers ≤ n) (sym most) has.few))
 
 pub returns-in_err-continues-clause-refused : goal.returns-in_err-continues-clause-refused
 returns-in_err-continues-clause-refused c =

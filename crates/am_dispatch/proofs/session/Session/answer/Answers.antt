@@ -1,5 +1,5 @@
 use Rattle.std.proofs.Common.{refl}
-use Rattle.am_lines.specs.declared.request.Request.TheVariants.{Groups, NextDue, Outlook, Rows, Summary, Tickets}
+use Rattle.am_lines.specs.declared.request.Request.TheVariants.{Check, Groups, NextDue, Outlook, Rows, Status, Summary, Tickets}
 use Rattle.am_dispatch.proofs.Leaving.{memory_all}
 use Rattle.am_dispatch.proofs.Making.{both, shown}
 use Rattle.am_dispatch.proofs.session.Session.answer.Goals as goal
@@ -82,6 +82,12 @@ returns-in-Outlook-clause-answered c = rw c.in-Outlook.is (shown _ _ _ _ c.show_
 pub returns-in-Outlook-clause-refused : goal.returns-in-Outlook-clause-refused
 returns-in-Outlook-clause-refused c = rw c.in-Outlook.is (memory_all _ c.args.self.now c.args.self.now (Outlook c.in-Outlook.timed) c.show_outlook.ensures.refused (λ f is. is) (refl, refl))
 
+pub returns-in-Status-clause-answered : goal.returns-in-Status-clause-answered
+returns-in-Status-clause-answered c = rw c.in-Status.is (shown _ _ _ _ c.show_status.ensures.answered)
+
+pub returns-in-Status-clause-refused : goal.returns-in-Status-clause-refused
+returns-in-Status-clause-refused c = rw c.in-Status.is (memory_all _ c.args.self.now c.args.self.now (Status c.in-Status.asked) c.show_status.ensures.refused (λ f is. is) (refl, refl))
+
 pub returns-in-Rows-clause-answered : goal.returns-in-Rows-clause-answered
 returns-in-Rows-clause-answered c = rw c.in-Rows.is (shown _ _ _ _ c.show_rows.ensures.answered)
 
@@ -111,3 +117,9 @@ returns-in-Inserts-clause-answered c = rw c.in-Inserts.is c.insert_all.ensures.a
 
 pub returns-in-Inserts-clause-refused : goal.returns-in-Inserts-clause-refused
 returns-in-Inserts-clause-refused c = rw c.in-Inserts.is c.insert_all.ensures.refused
+
+pub returns-in-Check-clause-answered : goal.returns-in-Check-clause-answered
+returns-in-Check-clause-answered c = rw c.in-Check.is (shown _ _ _ _ c.show_checked.ensures.answered)
+
+pub returns-in-Check-clause-refused : goal.returns-in-Check-clause-refused
+returns-in-Check-clause-refused c = rw c.in-Check.is (memory_all _ c.args.self.now c.args.self.now (Check c.in-Check.part) c.show_checked.ensures.refused (λ f is. is) (refl, refl))

@@ -7,4 +7,4 @@ use Rattle.am_judge.proofs.expectation_report.came.push_all_got.Given as goal
 abbrev pub invariant-loop-playback : goal.invariant-loop-playback
 invariant-loop-playback g l =
     string_bytes l.out
-    ≡ string_bytes l.fn.out ++ flat_map (got_in l.some_fit (g.C.TimeFormat.times l.clock) l.expectation) (take l.playback-index l.playbacks)
+    ≡ string_bytes l.fn.out ++ flat_map (got_in l.some_fit (g.C.TimeFormat.times l.clock) l.question.expectation.now) (take l.playback-index l.question.playbacks.now)

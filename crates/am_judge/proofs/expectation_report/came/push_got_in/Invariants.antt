@@ -7,4 +7,4 @@ use Rattle.am_judge.proofs.expectation_report.came.push_got_in.Given as goal
 abbrev pub invariant-loop-event : goal.invariant-loop-event
 invariant-loop-event g l =
     string_bytes l.out
-    ≡ string_bytes l.fn.out ++ flat_map (got_by l.some_fit l.playback (g.C.TimeFormat.times l.clock) l.expectation) (take l.event-index l.events)
+    ≡ string_bytes l.fn.out ++ flat_map (got_by l.some_fit l.playback (g.C.TimeFormat.times l.clock) l.question.expectation.now) (take l.event-index l.events)

@@ -9,7 +9,7 @@ use Rattle.am_alerts.specs.AlertData.{alert_fault}
 use Rattle.am_cli.proofs.Once.{one_or, one_read, one_there}
 use Rattle.am_cli.specs.Configured.{DecodesToLabels}
 use Rattle.am_cli.specs.Decoding.{HasOr}
-use Rattle.am_lines.specs.Request.{IsEnd, IsNow, IsTime, time_in}
+use Rattle.am_lines.specs.Time.{IsEnd, IsNow, IsTime, time_in}
 use Rattle.am_lines.proofs.Once.{both_there, one_end, one_length, one_now, same_fault}
 use Rattle.am_lines.specs.Request.{DecodesToInsertion, HasInsertion}
 use Rattle.am_lines.specs.declared.request.Insertion.{Insertion}

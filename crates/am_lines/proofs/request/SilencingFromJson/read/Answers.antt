@@ -8,11 +8,11 @@ use Rattle.am_cli.specs.declared.reader.Mode.{Mode}
 use Rattle.am_alerts.specs.Matcher.{compare_texts}
 use Rattle.am_alerts.specs.declared.matcher.MatcherParts.{MatcherParts}
 use Rattle.am_mute.specs.Silence.{SilenceData, silence_fault, silence_of}
-use Rattle.am_cli.proofs.Once.{one_list, one_matcher, one_or, one_read, one_there}
+use Rattle.am_cli.proofs.Once.{one_matcher_list, one_or, one_read, one_there, one_there_with}
 use Rattle.am_cli.specs.Configured.{DecodesToMatcher}
 use Rattle.am_cli.specs.Decoding.{Has, HasOr, IsList, IsNumber}
 use Rattle.am_cli.specs.Read.{number_in}
-use Rattle.am_lines.specs.Request.{IsNow, IsTime, time_in}
+use Rattle.am_lines.specs.Time.{IsNow, IsTime, time_in}
 use Rattle.am_lines.proofs.Once.{few_matchers, one_now}
 use Rattle.am_lines.specs.Request.{DecodesToSilencing, HasSilencing}
 use Rattle.am_lines.specs.declared.request.Silencing.{Silencing}
@@ -86,8 +86,8 @@ returns-in_err-silence-clause-refused c =
     let is = (in_object HasSilencing c.args.reader.now.mode c.in_ok-call.call.mode (members_view c.in_ok-call.call.members) (view c.args.reader.now.value) x c.in_ok-call.ensures.members c.in_ok-call.ensures.mode decoded.0) in
     let same : x.now ≡ c.in_ok-now.now = one_there IsNow one_now (get_member (codes "now") (members_view c.in_ok-call.call.members)) x.now c.in_ok-now.now is.now c.in_ok-now.ensures.decoded in
     let id : x.silence.id ≡ c.in_ok-id.id = one_there IsNumber (one_read number_in) (get_member (codes "id") (members_view c.in_ok-call.call.members)) x.silence.id c.in_ok-id.id is.id c.in_ok-id.ensures.decoded in
-    let matchers : x.silence.matchers ≡ c.in_ok-matchers.matchers.items = one_there (IsList (DecodesToMatcher c.in_ok-call.call.mode)) (one_list (DecodesToMatcher c.in_ok-call.call.mode) (one_matcher c.in_ok-call.call.mode)) (get_member (codes "matchers") (members_view c.in_ok-call.call.members))
-    x.silence.matchers c.in_ok-matchers.matchers.items is.matchers c.in_ok-matchers.ensures.decoded in
+    let matchers : x.silence.matchers ≡ c.in_ok-matchers.matchers.items = one_there_with compare_texts (IsList (DecodesToMatcher c.in_ok-call.call.mode)) (one_matcher_list c.in_ok-call.call.mode) (get_member (codes "matchers") (members_view c.in_ok-call.call.members))
+    x.silence.matchers c.in_ok-matchers.matchers.items decoded.1 is.matchers c.in_ok-matchers.ensures.decoded in
     let moved : HasOr IsTime c.in_ok-now.now (codes "starts") (members_view c.in_ok-call.call.members) x.silence.start = subst (λ (n : ℕ). HasOr IsTime n (codes "starts") (members_view c.in_ok-call.call.members) x.silence.start) same is.starts in
     let start : x.silence.start ≡ c.in_ok-starts.starts = one_or IsTime (one_read time_in) c.in_ok-now.now (get_member (codes "starts") (members_view c.in_ok-call.call.members)) x.silence.start c.in_ok-starts.starts moved c.in_ok-starts.ensures.decoded in
     let end : x.silence.end ≡ c.in_ok-ends.ends = one_there IsTime (one_read time_in) (get_member (codes "ends") (members_view c.in_ok-call.call.members)) x.silence.end c.in_ok-ends.ends is.ends c.in_ok-ends.ensures.decoded in

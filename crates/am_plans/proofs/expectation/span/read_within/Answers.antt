@@ -58,7 +58,8 @@ returns-in_err-from-clause-refused c =
     let read = as_decoded_in AreMatchersOf d of.mode (view of.value) (get_member (codes "of") members) matchers c.in_ok-of.ensures.value c.in_ok-of.ensures.mode c.in_ok-matchers.ensures.decoded in
     handed_on (DecodesWithin d c.args.last c.args.plans.now members (view c.args.within.now.value)) c.from_residual-in_err-from.result c.in_err-from.field-0.0 c.from_residual-in_err-from.ensures.1
     (λ refusal s decoded.
-    let same : c.as_slice.result.now ≡ decoded.0.matchers = c.as_slice.ensures ∙ one_of d (get_member (codes "of") members) matchers decoded.0.matchers read decoded.0.of in
+    let same : c.as_slice.result.now ≡ decoded.0.matchers = c.as_slice.ensures ∙ one_of d (get_member (codes "of") members) matchers decoded.0.matchers
+    (decoded.1 decoded.0.matchers (are_listed d (get_member (codes "of") members) decoded.0.matchers decoded.0.of)) read decoded.0.of in
     let when : c.in_ok-resolves.resolves ≡ decoded.0.resolves = same_some (sym c.in_ok-resolves.ensures) decoded.0.when in
     none_read _ _ (c.in_err-from.ensures.refused refusal) ((λ i. first_insert c.args.last (when i) (same i) c.args.plans.now) ∙ decoded.0.first))
 
@@ -71,7 +72,8 @@ returns-in_err-to-clause-refused c =
     let read = as_decoded_in AreMatchersOf d of.mode (view of.value) (get_member (codes "of") members) matchers c.in_ok-of.ensures.value c.in_ok-of.ensures.mode c.in_ok-matchers.ensures.decoded in
     handed_on (DecodesWithin d c.args.last c.args.plans.now members (view c.args.within.now.value)) c.from_residual-in_err-to.result c.in_err-to.field-0.0 c.from_residual-in_err-to.ensures.1
     (λ refusal s decoded.
-    let same : c.as_slice.result.now ≡ decoded.0.matchers = c.as_slice.ensures ∙ one_of d (get_member (codes "of") members) matchers decoded.0.matchers read decoded.0.of in
+    let same : c.as_slice.result.now ≡ decoded.0.matchers = c.as_slice.ensures ∙ one_of d (get_member (codes "of") members) matchers decoded.0.matchers
+    (decoded.1 decoded.0.matchers (are_listed d (get_member (codes "of") members) decoded.0.matchers decoded.0.of)) read decoded.0.of in
     let when : c.in_ok-resolves.resolves ≡ decoded.0.resolves = same_some (sym c.in_ok-resolves.ensures) decoded.0.when in
     let from : s.0 ≡ c.in_ok-from.from = same_some decoded.0.first ((λ i. first_insert c.args.last (sym when i) (sym same i) c.args.plans.now) ∙ c.in_ok-from.ensures.first) in
     c.in_err-to.ensures.refused s.1 (subst (λ (f : ℕ). IsSomeAnd (duration_in (view c.args.within.now.value)) (IsEndOf f s.1)) from decoded.0.last))

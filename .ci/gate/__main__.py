@@ -34,7 +34,7 @@ AFTER = [
     "checks/am_run.py examples", "checks/am_run.py statuses", "checks/am_run.py lengths", "checks/formats.py routes",
     "checks/formats.py hours", "checks/rehearse.py commands", "checks/formats.py yaml", "checks/rejects.py",
     "checks/rehearse.py notices", "checks/rehearse.py dispatchers", "checks/rehearse.py statuses", "checks/rehearse.py schema",
-    "checks/hostile.py", "checks/patterns.py listed", "checks/dispatch.py",
+    "checks/patterns.py listed", "checks/dispatch.py",
     "checks/live.py", "checks/live_rehearsals.py", "checks/programs.py", "checks/package.py",
     "checks/steps.py", "checks/pages.py quotes",
 ]
@@ -42,6 +42,10 @@ AFTER = [
 KEEPS = "--anew" in subprocess.run(["rt", "help"], capture_output=True, text=True, check=False).stderr
 # With at most so many crates to prove, `rt ci` itself decides how many run at a time, and gives each several processors.
 FEW = 8
+# What runs alone at the end, since its times count.
+ALONE = ["checks/hostile.py", "alertmanager"]
+# How many lines of what failed are printed again below the table: where only the end of a run is kept, they tell why.
+SHOWN = 60
 # What nearly all others wait for, in this order. Proved first and one after the other, each gets several processors; at the
 # same time as others, am_alerts would get one. (am_board needs so much memory that it gets one anyway: it begins with the rest.)
 LOW = ("am_alerts", "am_model")
@@ -67,6 +71,7 @@ class Gate:
         self.anew, self.meter = ["--anew"] * anew, Meter()
         self.passed: list[str] = []
         self.failed: list[str] = []
+        self.said: dict[str, str] = {}
         self.running: dict[str, subprocess.Popen[str]] = {}
         self.has_much = memory() >= MUCH
         changed = kept.with_above(kept.changed())
@@ -90,7 +95,8 @@ class Gate:
                     print(line, end="", flush=True)
         (self.failed if ran.returncode else self.passed).append(name)
         say(f"{name} {'FAILED' if ran.returncode else 'ok'}, after {minutes(since):.1f} min")
-        return "".join(said)
+        self.said[name] = "".join(said)
+        return self.said[name]
 
     def checks(self, names: list[str]) -> None:
         """Runs checks side by side, and prints in their order what they said."""
@@ -139,8 +145,8 @@ class Gate:
             for name, said in (("first-answer", first), ("alertmanager --prepare", compiled), ("wrong-bodies", tried)):
                 print(f"== .ci/{name}\n{said.result()}", end="", flush=True)
         if "rt ci" not in self.failed:
-            # (alone, since its times count)
-            self.checks(["alertmanager"])
+            for name in ALONE:
+                self.checks([name])
 
     def prove_low(self) -> None:
         """Proves the lowest crates with several processors each, if they are to be proved. It saves time and decides nothing:
@@ -152,10 +158,13 @@ class Gate:
             self.failed = [it for it in self.failed if it != name]
 
     def end(self) -> int:
-        """Prints the costs, what failed and the total, and answers the status."""
+        """Prints the costs, the last lines of what failed and the total, and answers the status."""
         self.meter.look()
         self.meter.ended.set()
         print(self.meter.table())
+        for it in self.failed:
+            lines = [line for line in self.said.get(it, "").splitlines() if not line.startswith("ok ")]
+            print(*lines[-SHOWN:], sep="\n")
         for it in self.failed:
             say(f"FAILED: {it}")
         if not self.failed and not self.anew:

@@ -16,4 +16,5 @@ noted_tokens config row = named (codes "noted") (key (codes "row") ∷ row_token
 abbrev pub finished_tokens : Config → Finished → List RowView → List Token
 finished_tokens config x rows =
     named (codes "finished")
-    (number_member (codes "logged") x.logged ++ number_member (codes "removed") x.removed ++ key (codes "rows") ∷ array (row_tokens config) rows)
+    (number_member (codes "logged") x.logged ++ number_member (codes "removed") x.removed
+    ++ key (codes "rows") ∷ array (row_tokens config) rows)

@@ -1,5 +1,6 @@
 -- Request: what a line asks, a line for each member.
-use Rattle.std.specs.Prelude.{◌≡◌, ◌<◌, ◌≤◌, ◌&&◌, not, ℕ, Bool, true, false, List, [], ◌∷◌, Option, Some, None, IsSomeAnd, IsTrue, codes, if◌then◌else◌, is_some}
+use Rattle.std.specs.Prelude.{◌≡◌, ◌<◌, ◌≤◌, ◌&&◌, not, ℕ, Bool, true, false, List}
+use Rattle.std.specs.Prelude.{[], ◌∷◌, Option, Some, None, IsSomeAnd, IsTrue, codes, if◌then◌else◌, is_some}
 use Rattle.serde_json.specs.Data.{Data, Members, no_members, member}
 use Rattle.serde_json.specs.Find.{as_null, as_object, as_str}
 use Rattle.am_alerts.specs.AlertData.{alert_fault, alert_of}
@@ -155,7 +156,8 @@ DecodesToGroup mode value group = IsObject (HasGroup mode) value group
 -- the names of the members of a row
 abbrev pub row_names : List (List ℕ)
 row_names =
-    codes "group" ∷ codes "receiver" ∷ codes "integration" ∷ codes "kind" ∷ codes "moment" ∷ codes "expiry" ∷ codes "firing" ∷ codes "resolved" ∷ []
+    codes "group" ∷ codes "receiver" ∷ codes "integration" ∷ codes "kind" ∷ codes "moment" ∷ codes "expiry"
+    ∷ codes "firing" ∷ codes "resolved" ∷ []
 
 -- a row of a log, by the names of its route, its receiver, which it may not name, and its integration
 pub record HasRow (mode : Mode) (members : Members) (row : NamedRow) : Type 0 where

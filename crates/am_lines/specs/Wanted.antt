@@ -135,5 +135,6 @@ refusal_message pointer refusal.BadValue = value_message pointer
 refusal_message pointer refusal.Unknown = codes "no member of this name is known here"
 refusal_message pointer refusal.Full = codes "there is no space for this"
 refusal_message pointer refusal.Unsupported =
-    if bytes_eq pointer (codes "/alertmanager") || bytes_eq pointer (codes "/check/alertmanager") then codes "a route is muted by time: the call open says which day that is"
+    if bytes_eq pointer (codes "/alertmanager") || bytes_eq pointer (codes "/check/alertmanager") then
+    codes "a route is muted by time: the call open says which day that is"
     else codes "this can't be reproduced exactly"

@@ -167,7 +167,8 @@ impl LineFault {
             LoadFault::NoIntegration => (
                 "/load/row",
                 "NoIntegration",
-                "there is no route of this name, its receiver is another or has no such integration, or the group's labels aren't the row's",
+                "there is no route of this name, its receiver is another or has no such integration, \
+                 or the group's labels aren't the row's",
             ),
             LoadFault::Unordered => (
                 "/load/row",

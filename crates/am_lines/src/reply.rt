@@ -2,7 +2,8 @@
 ghost use Rattle.std.specs.Prelude.{◌≡◌, ◌++◌, ◌∷◌, [], OnOk};
 ghost use Rattle.std.specs.List.{flat_map};
 ghost use Rattle.json.specs.Token.{begin_object, end_object, key};
-ghost use Rattle.am_lines.specs.Reply.{count_tokens, counts_tokens, flush_members, flush_tokens, ignored_members, ignored_tokens, inserted_tokens};
+ghost use Rattle.am_lines.specs.Reply.{count_tokens, counts_tokens, flush_members, flush_tokens};
+ghost use Rattle.am_lines.specs.Reply.{ignored_members, ignored_tokens, inserted_tokens};
 ghost use Rattle.am_lines.specs.Reply.{loaded_tokens, loaded_word, route_name_tokens, routes_members};
 ghost use Rattle.am_lines.specs.Reply.{name_if, named, opened_tokens, quiet_tokens, reply_tokens, silenced_tokens};
 

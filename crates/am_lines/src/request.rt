@@ -515,7 +515,8 @@ impl<'v> FromJson<'v> for NamedRow {
 /// Reads the name of a row's receiver, if the row has it.
 fn receiver_at(row: &Object<'_, '_>) -> Result<Option<Text>, InputFault>
     ensures decoded { IfOk result (HasIf IsText (codes "receiver") (members_view row.now.members)) }
-    ensures refused { IfErr result (Excludes (λ (name : Option (List ℕ)). HasIf IsText (codes "receiver") (members_view row.now.members) name)) }
+    ensures refused { IfErr result
+        (Excludes (λ (name : Option (List ℕ)). HasIf IsText (codes "receiver") (members_view row.now.members) name)) }
 {
     match row.optional("receiver") {
         None => Ok(None),

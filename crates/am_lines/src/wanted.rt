@@ -72,7 +72,8 @@ fn insert_message(pointer: &[u8]) -> &'static str
     } else if is_member(pointer, b"/ends", b"/labels/ends") {
         "ends before it starts, or after 10^15 ms, or is a text that is no duration such as 1h30m"
     } else {
-        "there have to be 1 to 64 labels with a value, each name once; a name has letters, digits and _, and no digit first; a name over 1,024 bytes or a value over 16,384 is too long"
+        "there have to be 1 to 64 labels with a value, each name once; a name has letters, digits and _, and no digit first; \
+         a name over 1,024 bytes or a value over 16,384 is too long"
     }
 }
 
@@ -89,7 +90,8 @@ fn silence_message(pointer: &[u8]) -> &'static str
     } else if ends(pointer, b"/matchers") {
         "a silence has 1 to 128 matchers"
     } else {
-        "a matcher has to be a label name, one of = != =~ !~, and a value; a name over 1,024 bytes or a value over 16,384 is too long; after =~ and !~ the value has to be a regex"
+        "a matcher has to be a label name, one of = != =~ !~, and a value; a name over 1,024 bytes or a value over 16,384 is too long; \
+         after =~ and !~ the value has to be a regex"
     }
 }
 
@@ -104,7 +106,8 @@ fn load_message(pointer: &[u8]) -> &'static str
     } else if ends(pointer, b"/row/integration") {
         "a position is at most 4,294,967,295"
     } else {
-        "there have to be 1 to 64 labels with a value, each name once; a name has letters, digits and _, and no digit first; a name over 1,024 bytes or a value over 16,384 is too long"
+        "there have to be 1 to 64 labels with a value, each name once; a name has letters, digits and _, and no digit first; \
+         a name over 1,024 bytes or a value over 16,384 is too long"
     }
 }
 
@@ -138,9 +141,11 @@ fn check_message(pointer: &[u8]) -> &'static str
     if ends(pointer, b"/check/matchers") {
         "a silence has 1 to 128 matchers"
     } else if begins(pointer, b"/check/matchers") {
-        "a matcher has to be a label name, one of = != =~ !~, and a value; a name over 1,024 bytes or a value over 16,384 is too long; after =~ and !~ the value has to be a regex"
+        "a matcher has to be a label name, one of = != =~ !~, and a value; a name over 1,024 bytes or a value over 16,384 is too long; \
+         after =~ and !~ the value has to be a regex"
     } else if begins(pointer, b"/check/labels") {
-        "there have to be 1 to 64 labels with a value, each name once; a name has letters, digits and _, and no digit first; a name over 1,024 bytes or a value over 16,384 is too long"
+        "there have to be 1 to 64 labels with a value, each name once; a name has letters, digits and _, and no digit first; \
+         a name over 1,024 bytes or a value over 16,384 is too long"
     } else if begins(pointer, b"/check/config") {
         "no board may have this: docs/scenarios.md has what is wanted"
     } else if begins(pointer, b"/check/alertmanager") {

@@ -44,7 +44,7 @@ KEEPS = "--anew" in subprocess.run(["rt", "help"], capture_output=True, text=Tru
 FEW = 8
 # What runs alone at the end, since its times count.
 ALONE = ["checks/hostile.py", "alertmanager"]
-# How many lines of what failed are printed again below the table: where only the end of a run is kept, they tell why.
+# How many lines of what failed are printed again below the table: where only the end of a run is kept, they say why.
 SHOWN = 60
 # What nearly all others wait for, in this order. Proved first and one after the other, each gets several processors; at the
 # same time as others, am_alerts would get one. (am_board needs so much memory that it gets one anyway: it begins with the rest.)

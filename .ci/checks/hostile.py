@@ -196,6 +196,16 @@ def opened(count: int) -> Json:
     return [{"config": config()}, *inserts, *begins, *meanwhile, *finishes, *again]
 
 
+def loaded(count: int) -> Json:
+    """Lines: so many routes, and a row for each that is loaded, the last one first."""
+    hook = [{"url": "http://localhost/"}]
+    routes = [{"receiver": "team", "matchers": [f'team="{route}"']} for route in range(count)]
+    own = {"route": {"receiver": "team", "routes": routes}, "receivers": [{"name": "team", "webhook_configs": hook}]}
+    row: Json = {"integration": 0, "kind": "webhook", "moment": 0, "expiry": 10**9, "firing": [{"alertname": "A"}], "resolved": []}
+    groups = [{"route": f"team_at_{route}", "labels": {}} for route in reversed(range(count))]
+    return [{"alertmanager": own}, *({"load": {"now": 0, "row": {**row, "group": group}}} for group in groups)]
+
+
 def hung(count: int) -> Json:
     """A story with so many groups whose receiver is down for an hour: each of their flushes is tried up to its deadline."""
     return {
@@ -263,7 +273,7 @@ MADE = {
     "flapping": flapping, "teams": teams, "ruled": ruled,
 }
 # What makes the lines of an input.
-LINES = {"opened": opened, "set again": set_again}
+LINES = {"opened": opened, "set again": set_again, "loaded": loaded}
 # A name, what makes the input, its size, and the program.
 GROWTH = [
     ("sources that both sides of a rule match", "two-sided", 8000, "am_run"),
@@ -273,6 +283,7 @@ GROWTH = [
     ("a restart after which each log row goes to 64 equal routes", "restarted", 32, "am_rehearse"),
     ("an alert that fires again and again", "flapping", 1000, "am_rehearse"),
     ("groups whose flushes stay open", "opened", 8000, "am_dispatch"),
+    ("rows of the log, each under a route of its own", "loaded", 8000, "am_dispatch"),
     ("groups whose receiver hangs for an hour", "hung", 2000, "am_rehearse"),
     ("receivers, of which every fifth has a route", "teams", 512, "am_rehearse"),
     ("inhibition rules, and alerts that they mute", "ruled", 2048, "am_rehearse"),

@@ -1,7 +1,8 @@
 -- Refusal: why a session doesn't do what a line asks.
 use Rattle.std.specs.Prelude.{◌≡◌, ◌≢◌, ◌⊎◌, ◌==◌, ℕ, List, [], Option, Some, None, codes}
 use Rattle.std.specs.List.{position}
-use Rattle.am_model.specs.Causes.{begin_cause, forget_cause, insert_cause, load_cause, maintain_cause, note_cause, removal_cause, silence_cause}
+use Rattle.am_model.specs.Causes.{begin_cause, forget_cause, insert_cause, load_cause}
+use Rattle.am_model.specs.Causes.{maintain_cause, note_cause, removal_cause, silence_cause}
 use Rattle.am_model.specs.Config.{config_fault}
 use Rattle.am_model.specs.declared.config.Config.{Config}
 use Rattle.am_model.specs.declared.fault.Fault.{Fault}

@@ -1,5 +1,7 @@
 -- Row: a row that a line names, as a board has it.
-use Rattle.std.specs.Prelude.{ℕ, ◌+◌, ◌==◌, ◌&&◌, Bool, true, List, [], Option, Some, None, if◌then◌else◌, length, option_map, slice_get}
+use Rattle.std.specs.Prelude.{◌≡◌, ℕ, ◌+◌, ◌==◌, ◌&&◌, Bool, true, List}
+use Rattle.std.specs.Prelude.{[], Option, Some, None, if◌then◌else◌, length, option_map, slice_get, String}
+use Rattle.std.specs.HashMap.{HashMap, get_by_text}
 use Rattle.std.specs.List.{position}
 use Rattle.std.specs.Option.{option_or}
 use Rattle.std.specs.Str.{bytes_eq}
@@ -17,6 +19,10 @@ abbrev pub route_named : RoutingTree → List ℕ → Option ℕ
 route_named tree name =
     if bytes_eq tree.root.name name then Some 0
     else option_map (λ i. i + 1) (position (λ c. bytes_eq c.route.name name) (children_of tree))
+
+-- a map has the position of the route of each name of a tree
+abbrev pub HasPositions : {Y S : Type 0} → RoutingTree → HashMap (String Y) ℕ S → Type 0
+HasPositions tree positions = (name : List ℕ) → get_by_text positions name ≡ route_named tree name
 
 -- the first alert of a row
 abbrev pub first_alert : NamedRow → Option (List Label)

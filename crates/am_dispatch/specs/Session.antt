@@ -186,7 +186,8 @@ Takes old new text = HandsOut old new × (text ≡ print (taken_tokens old.board
 -- a new board in the place of the old one
 abbrev pub Opens : Session → Opening → List Token → List Token → Type 0
 Opens new opening before after =
-    (new.board ≡ opening_board opening.config BOARD_ID) × (new.tickets.items ≡ []) × (after ≡ before ++ opened_tokens opening.config opening.ignored)
+    (new.board ≡ opening_board opening.config BOARD_ID) × (new.tickets.items ≡ [])
+    × (after ≡ before ++ opened_tokens opening.config opening.ignored)
 
 -- the session does what the request asks for, and answers with it
 abbrev pub Does : Session → Request → Session → List Token → List Token → Type 0
@@ -283,4 +284,5 @@ IsAnswered old line text new = (request : Request) × IsRequest line request × 
 
 -- a line that isn't answered by what it asks can't be read, and leaves all as it was, or its call isn't made or isn't answered
 abbrev pub Refuses : Session → List ℕ → Session → LineFault → Type 0
-Refuses old line new f = (IsUnread line f × IsSame old new) ⊎ ((requested : Request) × IsRequest line requested × Leaves old requested new f)
+Refuses old line new f =
+    (IsUnread line f × IsSame old new) ⊎ ((requested : Request) × IsRequest line requested × Leaves old requested new f)

@@ -13,6 +13,7 @@
 
 mod arguments;
 mod fault;
+mod route_names;
 mod row;
 mod serve;
 mod session;

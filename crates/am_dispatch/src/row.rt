@@ -1,13 +1,13 @@
 //! The rows that `load` hands to the board: lines name their routes, and a board has positions.
-ghost use Rattle.std.specs.Prelude.{◌≡◌, ◌≤◌, ◌<◌, IfOk, IfSome, Some, length, option_copied, slice_get};
-ghost use Rattle.std.specs.List.{position};
+ghost use Rattle.std.specs.Prelude.{◌≡◌, ◌≤◌, [], ◌∷◌, IfOk, Some, option_copied, slice_get};
 ghost use Rattle.std.specs.Option.{option_or};
 ghost use Rattle.std.specs.Str.{bytes_eq};
 ghost use Rattle.am_alerts.specs.RoutingTree.{last_of};
-ghost use Rattle.am_dispatch.specs.Row.{has_named_receiver, kind_of, no_labels, route_named, row_under, row_named};
+ghost use Rattle.am_dispatch.specs.Row.{has_named_receiver, kind_of, no_labels, row_under, row_named};
 
+use crate::route_names::RouteNames;
 use am_alerts::labels::Labels;
-use am_alerts::route::{Child, Routes};
+use am_alerts::route::Routes;
 use am_alerts::sequence::Sequence;
 use am_alerts::text::Text;
 use am_board::group::GroupName;
@@ -18,15 +18,17 @@ use std::alloc::{AllocError, Global};
 
 /// Returns a row as a board of this configuration has it. None where no route has its name, where its receiver is another
 /// or its integration not of its kind, or where its group isn't one without labels, as it says: a row of another
-/// configuration isn't taken for one of this.
+/// configuration isn't taken for one of this. `names` are those of its routes.
 pub fn row_of(
     alloc: Global,
     config: &Config,
+    names: &RouteNames,
     named: NamedRow,
 ) -> Result<Option<RowView>, AllocError>
+    requires { names.now ≡ config.now.routes ∷ [] }
     ensures { IfOk result (λ found. found ≡ row_named config.now named) }
 {
-    match find_route(&config.routes, named.group.route.as_str()) {
+    match names.find(named.group.route.as_str()) {
         Some(route) => row_under(alloc, config, route, named),
         None => Ok(None),
     }
@@ -121,29 +123,6 @@ fn no_labels(
         return Ok(None);
     }
     Ok(Some(labels))
-}
-
-/// Returns the position of the route of a name.
-fn find_route(routes: &Routes, name: &str) -> Option<u32>
-    ensures within { IfSome result (λ route. route ≤ last_of routes.now) }
-    ensures named { result ≡ route_named routes.now name.now }
-{
-    if routes.root().name.as_str() == name {
-        return Some(0);
-    }
-    match find_child(routes.children(), name) {
-        Some(index) => Some(index as u32 + 1),
-        None => None,
-    }
-}
-
-fn find_child(children: &[Child], name: &str) -> Option<usize>
-    ensures within { IfSome result (λ index. index < length children.now) }
-    ensures named { result ≡ position (λ c. bytes_eq c.route.name name.now) children.now }
-{
-    children
-        .iter()
-        .position(|child| child.route.name.as_str() == name)
 }
 
 /// Whether the receiver of a row is the one of this name, where one is named.

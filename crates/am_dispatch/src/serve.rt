@@ -8,7 +8,8 @@ ghost use Rattle.am_cli.specs.Bytes.{Breaks};
 ghost use Rattle.am_lines.specs.Fault.{AnswersFault, fault_line};
 ghost use Rattle.am_lines.specs.Lines.{IsOneLine, IsRead, end_count};
 ghost use Rattle.am_dispatch.specs.Refusal.{IsCauseOfUnopened};
-ghost use Rattle.am_dispatch.specs.Serve.{AnswersLine, IsOpenedBy, OpensNone, Opened, Sends, Served, ServesAll, Stops, begins_remark, is_remark};
+ghost use Rattle.am_dispatch.specs.Serve.{AnswersLine, IsOpenedBy, OpensNone, Opened, Sends};
+ghost use Rattle.am_dispatch.specs.Serve.{Served, ServesAll, Stops, begins_remark, is_remark};
 ghost use Rattle.am_dispatch.specs.Session.{IsAnswered, IsRequest, IsAnswerTo, IsUnread, Leaves, Refuses};
 ghost use Rattle.am_dispatch.specs.declared.session.Session.{Session};
 

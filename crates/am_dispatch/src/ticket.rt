@@ -1,5 +1,6 @@
 //! The tickets of the flushes that are open, and what is answered about them.
-ghost use Rattle.std.specs.Prelude.{◌≡◌, ◌<◌, ◌++◌, ◌∷◌, [], ◌==◌, IfErr, IfSome, IsTrue, None, OnErr, OnOk, Some, codes, length, slice_get};
+ghost use Rattle.std.specs.Prelude.{◌≡◌, ◌<◌, ◌++◌, ◌∷◌, [], ◌==◌, IfErr, IfSome};
+ghost use Rattle.std.specs.Prelude.{IsTrue, None, OnErr, OnOk, Some, codes, length, slice_get};
 ghost use Rattle.std.specs.VecDeque.{deque_len};
 ghost use Rattle.std.specs.List.{flat_map, position};
 ghost use Rattle.json.specs.Token.{key};

@@ -23,6 +23,7 @@ ghost use Rattle.am_dispatch.specs.Session.{AnswersSummary, InsertsAll, InsertsO
 ghost use Rattle.am_dispatch.specs.Ticket.{ticket_tokens};
 ghost use Rattle.am_dispatch.specs.declared.ticket.TheConstants.{BOARD_ID};
 
+use crate::route_names::RouteNames;
 use crate::row::row_of;
 use crate::session::Session;
 use crate::ticket::{BOARD_ID, find_notice, find_ticket, record_at, rises_with, write_tickets};
@@ -65,10 +66,12 @@ impl Session {
         ensures refused { IfErr result (IsCauseOfUnopened config) }
     {
         let board = open_board(alloc, seed, config)?;
+        let names = RouteNames::of(alloc, seed, &board.config().routes)?;
         Ok(Session {
             board,
             tickets: VecDeque::new(alloc),
             is_rising: true,
+            names,
             seed,
         })
     }
@@ -121,10 +124,12 @@ impl Session {
     {
         let Opening { config, ignored } = requested;
         let board = open_board(alloc, self.seed, config)?;
+        let names = RouteNames::of(alloc, self.seed, &board.config().routes)?;
         let open = replace(&mut self.tickets, VecDeque::new(alloc));
         self.is_rising = true;
         finish_all(&mut self.board, open);
         put(&mut self.board, board);
+        self.names = names;
         answered(write_opened(self.board.config(), &ignored, answer))
     }
 
@@ -329,7 +334,7 @@ impl Session {
         ensures refused { IfErr result (Leaves self.old (Request.Load loading) self.new) }
     {
         let Loading { now, row } = loading;
-        let Some(row) = row_of(alloc, self.board.config(), row)? else {
+        let Some(row) = row_of(alloc, self.board.config(), &self.names, row)? else {
             return Err(LineFault::of_load(LoadFault::NoIntegration));
         };
         match self.board.load(alloc, PASS, row, now) {
@@ -537,6 +542,7 @@ impl Session {
             mut board,
             tickets,
             is_rising: _,
+            names: _,
             seed: _,
         } = self;
         finish_all(&mut board, tickets);

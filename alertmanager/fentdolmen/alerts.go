@@ -38,6 +38,7 @@ func (p dispatched) Put(alerts ...*types.Alert) error {
 
 // store stores alerts, and queues them for the board in the same order. Without a board there is no session.
 func (p dispatched) store(alerts []*types.Alert) (*session, inserts, error) {
+	subjects := subjectsOf(alerts) // (before the lock, for which other requests wait)
 	p.d.putting.Lock()
 	defer p.d.putting.Unlock()
 	p.d.stored = make([]*types.Alert, 0, len(alerts))
@@ -48,7 +49,20 @@ func (p dispatched) store(alerts []*types.Alert) (*session, inserts, error) {
 	if s == nil {
 		return nil, inserts{}, nil
 	}
-	return s, p.d.insert(s, p.d.stored), nil
+	return s, p.d.insert(s, p.d.stored, stillOf(subjects, p.d.stored)), nil
+}
+
+// stillOf is the subjects of alerts as they were stored: those from before, and a new one where the labels are those of another request.
+func stillOf(before []subject, stored []*types.Alert) []subject {
+	if len(before) != len(stored) {
+		return subjectsOf(stored)
+	}
+	for i, a := range stored {
+		if !before[i].isOf(a.Labels) {
+			before[i] = subjectsOf(stored[i : i+1])[0]
+		}
+	}
+	return before
 }
 
 // The callbacks of the provider. PostStore has an alert as it was merged.
@@ -57,22 +71,21 @@ func (d *dispatcher) PreStore(*types.Alert, bool) error { return nil }
 func (d *dispatcher) PostStore(a *types.Alert, _ bool)  { d.stored = append(d.stored, a) }
 func (d *dispatcher) PostDelete(*types.Alert)           {}
 
-// insert queues alerts, with `putting` held.
-func (d *dispatcher) insert(s *session, alerts []*types.Alert) inserts {
-	var out inserts
+// insert queues alerts, with `putting` held. The subjects are theirs, by position.
+func (d *dispatcher) insert(s *session, alerts []*types.Alert, subjects []subject) inserts {
+	out, names := inserts{alerts: make([]*types.Alert, 0, len(alerts))}, make([]model.Fingerprint, 0, len(alerts))
 	var lines insertLines
-	for _, a := range alerts {
-		item, isSuspect, err := d.insertOf(a)
+	texts, now, offset := make([]byte, 0, sizeFor(subjects)), d.clock.now(), d.clock.offset()
+	for i, a := range alerts {
+		isSuspect, err := d.canInsert(subjects[i])
 		if err != nil {
 			out.kept, out.errs = append(out.kept, a), append(out.errs, err)
 			continue
 		}
-		out.alerts = append(out.alerts, a)
-		lines.add(item, isSuspect)
-	}
-	names := make([]model.Fingerprint, len(out.alerts)) // (computed before the lock)
-	for i, a := range out.alerts {
-		names[i] = a.Fingerprint()
+		out.alerts, names = append(out.alerts, a), append(names, subjects[i].name)
+		from := len(texts)
+		texts = d.appendInsertOf(texts, a, subjects[i].text, now, offset)
+		lines.add(texts[from:], isSuspect)
 	}
 	d.mtx.Lock()
 	for i, a := range out.alerts {
@@ -83,20 +96,22 @@ func (d *dispatcher) insert(s *session, alerts []*types.Alert) inserts {
 	return out
 }
 
-// insertOf is the insert of an alert, and whether it has to be in a line of its own: an error if the board can't have it.
-func (d *dispatcher) insertOf(a *types.Alert) (item []byte, isSuspect bool, err error) {
-	if err := tooLarge(a.Labels); err != nil {
-		return nil, false, err
-	}
-	offset := d.clock.offset()
+// appendInsertOf appends the insert of an alert, whose times are moved by the offset.
+func (d *dispatcher) appendInsertOf(out []byte, a *types.Alert, subject []byte, now, offset int64) []byte {
 	var ends *int64
 	if !a.EndsAt.IsZero() {
 		end := d.clock.board(a.EndsAt, offset)
 		ends = &end
 	}
-	item = insertItem(a.Labels, d.clock.now(), d.clock.board(a.StartsAt, offset), ends)
-	isSuspect, err = d.culprits.check("insert", func() string { return subjectOf(item) })
-	return item, isSuspect, err
+	return appendInsert(out, subject, now, d.clock.board(a.StartsAt, offset), ends)
+}
+
+// canInsert returns whether an insert has to be in a line of its own: an error if the board can't have it.
+func (d *dispatcher) canInsert(it subject) (isSuspect bool, err error) {
+	if it.err != nil {
+		return false, it.err
+	}
+	return d.culprits.check("insert", func() string { return string(it.text) })
 }
 
 // settle waits for the answers to inserts. What was rejected at a limit is tried once more, after what is over was removed.
@@ -159,7 +174,7 @@ func (d *dispatcher) again(s *session, alerts []*types.Alert) inserts {
 		}
 		latest = append(latest, a)
 	}
-	return d.insert(s, latest)
+	return d.insert(s, latest, subjectsOf(latest))
 }
 
 // remember keeps which alerts were rejected, to try them again later.

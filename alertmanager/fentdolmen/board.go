@@ -12,6 +12,8 @@ import (
 	"sync"
 	"syscall"
 	"time"
+
+	"golang.org/x/sys/unix"
 )
 
 var errClosed = errors.New("the board was closed")
@@ -70,12 +72,29 @@ func openBoard(program, name string, timeout time.Duration, now func() int64, br
 	if err := cmd.Start(); err != nil {
 		return nil, fmt.Errorf("the board: %w (--board or AM_DISPATCH names the program am_dispatch)", err)
 	}
+	widen(pipe)
+	widen(out)
 	b := &board{cmd: cmd, pipe: pipe, now: now, ended: make(chan struct{}), broken: broken, full: full}
 	b.queued = sync.NewCond(&b.mtx)
 	go b.write()
 	go b.read(bufio.NewReaderSize(out, 1<<16))
 	go b.watch(timeout)
 	return b, nil
+}
+
+// pipeSize is how much a pipe to or from a board holds: the alerts of several requests. With the usual 64 KB both processes would wait for
+// each other several times in a line.
+const pipeSize = 1 << 20
+
+// widen has a pipe hold more. Where the system doesn't allow it the pipe stays as it is.
+func widen(pipe interface{}) {
+	file, ok := pipe.(syscall.Conn)
+	if !ok {
+		return
+	}
+	if conn, err := file.SyscallConn(); err == nil {
+		conn.Control(func(fd uintptr) { unix.FcntlInt(fd, unix.F_SETPIPE_SZ, pipeSize) })
+	}
 }
 
 // submit queues calls in their order. It never waits for the board.
@@ -132,15 +151,22 @@ func (b *board) decode(c call, line []byte, into interface{}) error {
 	return err
 }
 
+// mostSpare is up to how many bytes the memory of lines is used again once they are written.
+const mostSpare = 4 << 20
+
 // write passes on what is queued, all that has come meanwhile at a time, until the board ends or is closed.
 func (b *board) write() {
+	var lines []byte
 	for {
+		if cap(lines) > mostSpare {
+			lines = nil
+		}
 		b.mtx.Lock()
 		for len(b.out) == 0 && b.err == nil && !b.closing {
 			b.queued.Wait()
 		}
-		lines, isLast := b.out, b.err != nil || b.closing
-		b.out = nil
+		lines, b.out = b.out, lines[:0]
+		isLast := b.err != nil || b.closing
 		b.mtx.Unlock()
 		if len(lines) > 0 {
 			if _, err := b.pipe.Write(lines); err != nil {

@@ -177,21 +177,39 @@ func (c call) decode(line []byte, into interface{}) error {
 	return nil
 }
 
-// appendLabels appends a label set as an object, its names in order.
-func appendLabels(out []byte, labels model.LabelSet) []byte {
-	names := make([]string, 0, len(labels))
-	for name := range labels {
-		names = append(names, string(name))
+// labelList is the labels of a set in the order of their names. It can be used again for another set.
+type labelList []struct{ name, value string }
+
+func (l *labelList) Len() int           { return len(*l) }
+func (l *labelList) Less(i, j int) bool { return (*l)[i].name < (*l)[j].name }
+func (l *labelList) Swap(i, j int)      { (*l)[i], (*l)[j] = (*l)[j], (*l)[i] }
+
+// take replaces what is in the list by these labels.
+func (l *labelList) take(labels model.LabelSet) {
+	*l = (*l)[:0]
+	for name, value := range labels {
+		*l = append(*l, struct{ name, value string }{string(name), string(value)})
 	}
-	sort.Strings(names)
+	sort.Sort(l)
+}
+
+// appendTo appends the list as an object.
+func (l *labelList) appendTo(out []byte) []byte {
 	out = append(out, '{')
-	for i, name := range names {
+	for i, it := range *l {
 		if i > 0 {
 			out = append(out, ',')
 		}
-		out = appendText(append(appendText(out, name), ':'), string(labels[model.LabelName(name)]))
+		out = appendText(append(appendText(out, it.name), ':'), it.value)
 	}
 	return append(out, '}')
+}
+
+// appendLabels appends a label set as an object, its names in order.
+func appendLabels(out []byte, labels model.LabelSet) []byte {
+	var list labelList
+	list.take(labels)
+	return list.appendTo(out)
 }
 
 // appendText appends a text of JSON. Most texts need nothing escaped.

@@ -6,9 +6,12 @@ import (
 	"encoding/json"
 	"errors"
 	"fmt"
+	"reflect"
 	"strconv"
 
 	"github.com/prometheus/common/model"
+
+	"github.com/prometheus/alertmanager/types"
 )
 
 // mostLabels and mostBytes bound what is sent of an alert: the board rejects more, but it would read all of it first.
@@ -16,33 +19,82 @@ const mostLabels, mostBytes = 64, 1 << 20
 
 // tooLarge is the refusal of an alert that isn't sent, nil of another one.
 func tooLarge(labels model.LabelSet) error {
-	bytes := 0
+	_, err := sizeOf(labels)
+	return err
+}
+
+// sizeOf is the length of all names and values, and the refusal of an alert that isn't sent for them.
+func sizeOf(labels model.LabelSet) (bytes int, err error) {
 	for name, value := range labels {
 		bytes += len(name) + len(value)
 	}
-	if len(labels) <= mostLabels && bytes <= mostBytes {
-		return nil
+	if len(labels) > mostLabels || bytes > mostBytes {
+		err = &refusal{"insert", "/insert/labels", badValue, fmt.Sprintf("%d labels of %d bytes, and there can be %d of %d", len(labels), bytes, mostLabels, mostBytes)}
 	}
-	return &refusal{"insert", "/insert/labels", badValue, fmt.Sprintf("%d labels of %d bytes, and there can be %d of %d", len(labels), bytes, mostLabels, mostBytes)}
+	return bytes, err
 }
 
-// insertItem is the arguments of an insert, with times of the board.
-func insertItem(labels model.LabelSet, now, starts int64, ends *int64) []byte {
-	out := strconv.AppendInt(append(make([]byte, 0, 64*(len(labels)+2)), `{"now":`...), now, 10)
-	out = appendLabels(append(out, `,"labels":`...), labels)
-	out = strconv.AppendInt(append(out, `,"starts":`...), starts, 10)
+// subject is what an insert is about. It takes most of the work on an insert, and needs no lock.
+type subject struct {
+	labels model.LabelSet
+	name   model.Fingerprint
+	text   []byte // the labels as a field of a line
+	err    error  // the refusal of labels that are too large: then there is no text
+}
+
+// subjectsOf is the subjects of alerts, by position. Their texts share memory: a request has many, and they go together.
+func subjectsOf(alerts []*types.Alert) []subject {
+	out, total := make([]subject, len(alerts)), 0
+	for i, a := range alerts {
+		size, err := sizeOf(a.Labels)
+		if out[i] = (subject{labels: a.Labels, name: a.Fingerprint(), err: err}); err == nil {
+			total += len(labelsField) + len("{}") + size + len(`"":"",`)*len(a.Labels)
+		}
+	}
+	texts, list := make([]byte, 0, total), labelList{}
+	for i := range out {
+		if it := &out[i]; it.err == nil {
+			from := len(texts)
+			list.take(it.labels)
+			texts = list.appendTo(append(texts, labelsField...))
+			it.text = texts[from:]
+		}
+	}
+	return out
+}
+
+// isOf returns whether a subject was made of this very map.
+func (s subject) isOf(labels model.LabelSet) bool {
+	return reflect.ValueOf(s.labels).Pointer() == reflect.ValueOf(labels).Pointer()
+}
+
+// appendInsert appends the arguments of an insert, with times of the board.
+func appendInsert(out, subject []byte, now, starts int64, ends *int64) []byte {
+	out = append(strconv.AppendInt(append(out, `{"now":`...), now, 10), ',')
+	out = strconv.AppendInt(append(append(out, subject...), `,"starts":`...), starts, 10)
 	if ends != nil {
 		out = strconv.AppendInt(append(out, `,"ends":`...), *ends, 10)
 	}
 	return append(out, '}')
 }
 
+// sizeFor is how many bytes the inserts of these subjects take at most, with times of today.
+func sizeFor(subjects []subject) (bytes int) {
+	const times = len(`{"now":1000000000000,,"starts":1000000000000,"ends":1000000000000}`)
+	for _, it := range subjects {
+		bytes += len(it.text) + times
+	}
+	return bytes
+}
+
+const labelsField = `"labels":`
+
 // subjectOf is the labels of an insert.
-func subjectOf(item []byte) string { return between(item, `"labels":`, `,"starts":`) }
+func subjectOf(item []byte) string { return between(item, labelsField, `,"starts":`) }
 
 // subjectOfLabels is the same of a label set.
 func subjectOfLabels(labels model.LabelSet) string {
-	return string(appendLabels([]byte(`"labels":`), labels))
+	return string(appendLabels([]byte(labelsField), labels))
 }
 
 // appendItems appends an array.

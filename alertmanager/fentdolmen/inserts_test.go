@@ -2,8 +2,20 @@ package main
 
 import (
 	"bytes"
+	"encoding/json"
+	"reflect"
+	"strings"
 	"testing"
+
+	"github.com/prometheus/common/model"
+
+	"github.com/prometheus/alertmanager/types"
 )
+
+// insertItem is the arguments of an insert.
+func insertItem(labels model.LabelSet, now, starts int64, ends *int64) []byte {
+	return appendInsert(nil, []byte(subjectOfLabels(labels)), now, starts, ends)
+}
 
 // TestLinesOfInserts: a suspect is alone, and lines have bounds.
 func TestLinesOfInserts(t *testing.T) {
@@ -51,5 +63,49 @@ func TestWhatALineIsAbout(t *testing.T) {
 	}
 	if got := beginCall().subjects(); len(got) != 0 {
 		t.Errorf("%q", got)
+	}
+}
+
+// TestSubjectsOfARequest: each is as encoding/json has the labels, also next to one that is too large.
+func TestSubjectsOfARequest(t *testing.T) {
+	var alerts []*types.Alert
+	for _, text := range []string{"b=1,a=2", "x=" + strings.Repeat("x", mostBytes), "a=", "é=\"\\", "c=<&>,b=\u2028,a=\x00,d=\xff", "a=1"} {
+		alerts = append(alerts, alert(text))
+	}
+	for i, it := range subjectsOf(alerts) {
+		if i == 1 {
+			if it.err == nil || it.text != nil {
+				t.Errorf("too large: %v, %d bytes", it.err, len(it.text))
+			}
+			continue
+		}
+		plain, _ := json.Marshal(alerts[i].Labels)
+		var got, wanted map[string]map[string]string
+		if err := json.Unmarshal([]byte("{"+string(it.text)+"}"), &got); err != nil {
+			t.Errorf("%s: %v", it.text, err)
+		}
+		if json.Unmarshal([]byte(`{"labels":`+string(plain)+"}"), &wanted); !reflect.DeepEqual(got, wanted) || it.name != alerts[i].Fingerprint() {
+			t.Errorf("%s and not %s", it.text, plain)
+		}
+		if string(it.text) != subjectOfLabels(alerts[i].Labels) {
+			t.Errorf("%s is another text of the same labels", it.text)
+		}
+	}
+}
+
+// TestSubjectsOfMergedAlerts: what was stored counts.
+func TestSubjectsOfMergedAlerts(t *testing.T) {
+	first, second, other := alert("a=1"), alert("a=2"), alert("a=3")
+	merged := *second
+	for _, stored := range [][]*types.Alert{{first, &merged}, {first, other}, {other, second}, {first}, {}} {
+		got := stillOf(subjectsOf([]*types.Alert{first, second}), stored)
+		if len(got) != len(stored) {
+			t.Fatalf("%d subjects of %d alerts", len(got), len(stored))
+		}
+		for i, a := range stored {
+			if string(got[i].text) != subjectOfLabels(a.Labels) || got[i].name != a.Fingerprint() {
+				t.Errorf("%s for %v", got[i].text, a.Labels)
+			}
+		}
 	}
 }

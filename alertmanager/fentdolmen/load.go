@@ -100,11 +100,11 @@ func (d *dispatcher) fill(s *session) ([]inserts, error) {
 	var out []inserts
 	for a := range all.Next() {
 		if some = append(some, a); len(some) == mostCalls {
-			out = append(out, d.insert(s, some))
+			out = append(out, d.insert(s, some, subjectsOf(some)))
 			some = nil
 		}
 	}
-	return append(out, d.insert(s, some)), all.Err()
+	return append(out, d.insert(s, some, subjectsOf(some))), all.Err()
 }
 
 // loadRows gives the new board the rows since this number that have a place in its configuration. The others stay in the logbook. It

@@ -10,6 +10,7 @@ import (
 	"os"
 	"os/signal"
 	"path/filepath"
+	"runtime/debug"
 	"strings"
 	"syscall"
 	"time"
@@ -33,7 +34,16 @@ import (
 	"github.com/prometheus/alertmanager/types"
 )
 
-func main() { os.Exit(run(os.Args[1:])) }
+// mostGarbage is by how many percent the memory in use grows until what nothing needs is collected, where GOGC doesn't say it. Requests
+// leave several times what is kept of them: at Go's own 100 more than a fifth of the processor's time goes there.
+const mostGarbage = 200
+
+func main() {
+	if os.Getenv("GOGC") == "" {
+		debug.SetGCPercent(mostGarbage)
+	}
+	os.Exit(run(os.Args[1:]))
+}
 
 // run runs the program until a signal ends it, and returns its status.
 func run(args []string) int {

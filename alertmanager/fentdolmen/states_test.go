@@ -131,6 +131,7 @@ func TestStatesOfTheRealBoard(t *testing.T) {
 	if err := (dispatched{d.alerts, d}).Put(all...); err != nil {
 		t.Fatal(err)
 	}
+	time.Sleep(2 * time.Millisecond) // (the silence can begin at the next millisecond of the board's clock)
 	d.mark(all)
 	var got [][]string
 	for _, a := range all {

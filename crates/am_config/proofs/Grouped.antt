@@ -24,7 +24,7 @@ neither true b p q = absurd (cc)
 neither false b p q = q
 
 -- one more name, which isn't among those before it
-once_more : (names : List (List ℕ)) (name : List ℕ) → has_text_twice names ≡ false → list_any (λ known. bytes_eq known name) names ≡ false
+pub once_more : (names : List (List ℕ)) (name : List ℕ) → has_text_twice names ≡ false → list_any (λ known. bytes_eq known name) names ≡ false
     → has_text_twice (names ++ name ∷ []) ≡ false
 once_more [] name once further = refl
 once_more (n ∷ ns) name once further =

@@ -10,3 +10,7 @@ pub mod Pieces
 pub mod Grouped
 -- routes that were read, one more at a time
 pub mod Routed
+-- clocks and intervals on them
+pub mod Timed
+-- definitions and the routes that list them
+pub mod Listed

@@ -10,6 +10,12 @@ pub mod Receivers
 pub mod Matchers
 -- the inhibition rules
 pub mod Rules
+-- time intervals, and when they mute a route
+pub mod Times
+-- the clocks that were made
+pub mod Made
+-- the indexes of definitions
+pub mod Indexes
 -- the tree of routes
 pub mod Routes
 -- the tree of routes that was read

@@ -1,4 +1,4 @@
--- The tree of routes of an `alertmanager.yml`. Not stated: the names of routes, and when they are muted.
+-- The tree of routes of an `alertmanager.yml`. Not stated: the names of routes.
 use Rattle.std.specs.Prelude.{◌≡◌, ◌≢◌, ◌&&◌, ◌⊎◌, ℕ, Bool, true, false, List, [], ◌∷◌, Option, Some, None, IsSomeAnd, IsTrue, MatchBool}
 use Rattle.std.specs.Prelude.{MatchOption, codes}
 use Rattle.std.specs.Option.{option_map_or}
@@ -20,6 +20,8 @@ use Rattle.am_cli.specs.Read.{are_named, number_in}
 use Rattle.am_config.specs.Matchers.{AreMatchers, MatcherFields}
 use Rattle.am_config.specs.Rules.{IsLabelName}
 use Rattle.am_config.specs.Said.{IsTextUnlessEmpty, Says, SaysOr, said}
+use Rattle.am_config.specs.Times.{HasMuted, HasTimes, TimesData}
+use Rattle.am_config.specs.declared.hours.Hours.{Hours}
 
 -- the fields of a route, the root among them
 abbrev pub route_fields : List (List ℕ)
@@ -71,34 +73,35 @@ pub record HasOptions (members : Members) (o : Options) : Type 0 where
   pub group_interval : SaysOr IsPeriod None (codes "group_interval") members o.group_interval
   pub repeat_interval : SaysOr IsPeriod None (codes "repeat_interval") members o.repeat_interval
 
--- the fields decode to a route, except for its name and when it is muted
-pub record HasRoute (members : Members) (r : RouteSpec) : Type 0 where
+-- the fields decode to a route, except for its name
+pub record HasRoute (times : TimesData) (members : Members) (r : RouteSpec) : Type 0 where
   pub known : IsTrue (are_named route_fields members)
   pub options : HasOptions members r.options
   pub matchers : AreMatchers route_matchers members r.matchers
   pub continues : SaysOr IsFlag false (codes "continue") members r.continues
+  pub muted : HasMuted times members r.muted
 
 -- the items decode to these routes, each with the routes below it
-abbrev pub AreRoutes : Items → Forest RouteSpec → Type 0
-AreRoutes no_items bare = Unit {0}
-AreRoutes no_items (grow r below after) = ⊥
-AreRoutes (item value values) bare = ⊥
-AreRoutes (item value values) (grow r below after) =
-    MatchOption (as_object value) ⊥ (λ members. HasRoute members r
-    × MatchOption (said (codes "routes") members) (below ≡ bare) (λ v. IsSomeAnd (as_array v) (λ items. AreRoutes items below)))
-    × AreRoutes values after
+abbrev pub AreRoutes : TimesData → Items → Forest RouteSpec → Type 0
+AreRoutes times no_items bare = Unit {0}
+AreRoutes times no_items (grow r below after) = ⊥
+AreRoutes times (item value values) bare = ⊥
+AreRoutes times (item value values) (grow r below after) =
+    MatchOption (as_object value) ⊥ (λ members. HasRoute times members r
+    × MatchOption (said (codes "routes") members) (below ≡ bare) (λ v. IsSomeAnd (as_array v) (λ items. AreRoutes times items below)))
+    × AreRoutes times values after
 
 -- the array's items decode to these routes
-abbrev pub IsForest : Data → Forest RouteSpec → Type 0
-IsForest value routes = IsSomeAnd (as_array value) (λ items. AreRoutes items routes)
+abbrev pub IsForest : TimesData → Data → Forest RouteSpec → Type 0
+IsForest times value routes = IsSomeAnd (as_array value) (λ items. AreRoutes times items routes)
 
 -- the routes right below the one with these fields, each with those below it
-abbrev pub HasBelow : Members → Forest RouteSpec → Type 0
-HasBelow members below = SaysOr IsForest bare (codes "routes") members below
+abbrev pub HasBelow : TimesData → Members → Forest RouteSpec → Type 0
+HasBelow times members below = SaysOr (IsForest times) bare (codes "routes") members below
 
 -- the fields decode to a route with those below it
-abbrev pub HasNode : Members → Node → Type 0
-HasNode members n = HasRoute members (rule_of n) × HasBelow members (below_of n)
+abbrev pub HasNode : TimesData → Members → Node → Type 0
+HasNode times members n = HasRoute times members (rule_of n) × HasBelow times members (below_of n)
 
 -- the root's options where it doesn't say them (config.DefaultRoute, dispatch.DefaultRouteOpts)
 abbrev pub default_route : Route
@@ -113,7 +116,7 @@ default_route = record {
 
 -- the fields of the root decode to a tree: it names a receiver, has no matchers and no `continue`, and the routes below it inherit its
 -- options
-pub record HasTree (members : Members) (tree : RoutingTree) : Type 0 where
+pub record HasTree (times : TimesData) (members : Members) (tree : RoutingTree) : Type 0 where
   pub known : IsTrue (are_named route_fields members)
   pub options : Options
   pub says : HasOptions members options
@@ -121,13 +124,21 @@ pub record HasTree (members : Members) (tree : RoutingTree) : Type 0 where
   pub matchers : AreMatchers route_matchers members []
   pub continues : SaysOr IsFlag false (codes "continue") members false
   pub below : Forest RouteSpec
-  pub routes : HasBelow members below
+  pub routes : HasBelow times members below
   pub is : tree ≡ nested_of (settled_options default_route (codes "root") options) below
 
--- the fields of an `alertmanager.yml` decode to this tree
-abbrev pub HasRoutes : Members → RoutingTree → Type 0
-HasRoutes members tree = Says (IsObject HasTree) (codes "route") members tree
+-- the fields of an `alertmanager.yml` decode to this tree, whose routes are muted by these definitions
+abbrev pub HasRoutes : TimesData → Members → RoutingTree → Type 0
+HasRoutes times members tree = Says (IsObject (HasTree times)) (codes "route") members tree
 
--- the tree of routes of an `alertmanager.yml`'s value
+-- the fields of an `alertmanager.yml` decode to definitions, and to this tree, whose routes are muted by them
+abbrev pub HasTimedRoutes : Option Hours → Members → RoutingTree → Type 0
+HasTimedRoutes hours members tree = (times : TimesData) × HasTimes hours members times × HasRoutes times members tree
+
+-- the tree of routes of an `alertmanager.yml`'s value, and when they are muted by these clocks; without clocks none is
+abbrev pub TimedRoutesAre : Option Hours → Data → RoutingTree → Type 0
+TimedRoutesAre hours value tree = IsObject (HasTimedRoutes hours) value tree
+
+-- the same by some clocks, or without
 abbrev pub RoutesAre : Data → RoutingTree → Type 0
-RoutesAre value tree = IsObject HasRoutes value tree
+RoutesAre value tree = (hours : Option Hours) × TimedRoutesAre hours value tree

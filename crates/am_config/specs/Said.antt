@@ -17,6 +17,10 @@ Says decodes_to name members x = MatchOption (said name members) ⊥ (λ value. 
 abbrev pub SaysOr : {X : Type 0} → (Data → X → Type 0) → X → List ℕ → Members → X → Type 0
 SaysOr decodes_to absent name members x = MatchOption (said name members) (x ≡ absent) (λ value. decodes_to value x)
 
+-- the member says something, and it decodes to this, or it says nothing, and there is none
+abbrev pub SaysIf : {X : Type 0} → (Data → X → Type 0) → List ℕ → Members → Option X → Type 0
+SaysIf decodes_to name members found = MatchOption (said name members) (found ≡ None) (λ value. IsSomeAnd found (decodes_to value))
+
 -- the text that a scalar is: a text itself, and an integer its digits
 abbrev pub text_in : Data → Option (List ℕ)
 text_in null = None

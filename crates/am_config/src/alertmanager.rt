@@ -1,9 +1,10 @@
 //! Reads a whole `alertmanager.yml`, as JSON.
 ghost use Rattle.std.specs.Prelude.{◌≡◌, [], IfErr, IfOk, IfSome, None};
+ghost use Rattle.std.specs.Option.{option_copied};
 ghost use Rattle.serde_json.specs.View.{view};
 ghost use Rattle.am_cli.specs.Faults.{HasFaults};
 ghost use Rattle.am_config.specs.Receivers.{ReceiversAre};
-ghost use Rattle.am_config.specs.Routes.{RoutesAre};
+ghost use Rattle.am_config.specs.Routes.{RoutesAre, TimedRoutesAre};
 ghost use Rattle.am_config.specs.Rules.{RulesAre};
 ghost use Rattle.am_config.specs.Trees.{tree_in};
 ghost use Rattle.am_model.specs.Config.{config_fault, greatest_limits};
@@ -67,7 +68,8 @@ struct Parts {
 /// down, receivers and inhibition rules. Its limits are the greatest: the file says none.
 ///
 /// Without `hours` time intervals are read, but no route is muted by them; `timed` says whether one
-/// would be. With it a location that isn't among its zones is refused.
+/// would be. With it a location that isn't among its zones is refused, and clause `muted` says when
+/// each route is muted.
 pub fn read_alertmanager(
     reader: &Reader<'_, '_>,
     hours: Option<&Hours>,
@@ -76,6 +78,7 @@ pub fn read_alertmanager(
     ensures sound { IfOk result (λ read. config_fault read.config ≡ None) }
     ensures limits { IfOk result (λ read. read.config.limits ≡ greatest_limits) }
     ensures routes { IfOk result (λ read. RoutesAre (view reader.now.value) read.config.routes) }
+    ensures muted { IfOk result (λ read. TimedRoutesAre (option_copied hours.entry) (view reader.now.value) read.config.routes) }
     ensures receivers { IfOk result (λ read. ReceiversAre (view reader.now.value) read.config.receivers) }
     ensures rules { IfOk result (λ read. RulesAre (view reader.now.value) read.config.rules) }
     ensures reported { IfErr result HasFaults }
@@ -83,10 +86,13 @@ pub fn read_alertmanager(
     let mut faults = Faults::none(reader.alloc());
     let mut dropped = IgnoredSettings::nothing();
     let parts = read_parts(&mut faults, &mut dropped, reader, hours, checking)?;
-    match parts {
-        Some(parts) if faults.is_empty() => finish(reader, faults, dropped, parts),
-        _ => Err(refused(reader, faults)),
+    let Some(parts) = parts else {
+        return Err(refused(reader, faults));
+    };
+    if faults.is_empty() {
+        return finish(reader, faults, dropped, parts);
     }
+    Err(refused(reader, faults))
 }
 
 fn read_parts(
@@ -97,7 +103,7 @@ fn read_parts(
     checking: Checking,
 ) -> Result<Option<Parts>, InputFault>
     ensures routes { IfOk result (λ parts. faults.new ≡ []
-        → IfSome parts (λ p. RoutesAre (view reader.now.value) (tree_in p.tree))) }
+        → IfSome parts (λ p. TimedRoutesAre (option_copied hours.entry) (view reader.now.value) (tree_in p.tree))) }
     ensures receivers { IfOk result (λ parts. faults.new ≡ []
         → IfSome parts (λ p. ReceiversAre (view reader.now.value) p.receivers.items)) }
     ensures rules { IfOk result (λ parts. faults.new ≡ [] → IfSome parts (λ p. RulesAre (view reader.now.value) p.rules.items)) }

@@ -1,18 +1,17 @@
-//! The clocks of a configuration's time intervals.
-ghost use Rattle.std.specs.Prelude.{◌≡◌, ◌≤◌, IfOk, map, vec_len};
-ghost use Rattle.am_config.specs.Later.{span_later};
+//! The zones of a configuration's time intervals, and when their clocks begin and end.
+ghost use Rattle.std.specs.Prelude.{◌≡◌, ◌≤◌, IfOk, IfSome, IsTrue, find, vec_len};
+ghost use Rattle.std.specs.Option.{option_copied};
+ghost use Rattle.std.specs.Str.{bytes_eq};
+ghost use Rattle.am_hours.specs.Pieces.{are_in_row};
+ghost use Rattle.am_config.specs.Times.{IsClockAt, IsClockOf, is_utc};
 ghost use Rattle.am_config.specs.declared.hours.TheConstants.{MAX_ZONES};
 
 use crate::times::{INTERVALS, LISTS, LOCAL, LOCATION};
-use am_alerts::spans::{Span, Spans};
 use am_alerts::text::Text;
 use am_cli::fault::{FaultKind, InputFault};
 use am_cli::faults::Faults;
 use am_cli::reader::Reader;
 use am_hours::clock::{Clock, ClockFault};
-use am_hours::fault::HoursFault;
-use am_hours::interval::Interval;
-use am_hours::muting::{Timed, expand_all};
 use am_hours::zone::Zone;
 use jiff::Timestamp;
 use serde_json::{Map, Value};
@@ -53,137 +52,50 @@ impl Hours {
         }
     }
 
-    /// The index of a zone among those that are known by name.
-    fn index_of(&self, name: &str) -> Option<usize> {
-        self.zones
-            .iter()
-            .position(|known| known.name.as_str() == name)
+    /// The clock of a location from the start to the horizon, if its zone is known and has one.
+    pub(crate) fn clock(&self, alloc: Global, location: &str) -> Result<Option<Clock>, InputFault>
+        ensures { IfOk result (λ clock. IfSome clock (λ c. IsClockAt self.now location.now c.pieces)) }
+    {
+        if is_utc(location) {
+            return self.clock_of(alloc, &Zone::utc());
+        }
+        match self.zone(location) {
+            None => Ok(None),
+            Some(known) => self.clock_of(alloc, &known.zone),
+        }
     }
 
-    /// The clock of the zone at an index, or of UTC, if there is one so far.
-    fn clock(&self, alloc: Global, zone: Option<usize>) -> Result<Option<Clock>, InputFault> {
-        let utc = Zone::utc();
-        let zone = match zone.and_then(|index| self.zones.get(index)) {
-            None => &utc,
-            Some(known) => &known.zone,
-        };
+    /// The first zone of this name.
+    fn zone(&self, name: &str) -> Option<&NamedZone>
+        ensures { option_copied result ≡ find (λ known. bytes_eq known.name name.now) self.now.zones.items }
+    {
+        self.zones.iter().find(|known| known.name.as_str() == name)
+    }
+
+    /// The clock of a zone from the start to the horizon, if it has one so far.
+    fn clock_of(&self, alloc: Global, zone: &Zone) -> Result<Option<Clock>, InputFault>
+        ensures { IfOk result (λ clock. IfSome clock (λ c. IsClockOf self.now zone.now c.pieces)) }
+    {
         match Clock::new(alloc, zone.time_zone(), self.start, self.horizon) {
-            Ok(clock) => Ok(Some(clock)),
+            Ok(clock) => Ok(Some(in_row(clock))),
             Err(ClockFault::NoMemory) => Err(InputFault::NoMemory),
             Err(_) => Ok(None),
         }
     }
 }
 
-/// A clock, and the index of its zone; none is UTC's.
-#[derive(Drop)]
-struct ZoneClock {
-    zone: Option<usize>,
-    clock: Clock,
-}
-
-/// An interval, and the index of its clock, unless it was refused.
-#[derive(Drop)]
-pub(crate) struct Placed {
-    pub(crate) interval: Interval,
-    pub(crate) clock: Option<usize>,
-}
-
-/// The clocks that were made, one for each zone that an interval names.
-#[derive(Drop)]
-pub(crate) struct Clocks<'h> {
-    hours: &'h Hours,
-    made: Vec<ZoneClock>,
-}
-
-impl<'h> Clocks<'h> {
-    pub(crate) fn new(alloc: Global, hours: &'h Hours) -> Clocks<'h> {
-        Clocks {
-            hours,
-            made: Vec::new(alloc),
-        }
-    }
-
-    /// How long they go on.
-    pub(crate) fn horizon(&self) -> u64 {
-        self.hours.horizon
-    }
-
-    /// Spans that count from where the clocks begin, as times count.
-    pub(crate) fn in_time(&self, alloc: Global, spans: Spans) -> Result<Spans, HoursFault> {
-        if self.hours.from == 0 || spans.as_slice().is_empty() {
-            return Ok(spans);
-        }
-        later(alloc, spans.as_slice(), self.hours.from)
-    }
-
-    /// The index of a zone's clock, behind all others if it is new. None where the zone isn't known, or
-    /// has no clock from the start to the horizon.
-    pub(crate) fn index_of(
-        &mut self,
-        alloc: Global,
-        name: &str,
-    ) -> Result<Option<usize>, InputFault> {
-        let zone = if is_utc(name) {
-            None
-        } else {
-            match self.hours.index_of(name) {
-                None => return Ok(None),
-                index => index,
-            }
-        };
-        if let Some(index) = self.made.iter().position(|made| made.zone == zone) {
-            return Ok(Some(index));
-        }
-        let index = self.made.len();
-        match self.hours.clock(alloc, zone)? {
-            None => Ok(None),
-            Some(clock) => {
-                self.made.push(ZoneClock { zone, clock })?;
-                Ok(Some(index))
-            }
-        }
-    }
-
-    /// The spans in which one of these intervals holds.
-    pub(crate) fn expand(&self, alloc: Global, placed: &[Placed]) -> Result<Spans, HoursFault> {
-        let mut timed = Vec::new(alloc);
-        for Placed { interval, clock } in placed {
-            if let Some(made) = clock.and_then(|index| self.made.get(index)) {
-                timed
-                    .push(Timed {
-                        interval,
-                        clock: &made.clock,
-                    })
-                    .map_err(|_| HoursFault::NoMemory)?;
-            }
-        }
-        expand_all(alloc, timed.as_slice())
-    }
-}
-
-/// These spans, so many milliseconds later.
-fn later(alloc: Global, spans: &[Span], by: u64) -> Result<Spans, HoursFault>
-    ensures { IfOk result (λ moved. moved ≡ map (span_later by) spans.now) }
+/// This clock. Contracts learn that its pieces are in a row.
+fn in_row(clock: Clock) -> Clock
+    ensures same { result ≡ clock }
+    ensures row { IsTrue (are_in_row 0 clock.pieces clock.horizon) }
 {
-    let mut moved = Vec::with_capacity(alloc, spans.len()).map_err(|_| HoursFault::NoMemory)?;
-    for span in spans {
-        moved.push(span_later(*span, by)?)?;
-    }
-    Ok(Spans::new(alloc, moved)?)
+    let _ = clock.pieces();
+    clock
 }
 
-/// A span, so many milliseconds later.
-fn span_later(span: Span, by: u64) -> Result<Span, HoursFault>
-    ensures { IfOk result (λ moved. moved ≡ span_later by span) }
+fn is_utc(name: &str) -> bool
+    ensures { result ≡ is_utc name.now }
 {
-    match (span.from.checked_add(by), span.to.checked_add(by)) {
-        (Some(from), Some(to)) => Ok(Span { from, to }),
-        _ => Err(HoursFault::TooLong),
-    }
-}
-
-fn is_utc(name: &str) -> bool {
     name.is_empty() || name == "UTC"
 }
 

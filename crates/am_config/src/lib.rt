@@ -6,10 +6,13 @@
 #![tactic(auto)]
 
 pub mod alertmanager;
+mod clocks;
 mod collected;
+mod definitions;
 pub mod dropped;
 pub mod hours;
 mod inhibit;
+mod intervals;
 pub mod law;
 mod matchers;
 mod names;

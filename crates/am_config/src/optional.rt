@@ -69,19 +69,6 @@ pub(crate) fn missing(object: &Object<'_, '_>, name: &str) -> InputFault {
     }
 }
 
-/// Refuses a member that is there.
-pub(crate) fn refuse_member(
-    faults: &mut Faults,
-    object: &Object<'_, '_>,
-    name: &str,
-    fault_kind: FaultKind,
-) -> Result<(), InputFault> {
-    match object.optional(name) {
-        None => Ok(()),
-        Some(member) => faults.push(member.refuse(fault_kind)),
-    }
-}
-
 /// The items of an array that may have so many. More are refused unread.
 pub(crate) fn items_up_to<'v>(
     faults: &mut Faults,

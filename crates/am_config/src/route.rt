@@ -78,7 +78,9 @@ pub(crate) struct Routing<'h> {
 }
 
 impl<'h> Routing<'h> {
-    pub(crate) fn new(top: &Object<'_, '_>, times: Times<'h>) -> Result<Routing<'h>, InputFault> {
+    pub(crate) fn new(top: &Object<'_, '_>, times: Times<'h>) -> Result<Routing<'h>, InputFault>
+        ensures { IfOk result (λ routing. routing.times ≡ times.entry) }
+    {
         Ok(Routing {
             receivers: receiver_names(top)?,
             times,
@@ -105,6 +107,7 @@ impl<'h> Routing<'h> {
         reader: &Reader<'_, '_>,
         levels: usize,
     ) -> Result<bool, InputFault>
+        ensures times { OnOk result (self.new.times ≡ self.old.times) }
         ensures levels { IfOk result (λ begins. IsTrue begins → 0 < levels) }
         ensures collects { IfOk result (λ begins. Collects faults.old faults.new (IsTrue begins)) }
     {
@@ -122,7 +125,8 @@ impl<'h> Routing<'h> {
         faults: &mut Faults,
         reader: &Reader<'_, '_>,
     ) -> Result<(), InputFault>
-        ensures { OnOk result (0 < length faults.new) }
+        ensures times { OnOk result (self.new.times ≡ self.old.times) }
+        ensures refused { OnOk result (0 < length faults.new) }
     {
         if self.is_full && faults.len() > 0 {
             return Ok(());
@@ -139,7 +143,7 @@ pub(crate) fn read_tree(
     top: &Object<'_, '_>,
 ) -> Result<Option<Tree>, InputFault>
     ensures { IfOk result (λ read. Collects faults.old faults.new
-        (IsSomeAnd read (λ tree. HasRoutes (members_view top.now.members) (tree_in tree)))) }
+        (IsSomeAnd read (λ tree. HasRoutes routing.old.times (members_view top.now.members) (tree_in tree)))) }
 {
     let Some(reader) = keep(faults, required(top, "route"))? else {
         return Ok(None);
@@ -154,7 +158,7 @@ fn read_root(
     reader: &Reader<'_, '_>,
 ) -> Result<Option<Tree>, InputFault>
     ensures { IfOk result (λ read. Collects faults.old faults.new
-        (IsSomeAnd read (λ tree. IsObject HasTree (view reader.now.value) (tree_in tree)))) }
+        (IsSomeAnd read (λ tree. IsObject (HasTree routing.old.times) (view reader.now.value) (tree_in tree)))) }
 {
     let Some(route) = keep(faults, reader.object())? else {
         return Ok(None);
@@ -281,7 +285,9 @@ fn read_routes(
     receiver: &str,
     levels: usize,
 ) -> Result<Vec<Node>, InputFault>
-    ensures { IfOk result (λ routes. Collects faults.old faults.new (HasBelow (members_view route.now.members) (forest routes.items))) }
+    ensures times { OnOk result (routing.new.times ≡ routing.old.times) }
+    ensures routes { IfOk result (λ routes. Collects faults.old faults.new
+        (HasBelow routing.old.times (members_view route.now.members) (forest routes.items))) }
 {
     let mut routes = Vec::new(route.alloc());
     let Some(member) = non_null(route, "routes") else {
@@ -310,7 +316,9 @@ fn read_item(
     above: &str,
     levels: usize,
 ) -> Result<Option<Node>, InputFault>
-    ensures { IfOk result (λ read. Collects faults.old faults.new (IsSomeAnd read (IsObject HasNode (view reader.now.value)))) }
+    ensures times { OnOk result (routing.new.times ≡ routing.old.times) }
+    ensures node { IfOk result (λ read. Collects faults.old faults.new
+        (IsSomeAnd read (IsObject (HasNode routing.old.times) (view reader.now.value)))) }
 {
     if !routing.begins(faults, reader, levels)? {
         return Ok(None);
@@ -330,7 +338,9 @@ fn read_node(
     above: &str,
     levels: usize,
 ) -> Result<Option<Node>, InputFault>
-    ensures { IfOk result (λ read. Collects faults.old faults.new (IsSomeAnd read (IsObject HasNode (view reader.now.value)))) }
+    ensures times { OnOk result (routing.new.times ≡ routing.old.times) }
+    ensures node { IfOk result (λ read. Collects faults.old faults.new
+        (IsSomeAnd read (IsObject (HasNode routing.old.times) (view reader.now.value)))) }
 {
     let Some(route) = keep(faults, reader.object())? else {
         return Ok(None);
@@ -347,7 +357,9 @@ fn read_rule(
     route: &Object<'_, '_>,
     above: &str,
 ) -> Result<(RouteSpec, Text), InputFault>
-    ensures { IfOk result (λ read. Collects faults.old faults.new (HasRoute (members_view route.now.members) read.0)) }
+    ensures times { OnOk result (routing.new.times ≡ routing.old.times) }
+    ensures route { IfOk result (λ read. Collects faults.old faults.new
+        (HasRoute routing.old.times (members_view route.now.members) read.0)) }
 {
     only(faults, route, &MEMBERS)?;
     let options = read_options(faults, routing, route)?;

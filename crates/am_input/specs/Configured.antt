@@ -38,7 +38,7 @@ form_in value =
     else (if is_some (pointer (codes "/receivers/0/integrations") value) || has_one_of own_names value then Own else Alertmanager)
 
 -- a configuration that was read from Alertmanager's has no fault, and its routes, receivers and rules. Not stated: the names of routes, and
--- when they are muted
+-- by which clocks they are muted
 pub record IsReadOfTheirs (value : Data) (config : Config) : Type 0 where
   pub sound : config_fault config ≡ None
   pub routes : RoutesAre value config.routes

@@ -76,8 +76,8 @@ impl Judgement {
 /// output that is asked for, of what the rehearsal plays to (`PlaysThrough`), one dispatcher after another. It is `Ok` where every
 /// expectation of it is met, and `Unmet` where one isn't. Configuration, reloads, restarts, alerts, silences, outages, output, start,
 /// end, maintenance and expectations are those of the value, or those of `changes`. Of a configuration of Alertmanager the
-/// receivers, the inhibition rules and the tree of routes are those of the value. No clause says so of the names of its routes, and
-/// of its time intervals.
+/// receivers, the inhibition rules, the tree of routes and the time intervals that mute them are those of the value. No clause says
+/// so of the names of its routes, and of the clocks.
 ///
 /// A value is refused at a pointer, or as `AllRefused`, only where it asks for nothing that can be played, or as `Full` (`Refuses`). It
 /// is `Full` only where it asks for more than a limit lets be played, or where a log row that a new dispatcher takes over doesn't fit.

@@ -1,0 +1,10 @@
+use Rattle.std.proofs.Common.{take}
+use Rattle.serde_json.specs.View.{items_view}
+use Rattle.am_cli.specs.Decoding.{DecodeEach, IsObject}
+use Rattle.am_config.specs.Times.{HasDayTimes}
+use Rattle.am_config.specs.Collects.{Collects}
+use Rattle.am_config.proofs.intervals.day_times_in.Given as goal
+
+-- the ranges so far are those of the items so far
+abbrev pub invariant-loop-index : goal.invariant-loop-index
+invariant-loop-index l = Collects l.fn.faults l.faults (DecodeEach (IsObject HasDayTimes) (items_view (take l.index l.items)) l.ranges.items)

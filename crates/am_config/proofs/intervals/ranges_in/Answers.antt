@@ -1,0 +1,22 @@
+use Rattle.std.proofs.Common.{◌<◌, length, arith}
+use Rattle.serde_json.specs.View.{view}
+use Rattle.am_config.specs.Times.{IsRange, numbers_of}
+use Rattle.am_config.proofs.Collecting.{each_more, some_read}
+use Rattle.am_config.proofs.intervals.ranges_in.Goals as goal
+
+pub loop-index-preserved : goal.loop-index-preserved
+loop-index-preserved c =
+    let l = c.loop-index in
+    let values = c.in-Some.items.now in
+    let value = c.index-items-index.result in
+    let x = c.in-Some-2.range in
+    let Is = IsRange (numbers_of c.args.numbers) in
+    let here : l.index < length values = omega arith in
+    each_more Is values l.index value x l.ranges.items c.push.new.self.items c.args.faults.now l.faults c.read_range.new.faults here c.index-items-index.is
+    l.invariant
+    (λ none.
+    let read = c.in_ok-range.ensures none in (
+      read.0,
+      some_read (Is (view value)) c.in_ok-range.field-0 x c.in-Some-2.is read.1,
+    ))
+    c.in_ok-push.ensures.items

@@ -1,0 +1,10 @@
+use Rattle.std.proofs.Common.{take}
+use Rattle.serde_json.specs.View.{items_view}
+use Rattle.am_cli.specs.Decoding.{DecodeEach}
+use Rattle.am_config.specs.Times.{IsRange, numbers_of}
+use Rattle.am_config.specs.Collects.{Collects}
+use Rattle.am_config.proofs.intervals.ranges_in.Given as goal
+
+-- the ranges so far are those of the items so far
+abbrev pub invariant-loop-index : goal.invariant-loop-index
+invariant-loop-index l = Collects l.fn.faults l.faults (DecodeEach (IsRange (numbers_of l.numbers)) (items_view (take l.index l.items)) l.ranges.items)

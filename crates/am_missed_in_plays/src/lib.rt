@@ -1,6 +1,6 @@
-//! Laws of whole rehearsals for whoever reads what went undelivered, with no premise on the playbacks:
-//! each span of firing that an integration missed has its cause, and none is missed for long where a
-//! receiver answers. They follow from the laws of plays and those of missed spans. It stores nothing.
+//! Laws of whole rehearsals, with no premise on the playbacks: each span of firing that an integration
+//! missed has its cause, and none is missed for long where a receiver answers. They are for whoever reads
+//! what went undelivered, and follow from the laws of plays and of missed spans. It stores nothing.
 //!
 //! - `law`: the laws, as public calls without a body.
 //! - specs `Rehearsals`: what every rehearsal has. `SpansInTime`: a flush by the latest time, and why it

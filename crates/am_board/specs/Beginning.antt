@@ -1,7 +1,7 @@
 -- Beginning: between the code of a begin and the definition Begin. What it finds in its group, and the flush that it opens.
 use Rattle.std.specs.Prelude.{◌≡◌, ℕ, ◌&&◌, true, false, Bool, IsTrue, List, [], filter, map, Some, if◌then◌else◌, ◌≢◌, ◌*◌, ◌≤◌, ◌<◌, ◌⊎◌}
 use Rattle.std.specs.Prelude.{min}
-use Rattle.std.specs.Prelude.{IfSome, All, Option, None, Result, Ok, Err, vec_len, vec_capacity, ◌+◌, not, nat_le, length, slice_index_or}
+use Rattle.std.specs.Prelude.{IfSome, All, MatchResult, Option, None, Result, Ok, Err, vec_len, vec_capacity, ◌+◌, not, nat_le, length, slice_index_or}
 use Rattle.std.specs.Borrow.{Bor}
 use Rattle.am_alerts.specs.AlertData.{AlertData, is_resolved}
 use Rattle.am_alerts.specs.Labels.{label_set_cmp}
@@ -26,6 +26,9 @@ use Rattle.am_model.specs.declared.group.GroupName.{GroupName}
 use Rattle.am_board.specs.declared.group.Member.{Member}
 use Rattle.am_model.specs.Begin.{copied, firing_of, resolved_of, label_sets, notified_of, deadline_of, flush_notifying, notice_for}
 use Rattle.am_model.specs.Begin.{due_cmp, taken}
+use Rattle.am_model.specs.Causes.{begin_cause}
+use Rattle.am_model.specs.declared.preview.Preview.{Preview}
+use Rattle.am_model.specs.look_back.Preview.{preview_at}
 use Rattle.am_model.specs.Notice.{NoticeData}
 use Rattle.am_board.specs.Refinement.{member_state, flush_state, state_of, group_state}
 use Rattle.am_model.specs.Lists.{without, least}
@@ -35,12 +38,13 @@ use Rattle.am_model.specs.declared.fault.Fault.TheVariants.{NoMemory, TooManyOpe
 use Rattle.am_board.specs.declared.plan.PlannedFlush.{PlannedFlush}
 use Rattle.am_model.specs.Configured.{route_of}
 use Rattle.am_board.specs.declared.begin.Begun.{Begun}
+use Rattle.am_board.specs.declared.begin.BeginCall.{BeginCall}
 use Rattle.am_board.specs.declared.begin.ChosenGroup.{ChosenGroup}
 use Rattle.am_model.specs.declared.record.Call.TheVariants.{Begin}
 use Rattle.am_board.specs.declared.state.State as kept
 use Rattle.am_model.specs.Records.{entry}
 use Rattle.am_board.specs.History.{reply_of, IsFresh}
-use Rattle.am_board.specs.Step.{AppliesCall, LeavesUnchanged}
+use Rattle.am_board.specs.Step.{AppliesCall, LeavesUnchanged, IsAnswer}
 
 -- ---- what is unmuted in a group
 
@@ -184,25 +188,52 @@ IsFirstOfKeys flushes t groups keys (Some i) =
 
 -- a begin takes this group, at the time of the call
 pub record IsChosen (config : Config) (s : kept.State) (chosen : ChosenGroup) (g : Group) : Type 0 where
-  pub time : chosen.t ≡ time (state_of s) chosen.now
+  pub time : chosen.t ≡ time (state_of s) chosen.call.now
   pub index : chosen.index < length s.groups.items
   pub group : (d : Group) → slice_index_or s.groups.items chosen.index d ≡ g
   pub first : taken (state_of s) chosen.t ≡ Some (group_state g)
   pub due : chosen.due ≡ chosen.t + (route_of config g.name).group_interval
 
--- a call of the pass p at the time n takes this group
-pub record IsTaking (config : Config) (s : kept.State) (p n : ℕ) (c : ChosenGroup) : Type 0 where
-  pub pass : c.pass ≡ p
-  pub now : c.now ≡ n
+-- a begin takes a group of the state
+pub record IsTaking (config : Config) (s : kept.State) (c : ChosenGroup) : Type 0 where
   pub group : Group
   pub chosen : IsChosen config s c group
 
--- what a call of a pass at this time takes: a group, or none where none can be taken
-abbrev pub IsChoice : Config → kept.State → ℕ → ℕ → Option ChosenGroup → Type 0
-IsChoice config s pass now None = taken (state_of s) (time (state_of s) now) ≡ None
-IsChoice config s pass now (Some chosen) = IsTaking config s pass now chosen
+-- what a call takes: a group, or none where none can be taken
+abbrev pub IsChoice : Config → kept.State → BeginCall → Option ChosenGroup → Type 0
+IsChoice config s call None = taken (state_of s) (time (state_of s) call.now) ≡ None
+IsChoice config s call (Some chosen) = (chosen.call ≡ call) × IsTaking config s chosen
+
+-- a begin was accepted, and its record is kept
+abbrev pub AppliesBegin : Config → BeginCall → Begun → kept.State → kept.State → Type 0
+AppliesBegin config call begun = AppliesCall config call.id (entry call.pass (Begin call.now) (reply_of begun))
 
 -- how a begin ends for which nothing but memory can be wanting
-abbrev pub IsEnd : Config → ℕ → ℕ → ℕ → kept.State → kept.State → Result Begun Fault → Type 0
-IsEnd config id pass now old new (Ok begun) = AppliesCall config id (entry pass (Begin now) (reply_of begun)) old new × IsFresh id begun
-IsEnd config id pass now old new (Err fault) = (fault ≡ NoMemory) × LeavesUnchanged config old new
+abbrev pub IsEnd : Config → BeginCall → kept.State → kept.State → Result Begun Fault → Type 0
+IsEnd config call old new (Ok begun) = AppliesBegin config call begun old new × IsFresh call.id begun
+IsEnd config call old new (Err fault) = (fault ≡ NoMemory) × LeavesUnchanged config old new
+
+-- why a begin is refused, where memory does not lack
+abbrev pub cause_of : Config → BeginCall → kept.State → Option Fault
+cause_of config call s = begin_cause config (vec_len s.history) (state_of s) (time (state_of s) call.now)
+
+-- a begin was accepted, or it was refused with its cause
+abbrev pub Begins : Config → BeginCall → kept.State → kept.State → Result Begun Fault → Type 0
+Begins config call old new result =
+    MatchResult result
+    (λ begun. (cause_of config call old ≡ None) × AppliesBegin config call begun old new × IsFresh call.id begun)
+    (λ fault. IsAnswer (cause_of config call old) fault × LeavesUnchanged config old new)
+
+-- the same, and what a preview shows is returned with the reply, if it is wanted why
+abbrev pub BeginsShown : Config → BeginCall → Bool → kept.State → kept.State → Result (Begun × Option Preview) Fault → Type 0
+BeginsShown config call why old new result =
+    MatchResult result
+    (λ both. (cause_of config call old ≡ None)
+    × AppliesBegin config call both.0 old new
+    × (IsFresh call.id both.0 × (both.1 ≡ (if why then preview_at config (state_of old) (time (state_of old) call.now) else None))))
+    (λ fault. IsAnswer (cause_of config call old) fault × LeavesUnchanged config old new)
+
+-- the reply to a begin, with what is shown of it
+abbrev pub with_preview : Result Begun Fault → Option Preview → Result (Begun × Option Preview) Fault
+with_preview (Ok begun) preview = Ok (begun, preview)
+with_preview (Err fault) preview = Err fault

@@ -1,5 +1,7 @@
 -- between the code of an insert of an alert that all its groups have and its definition
 pub mod Again
+-- what an insert of an alert that comes does to the stored state
+pub mod Arrival
 -- between the code of a begin and its definition: what it finds in its group, and the flush that it opens
 pub mod Beginning
 -- the invariant of a board's fields
@@ -16,6 +18,8 @@ pub mod Empty
 pub mod DueOrder
 -- the numbers of faults
 pub mod Faults
+-- between the code of a begin and of a preview and their definitions: what is found in the group that is taken
+pub mod Found
 -- between the code of a finish or a note and its definition: what it puts into the stored log
 pub mod Finishing
 -- between the code of a forgetting and its definition: which label sets are in groups
@@ -36,6 +40,8 @@ pub mod Keyed
 pub mod Known
 -- between the code of a load and the definitions
 pub mod Loading
+-- what a begin looks at, and what is true of it
+pub mod Look
 -- the rows that a note or a finish puts into the log
 pub mod Logged
 -- the stored log as the list of its rows
@@ -50,8 +56,6 @@ pub mod Marks
 pub mod Noting
 -- the alerts of a group in the order of their labels, as indexes
 pub mod Order
--- between the code of a preview and its definition: what it finds in the group that a begin takes
-pub mod Preview
 -- what a call does to the stored state of a board
 pub mod Step
 -- label sets that no silence mutes, as they are noted

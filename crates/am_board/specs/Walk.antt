@@ -10,9 +10,11 @@ use Rattle.am_model.specs.Begin.{copied}
 use Rattle.am_model.specs.State.{State}
 use Rattle.am_model.specs.declared.preview.MutedAlert.{MutedAlert}
 use Rattle.am_board.specs.Beginning.{copies_at, firing_among, resolved_among}
+use Rattle.am_board.specs.Look.{state_seen}
 use Rattle.am_board.specs.Members.{labels_of}
 use Rattle.am_board.specs.Order.{indexes_in_order}
 use Rattle.am_board.specs.declared.group.Member.{Member}
+use Rattle.am_board.specs.declared.look.Look.{Look}
 use Rattle.am_board.specs.declared.walk.MutedIndex.{MutedIndex}
 use Rattle.am_board.specs.declared.walk.Walk.{Walk}
 
@@ -44,6 +46,10 @@ listed_if causes index cause = if causes then cons_option (muted_if index cause)
 abbrev pub cause_of : List RuleData → State → ℕ → Member → Option MuteCause
 cause_of rules s t m = cause_for rules s t m.alert
 
+-- the same, under the rules and in the state that are looked at
+abbrev pub cause_seen : Look → Member → Option MuteCause
+cause_seen look = cause_of look.config.now.rules (state_seen look) look.t
+
 -- the muted alert at an index among members, where these are their causes
 abbrev pub muted_at : (Member → Option MuteCause) → List Member → ℕ → Option MutedIndex
 muted_at causes members index = option_and_then (λ m. muted_if index (causes m)) (slice_get members index)
@@ -65,6 +71,10 @@ pub record AreFound (rules : List RuleData) (s : State) (t : ℕ) (members : Lis
   pub resolved : copies_at t walk.resolved.items ≡ resolved_among rules s t (filter_map (slice_get members) indexes)
   pub muted : walk.muted.items ≡ (if causes then filter_map (muted_at (cause_of rules s t) members) indexes else [])
 
+-- what is found at these indexes among members, where a begin looks
+abbrev pub AreSeen : Look → List Member → List ℕ → Walk → Type 0
+AreSeen look members indexes = AreFound look.config.now.rules (state_seen look) look.t members indexes look.why
+
 -- what a walk over members finds, in the order of their labels
-abbrev pub IsWalk : List RuleData → State → ℕ → List Member → Bool → Walk → Type 0
-IsWalk rules s t members causes walk = AreFound rules s t members (indexes_in_order (map labels_of members)) causes walk
+abbrev pub IsWalk : Look → List Member → Walk → Type 0
+IsWalk look members = AreSeen look members (indexes_in_order (map labels_of members))

@@ -15,6 +15,7 @@ ghost use Rattle.am_model.specs.Insert.{names_for, same_alert};
 use crate::config::Config;
 use crate::group::GroupName;
 use crate::groups::Groups;
+use crate::insert::Arrival;
 use crate::record::Inserted;
 use crate::state::State;
 use am_alerts::alert::Alert;
@@ -43,14 +44,13 @@ pub(crate) fn put_again(
     state: &mut State,
     index: Option<usize>,
     kept: Option<&Sequence<GroupName>>,
-    now: u64,
-    alert: &Alert,
+    arrival: &Arrival,
 ) -> Result<Option<Inserted>, AllocError>
     requires good { StateInvariant config.now state.old }
-    requires index { index ≡ position (same_alert alert.now) state.old.known.items }
+    requires index { index ≡ position (same_alert arrival.now.alert) state.old.known.items }
     requires within { IfSome index (λ i. i < length state.old.known.items) }
-    requires kept { IfSome kept (λ names. names.now ≡ names_for config.now alert.now.labels) }
-    ensures { PutsAgain config.now now alert.now result state.old state.new }
+    requires kept { IfSome kept (λ names. names.now ≡ names_for config.now arrival.now.alert.labels) }
+    ensures { PutsAgain config.now arrival.now.time arrival.now.alert result state.old state.new }
 {
     let Some(i) = index else {
         return Ok(None);
@@ -61,7 +61,7 @@ pub(crate) fn put_again(
     if names.len() > MAX_WAITING || state.groups.len() > config.limits.groups {
         return Ok(None);
     }
-    put_known(alloc, config, state, i, names.as_slice(), now, alert)
+    put_known(alloc, config, state, i, names.as_slice(), arrival)
 }
 
 /// Puts an alert in place of the known one at an index, and in place of the one in each of these
@@ -72,21 +72,22 @@ fn put_known(
     state: &mut State,
     i: usize,
     names: &[GroupName],
-    now: u64,
-    alert: &Alert,
+    arrival: &Arrival,
 ) -> Result<Option<Inserted>, AllocError>
     requires good { StateInvariant config.now state.old }
-    requires index { Some i ≡ position (same_alert alert.now) state.old.known.items }
+    requires index { Some i ≡ position (same_alert arrival.now.alert) state.old.known.items }
     requires within { i < length state.old.known.items }
-    requires names { names.now ≡ names_for config.now alert.now.labels }
+    requires names { names.now ≡ names_for config.now arrival.now.alert.labels }
     requires few { length state.old.groups.items ≤ config.now.limits.groups }
-    ensures { PutsAgain config.now now alert.now result state.old state.new }
+    ensures { PutsAgain config.now arrival.now.time arrival.now.alert result state.old state.new }
 {
-    let t = state.time(now);
+    let t = state.time(arrival.time);
     let stamp = state.inserts + 1;
+    let alert = &arrival.alert;
     let known = alert.copy(alloc)?;
     state.history.reserve(state.flushes.len() + 1)?;
-    if !put_in_each(alloc, config, &mut state.groups, names, alert, stamp, t)? {
+    let written = Written { alert, stamp, t };
+    if !put_in_each(alloc, config, &mut state.groups, names, &written)? {
         return Ok(None);
     }
 
@@ -100,6 +101,15 @@ fn put_known(
     }))
 }
 
+/// An alert as it is written into its groups.
+#[derive(Clone, Copy)]
+struct Written<'a> {
+    alert: &'a Alert,
+    stamp: u64,
+    /// The time of the call.
+    t: u64,
+}
+
 /// Puts an alert with a stamp in place of the one with its labels in each of these groups, if all of
 /// them are there and have it. Else it changes nothing. Returns whether they have it.
 ///
@@ -109,24 +119,23 @@ fn put_in_each(
     config: &Config,
     groups: &mut Groups,
     names: &[GroupName],
-    alert: &Alert,
-    stamp: u64,
-    t: u64,
+    written: &Written,
 ) -> Result<bool, AllocError>
     requires { AreRouted config.now.routes names.now }
-    ensures { PutsInEach config.now t (stamped_alert alert.now stamp) names.now result groups.old groups.new }
+    ensures { PutsInEach config.now written.now.t (stamped_alert written.now.alert.now written.now.stamp) names.now result
+        groups.old groups.new }
 {
     let Some((name, names)) = names.split_last() else {
         return Ok(true);
     };
-    let Some(spot) = groups.spot(name, alert.labels()) else {
+    let Some(spot) = groups.spot(name, written.alert.labels()) else {
         return Ok(false);
     };
-    let copy = alert.copy(alloc)?;
-    if !put_in_each(alloc, config, groups, names, alert, stamp, t)? {
+    let copy = written.alert.copy(alloc)?;
+    if !put_in_each(alloc, config, groups, names, written)? {
         return Ok(false);
     }
     let wait = config.routes.route(name.route).group_wait;
-    groups.replace(spot, copy, stamp, wait, t);
+    groups.replace(spot, copy, written.stamp, wait, written.t);
     Ok(true)
 }

@@ -1,17 +1,17 @@
-//! Begins: `take_group` picks the group and opens a flush or ends it at once.
+//! Begins: `take` picks the group and opens a flush or ends it at once. A begin with its preview is the
+//! same, where it is wanted why.
 //!
-//! Steps, if the history has capacity (`take_with_space`): `Groups::first_due` picks the group,
-//! `prepare` sorts it and notes what no silence mutes, `plan` finds what is unmuted and whom to
-//! notify, and `begin_planned` ends the begin. `previewed` has the same steps, with a preview in the
-//! place of what `plan` finds. A begin that opens a flush allocates in this order:
-//! - the references to the unmuted alerts, the reasons of the integrations;
+//! Steps, if the history has capacity: `choose` picks the group, and `prepare` sorts it and notes what
+//! no silence mutes. `plan` finds what is unmuted and whom to notify (`found`), and `begin_planned`
+//! ends the begin. A begin that opens a flush allocates in this order:
+//! - the references to the unmuted alerts, the integrations to notify, what is shown;
 //! - the copies of these alerts, and all else that goes into the board and the ticket;
 //! - the capacity of the history, the open flush, the log keys.
 //!
 //! `TooManyOpen` comes once it is known that an integration needs an update. Log keys of a failed
 //! begin can stay known: a known key without a row shows nowhere.
-ghost use Rattle.std.specs.Prelude.{◌≡◌, ◌≢◌, ℕ, ◌+◌, ◌<◌, ◌≤◌, [], None, length, map};
-ghost use Rattle.std.specs.Prelude.{All, IfSome, IsTrue, MatchResult, Ok, OnOk, vec_len, vec_capacity};
+ghost use Rattle.std.specs.Prelude.{◌≡◌, ◌≢◌, ◌+◌, ◌<◌, ◌≤◌, [], None, length, map};
+ghost use Rattle.std.specs.Prelude.{All, IfSome, IsTrue, Ok, OnOk, vec_len, vec_capacity};
 ghost use Rattle.std.specs.List.{IsDistinct};
 ghost use Rattle.std.specs.VecDeque.{deque_len};
 ghost use Rattle.am_alerts.specs.RoutingTree.{last_of, route_at};
@@ -19,15 +19,13 @@ ghost use Rattle.am_nflog.specs.Log.{is_known};
 ghost use Rattle.am_nflog.specs.declared.key.LogKey.{LogKey};
 ghost use Rattle.am_mute.specs.Sources.{AreLearnt};
 ghost use Rattle.am_model.specs.Begin.{notified_of, taken};
-ghost use Rattle.am_model.specs.Causes.{begin_cause};
 ghost use Rattle.am_model.specs.Insert.{same_member};
-ghost use Rattle.am_model.specs.Records.{entry};
-ghost use Rattle.am_board.specs.History.{reply_of, IsFresh};
 ghost use Rattle.am_board.specs.Refinement.{state_of, group_state};
 ghost use Rattle.am_board.specs.LogRows.{log_rows};
-ghost use Rattle.am_board.specs.Beginning.{IsPlan, IsPlannedFlush, IsChoice, IsChosen, IsEnd};
+ghost use Rattle.am_board.specs.Beginning.{IsPlan, IsPlannedFlush, IsChoice, IsChosen, IsEnd, IsTaking};
+ghost use Rattle.am_board.specs.Beginning.{Begins, BeginsShown, with_preview};
 ghost use Rattle.am_model.specs.State.{time, same_name};
-ghost use Rattle.am_board.specs.Step.{StateInvariant, AppliesCall, LeavesUnchanged, IsAnswer};
+ghost use Rattle.am_board.specs.Step.{StateInvariant};
 ghost use Rattle.am_model.specs.declared.config.TheConstants.{MAX_INTEGRATIONS};
 ghost use Rattle.am_model.specs.declared.config.Config.{Config as ConfigData};
 ghost use Rattle.am_board.specs.declared.group.Group.{Group};
@@ -37,6 +35,7 @@ use crate::config::Config;
 use crate::fault::Fault;
 use crate::flush::OpenFlush;
 use crate::group::GroupName;
+use crate::look::Look;
 use crate::plan::{PlannedFlush, plan};
 use crate::record::{Call, Record, Reply};
 use crate::state::State;
@@ -44,6 +43,7 @@ use crate::ticket::Ticket;
 use am_alerts::labels::Labels;
 use am_alerts::limits::MAX_TIME;
 pub use am_model::notice::MIN_FLUSH_TIMEOUT;
+use am_model::preview::Preview;
 use am_mute::sources::Sources;
 use am_nflog::{LogKey, NfLog};
 use std::alloc::{AllocError, Global};
@@ -63,11 +63,18 @@ pub enum Begun {
 /// An alert is noted once for each of its groups, and again where its group notes anew.
 const NOTED_PER_ALERT: usize = 4;
 
+/// A begin as it is called: the board's id, the pass, and its own time in milliseconds.
+#[derive(Clone, Copy)]
+pub(crate) struct BeginCall {
+    pub(crate) id: u64,
+    pub(crate) pass: u32,
+    pub(crate) now: u64,
+}
+
 /// The group that a begin takes.
 #[derive(Clone, Copy)]
 pub(crate) struct ChosenGroup {
-    pub(crate) pass: u32,
-    pub(crate) now: u64,
+    pub(crate) call: BeginCall,
     /// The time of the call.
     pub(crate) t: u64,
     /// The index of the group.
@@ -81,69 +88,101 @@ pub(crate) struct ChosenGroup {
 pub(crate) fn take_group(
     alloc: Global,
     config: &Config,
-    id: u64,
     state: &mut State,
     sources: &Sources,
-    pass: u32,
-    now: u64,
+    call: BeginCall,
 ) -> Result<Begun, Fault>
     requires good { StateInvariant config.now state.old }
     requires sources { AreLearnt config.now.rules state.old.known.items sources.now }
     requires times { All (λ row. row.time ≤ MAX_TIME) (log_rows state.old.log) }
-    ensures { MatchResult result
-        (λ begun. (begin_cause config.now (vec_len state.old.history) (state_of state.old) (time (state_of state.old) now) ≡ None)
-        × AppliesCall config.now id (entry pass (Call.Begin now) (reply_of begun)) state.old state.new × IsFresh id begun)
-        (λ fault. IsAnswer (begin_cause config.now (vec_len state.old.history) (state_of state.old) (time (state_of state.old) now)) fault
-        × LeavesUnchanged config.now state.old state.new) }
+    ensures { Begins config.now call state.old state.new result }
+{
+    match take(alloc, config, state, sources, call, false) {
+        Ok((begun, _)) => Ok(begun),
+        Err(fault) => Err(fault),
+    }
+}
+
+/// Takes a group as `take_group` does, and returns with the reply what a preview shows, if it is
+/// wanted why.
+pub(crate) fn take(
+    alloc: Global,
+    config: &Config,
+    state: &mut State,
+    sources: &Sources,
+    call: BeginCall,
+    why: bool,
+) -> Result<(Begun, Option<Preview>), Fault>
+    requires good { StateInvariant config.now state.old }
+    requires sources { AreLearnt config.now.rules state.old.known.items sources.now }
+    requires times { All (λ row. row.time ≤ MAX_TIME) (log_rows state.old.log) }
+    ensures { BeginsShown config.now call why state.old state.new result }
 {
     if !state.has_space(2, config.limits.history) {
         return Err(Fault::HistoryFull);
     }
-    take_with_space(alloc, config, id, state, sources, pass, now)
+    let Some(chosen) = choose(config, state, call) else {
+        let t = state.time(call.now);
+        return with_preview(begin_nothing(state, call, t), None);
+    };
+    prepare(alloc, state, chosen.index, chosen.t);
+    take_prepared(alloc, config, state, sources, chosen, why)
 }
 
-/// Does what `take_group` does once the history is known to have capacity.
-fn take_with_space(
+/// Opens a flush of a group that is prepared, unless no integration needs an update.
+fn take_prepared(
     alloc: Global,
     config: &Config,
-    id: u64,
     state: &mut State,
     sources: &Sources,
-    pass: u32,
-    now: u64,
-) -> Result<Begun, Fault>
+    chosen: ChosenGroup,
+    why: bool,
+) -> Result<(Begun, Option<Preview>), Fault>
     requires good { StateInvariant config.now state.old }
     requires sources { AreLearnt config.now.rules state.old.known.items sources.now }
     requires times { All (λ row. row.time ≤ MAX_TIME) (log_rows state.old.log) }
     requires space { vec_len state.old.history + deque_len state.old.flushes + 2 ≤ config.now.limits.history }
-    ensures { MatchResult result
-        (λ begun. (begin_cause config.now (vec_len state.old.history) (state_of state.old) (time (state_of state.old) now) ≡ None)
-        × AppliesCall config.now id (entry pass (Call.Begin now) (reply_of begun)) state.old state.new × IsFresh id begun)
-        (λ fault. IsAnswer (begin_cause config.now (vec_len state.old.history) (state_of state.old) (time (state_of state.old) now)) fault
-        × LeavesUnchanged config.now state.old state.new) }
+    requires taking { IsTaking config.now state.old chosen }
+    ensures { BeginsShown config.now chosen.call why state.old state.new result }
 {
-    let Some(chosen) = choose(config, state, pass, now) else {
-        let t = state.time(now);
-        return begin_nothing(state, pass, now, t);
+    let look = Look {
+        alloc,
+        config,
+        state,
+        sources,
+        t: chosen.t,
+        why,
     };
-    prepare(alloc, state, chosen.index, chosen.t);
-    let planned = plan(alloc, config, id, state, sources, chosen)?;
-    begin_planned(alloc, id, state, chosen, planned)
+    let group = look.state.groups.at(chosen.index);
+    let (planned, preview) = plan(&look, chosen.call.id, group)?;
+    with_preview(begin_planned(alloc, state, chosen, planned), preview)
+}
+
+/// Returns with the reply to a begin what is shown of it.
+fn with_preview(
+    begun: Result<Begun, Fault>,
+    preview: Option<Preview>,
+) -> Result<(Begun, Option<Preview>), Fault>
+    ensures { result ≡ with_preview begun preview }
+{
+    match begun {
+        Ok(begun) => Ok((begun, preview)),
+        Err(fault) => Err(fault),
+    }
 }
 
 /// Returns the group that a begin takes: the one that is due first and has no open flush.
-pub(crate) fn choose(config: &Config, state: &State, pass: u32, now: u64) -> Option<ChosenGroup>
+fn choose(config: &Config, state: &State, call: BeginCall) -> Option<ChosenGroup>
     requires { StateInvariant config.now state.now }
-    ensures { IsChoice config.now state.now pass now result }
+    ensures { IsChoice config.now state.now call result }
 {
-    let t = state.time(now);
+    let t = state.time(call.now);
     let Some(index) = state.groups.first_due(t) else {
         return None;
     };
     let due = due_again(config, state.groups.at(index).name.route, t);
     Some(ChosenGroup {
-        pass,
-        now,
+        call,
         t,
         index,
         due,
@@ -151,9 +190,8 @@ pub(crate) fn choose(config: &Config, state: &State, pass: u32, now: u64) -> Opt
 }
 
 /// Opens the planned flush of a begin, or ends the begin where none is planned.
-pub(crate) fn begin_planned(
+fn begin_planned(
     alloc: Global,
-    id: u64,
     state: &mut State,
     chosen: ChosenGroup,
     planned: Option<PlannedFlush>,
@@ -163,18 +201,18 @@ pub(crate) fn begin_planned(
     requires space { IfSome planned (λ p. vec_len p.notices ≤ vec_capacity p.outcomes) }
     requires few { IfSome planned (λ p. vec_len p.notices ≤ MAX_INTEGRATIONS) }
     ensures { (config : ConfigData) (g : Group) → StateInvariant config state.old → IsChosen config state.old chosen g
-        → IsPlan config id (deque_len state.old.flushes) (state_of state.old) chosen.t (group_state g) (Ok planned)
-        → IsEnd config id chosen.pass chosen.now state.old state.new result }
+        → IsPlan config chosen.call.id (deque_len state.old.flushes) (state_of state.old) chosen.t (group_state g) (Ok planned)
+        → IsEnd config chosen.call state.old state.new result }
 {
     match planned {
         None => begin_quiet(alloc, state, chosen),
-        Some(planned) => begin_flush(alloc, id, state, chosen, planned),
+        Some(planned) => begin_flush(alloc, state, chosen, planned),
     }
 }
 
 /// Computes the order by labels of the alerts of the group at an index, and notes those that no
 /// silence mutes at `t`.
-pub(crate) fn prepare(alloc: Global, state: &mut State, index: usize, t: u64)
+fn prepare(alloc: Global, state: &mut State, index: usize, t: u64)
     requires index { index < length state.old.groups.items }
     requires apart { All (λ g. IsDistinct same_member g.members) (map group_state state.old.groups.items) }
     ensures { state.new ≡ state.old }
@@ -195,16 +233,16 @@ fn due_again(config: &Config, route: u32, t: u64) -> u64
 }
 
 /// Ends a begin for which no group is due.
-pub(crate) fn begin_nothing(state: &mut State, pass: u32, now: u64, t: u64) -> Result<Begun, Fault>
-    ensures { (config : ConfigData) (id : ℕ) → StateInvariant config state.old
-        → t ≡ time (state_of state.old) now → taken (state_of state.old) t ≡ None
-        → IsEnd config id pass now state.old state.new result }
+fn begin_nothing(state: &mut State, call: BeginCall, t: u64) -> Result<Begun, Fault>
+    ensures { (config : ConfigData) → StateInvariant config state.old
+        → t ≡ time (state_of state.old) call.now → taken (state_of state.old) t ≡ None
+        → IsEnd config call state.old state.new result }
 {
     state.history.reserve(state.flushes.len() + 1)?;
     state.clock = t;
     state.history.push_reserved(Record {
-        pass,
-        call: Call::Begin { now },
+        pass: call.pass,
+        call: Call::Begin { now: call.now },
         reply: Reply::NothingDue,
     });
     Ok(Begun::NothingDue)
@@ -213,9 +251,9 @@ pub(crate) fn begin_nothing(state: &mut State, pass: u32, now: u64, t: u64) -> R
 /// Ends a begin that notifies no integration.
 fn begin_quiet(alloc: Global, state: &mut State, chosen: ChosenGroup) -> Result<Begun, Fault>
     requires { chosen.index < length state.old.groups.items }
-    ensures { (config : ConfigData) (id : ℕ) (g : Group) → StateInvariant config state.old → IsChosen config state.old chosen g
+    ensures { (config : ConfigData) (g : Group) → StateInvariant config state.old → IsChosen config state.old chosen g
         → notified_of config (state_of state.old) chosen.t (group_state g) ≡ []
-        → IsEnd config id chosen.pass chosen.now state.old state.new result }
+        → IsEnd config chosen.call state.old state.new result }
 {
     let name = state.groups.at(chosen.index).name.copy(alloc)?;
     let recorded = name.copy(alloc)?;
@@ -224,8 +262,10 @@ fn begin_quiet(alloc: Global, state: &mut State, chosen: ChosenGroup) -> Result<
     state.clock = chosen.t;
     let removed = state.groups.begin_quiet(chosen.index, chosen.due, chosen.t);
     state.history.push_reserved(Record {
-        pass: chosen.pass,
-        call: Call::Begin { now: chosen.now },
+        pass: chosen.call.pass,
+        call: Call::Begin {
+            now: chosen.call.now,
+        },
         reply: Reply::Quiet {
             group: recorded,
             removed,
@@ -240,7 +280,6 @@ fn begin_quiet(alloc: Global, state: &mut State, chosen: ChosenGroup) -> Result<
 /// Opens the planned flush of a begin.
 fn begin_flush(
     alloc: Global,
-    id: u64,
     state: &mut State,
     chosen: ChosenGroup,
     planned: PlannedFlush,
@@ -251,8 +290,8 @@ fn begin_flush(
     requires few { vec_len planned.notices ≤ MAX_INTEGRATIONS }
     ensures { (config : ConfigData) (g : Group) → StateInvariant config state.old → IsChosen config state.old chosen g
         → notified_of config (state_of state.old) chosen.t (group_state g) ≢ []
-        → IsPlannedFlush config id (state_of state.old) chosen.t (group_state g) planned
-        → IsEnd config id chosen.pass chosen.now state.old state.new result }
+        → IsPlannedFlush config chosen.call.id (state_of state.old) chosen.t (group_state g) planned
+        → IsEnd config chosen.call state.old state.new result }
 {
     state.history.reserve(state.flushes.len() + 2)?;
     state.flushes.reserve(1)?;
@@ -263,15 +302,17 @@ fn begin_flush(
     state.next_number = state.next_number.saturating_add(1);
     state.flushes.push_back_reserved(planned.flush);
     state.history.push_reserved(Record {
-        pass: chosen.pass,
-        call: Call::Begin { now: chosen.now },
+        pass: chosen.call.pass,
+        call: Call::Begin {
+            now: chosen.call.now,
+        },
         reply: Reply::Flush {
             group: planned.recorded_group,
             opened: planned.recorded,
         },
     });
     Ok(Begun::Flush(Ticket {
-        board_id: id,
+        board_id: chosen.call.id,
         number: planned.number,
         group: planned.group,
         deadline: planned.deadline,

@@ -12,14 +12,14 @@ ghost use Rattle.am_model.specs.Records.{entry, call_of_silence, IsNoteOf};
 ghost use Rattle.am_model.specs.State.{time, flush_numbered};
 ghost use Rattle.am_board.specs.Step.{IsCaused, IsLoadCaused, IsNoteCaused};
 
-use crate::begin::{Begun, take_group};
+use crate::begin::{BeginCall, Begun, take_group};
 use crate::config::Config;
 use crate::destinations::GroupNameCache;
 use crate::fault::{BoardFault, Fault, FinishFault, LoadFault, NoteFault};
 use crate::finish::finish_flush;
 use crate::flush::find_flush;
 use crate::forget::{forget_idle, renew};
-use crate::insert::put_alert;
+use crate::insert::{Arrival, put_alert};
 use crate::load::load_row;
 use crate::maintain::{remove_empty, sweep};
 use crate::note::note_success;
@@ -146,14 +146,17 @@ impl Board {
         ensures cause { IsCaused (insert_cause self.old.config (records_at self.old) (state_at self.old) alert) result }
         ensures refused { OnErr result (self.new ≡ self.old) }
     {
+        let arrival = Arrival {
+            pass,
+            time: now,
+            alert,
+        };
         let inserted = put_alert(
             alloc,
             &self.config,
             &mut self.state,
             &mut self.destinations,
-            pass,
-            now,
-            alert,
+            arrival,
         );
         let rules = self.config.rules.as_slice();
         let known = self.state.known.as_slice();
@@ -212,16 +215,12 @@ impl Board {
         ensures unhindered { self.old.config.limits.groups ≤ self.old.config.limits.flushes
             → IfErr result (λ fault. fault ≢ Fault.TooManyOpen) }
     {
-        let board_id = self.id;
-        take_group(
-            alloc,
-            &self.config,
-            board_id,
-            &mut self.state,
-            &self.sources,
+        let call = BeginCall {
+            id: self.id,
             pass,
             now,
-        )
+        };
+        take_group(alloc, &self.config, &mut self.state, &self.sources, call)
     }
 
     /// Logs the success of the notice at `index` of a ticket, before its flush is finished.

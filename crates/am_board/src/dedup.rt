@@ -1,28 +1,25 @@
 //! Which integrations need an update, and why, by the log (`notify.DedupStage`).
 //!
-//! One walk over the integrations finds the reason of each. `update_reason` of `am_nflog` alone
-//! decides: an integration is notified if its reason says so. It compares the label sets where they
-//! are in the group.
-ghost use Rattle.std.specs.Prelude.{◌≡◌, ◌+◌, ◌<◌, ◌≤◌, ◌^◌, All, IfOk, IfSome, length};
-ghost use Rattle.std.specs.List.{enumerate_from};
+//! Where the group's route is muted, or nothing is unmuted, none does (`common_reason`). Else one walk
+//! over the integrations finds the reason of each. `update_reason` of `am_nflog` alone decides: an
+//! integration is notified if its reason says so. It compares the label sets where they are in the
+//! group.
+ghost use Rattle.std.specs.Prelude.{◌≡◌, ℕ, ◌+◌, ◌<◌, ◌≤◌, ◌^◌, ◌++◌, ◌∷◌, [], IfOk, IfSome, OnOk, false, true, if◌then◌else◌};
+ghost use Rattle.std.specs.Prelude.{None};
 ghost use Rattle.std.specs.Option.{option_copied};
 ghost use Rattle.am_alerts.specs.RoutingTree.{last_of};
-ghost use Rattle.am_model.specs.Configured.{HaveFewIntegrations, integrations_of};
-ghost use Rattle.am_model.specs.declared.config.TheConstants.{MAX_INTEGRATIONS};
-ghost use Rattle.am_model.specs.look_back.Reasons.{reason_of_update};
+ghost use Rattle.am_model.specs.Configured.{integrations_of};
+ghost use Rattle.am_model.specs.look_back.Reasons.{notifies, reason_of_update};
 ghost use Rattle.am_board.specs.Beginning.{AreRising, alert_sets_of, copies_of};
-ghost use Rattle.am_board.specs.Dedup.{EndsInTime, AreDecided, reason_among, reason_for, reason_by_row};
-ghost use Rattle.am_board.specs.Refinement.{state_of};
-ghost use Rattle.am_board.specs.LogRows.{log_rows};
+ghost use Rattle.am_board.specs.Dedup.{EndsInTime, AreDecided, common_reason, is_nothing, reason_for, reason_by_row};
+ghost use Rattle.am_board.specs.Look.{IsLook, state_seen};
 
-use crate::config::{Config, Integration};
 use crate::group::GroupName;
+use crate::look::Look;
 use crate::reason::Reason;
-use crate::state::State;
 use crate::unmuted::UnmutedMembers;
 use am_alerts::labels::Labels;
-use am_alerts::limits::MAX_TIME;
-use am_nflog::{LogKey, LogRow, NfLog, UpdateReason, update_reason};
+use am_nflog::{LogKey, LogRow, UpdateReason, update_reason};
 use std::alloc::{AllocError, Global};
 
 /// An integration that needs an update.
@@ -32,112 +29,131 @@ pub(crate) struct Update {
     pub(crate) send_resolved: bool,
 }
 
-/// Why each integration of a receiver is notified or not, and those that are.
+/// Those of a receiver's integrations that need an update, and why each does or doesn't, if that is
+/// wanted.
 #[derive(Drop)]
 pub(crate) struct Decided {
     pub(crate) reasons: Vec<Reason>,
     pub(crate) notified: Vec<Update>,
 }
 
+impl Decided {
+    /// No integration needs an update, and no reason is wanted.
+    fn nobody(alloc: Global) -> Decided
+        ensures reasons { result.reasons.items ≡ [] }
+        ensures notified { result.notified.items ≡ [] }
+    {
+        Decided {
+            reasons: Vec::new(alloc),
+            notified: Vec::new(alloc),
+        }
+    }
+}
+
 /// Decides whether each integration of a group's receiver needs an update about what is unmuted, and
 /// why. None does where the group's route is muted until a time.
 pub(crate) fn decide(
-    alloc: Global,
-    config: &Config,
-    state: &State,
+    look: &Look,
     group: &GroupName,
     muted_until: Option<u64>,
     unmuted: &UnmutedMembers,
-    t: u64,
 ) -> Result<Decided, AllocError>
-    requires rising { AreRising (copies_of t unmuted.now) }
-    requires route { group.now.route ≤ last_of config.now.routes }
-    requires few { HaveFewIntegrations config.now }
-    requires times { All (λ row. row.time ≤ MAX_TIME) (log_rows state.now.log) }
-    ensures { IfOk result
-        (AreDecided (reason_for config.now (state_of state.now) group.now muted_until (alert_sets_of (copies_of t unmuted.now)) t)
-        (integrations_of config.now group.now)) }
+    requires look { IsLook look.now }
+    requires rising { AreRising (copies_of look.now.t unmuted.now) }
+    requires route { group.now.route ≤ last_of look.now.config.now.routes }
+    ensures { IfOk result (AreDecided look.now.why
+        (reason_for look.now.config.now (state_seen look.now) group.now muted_until (alert_sets_of (copies_of look.now.t unmuted.now)) look.now.t)
+        (integrations_of look.now.config.now group.now)) }
 {
-    let route = config.routes.route(group.route);
-    let Some(receiver) = config.receiver(route.receiver.as_str()) else {
-        return Ok(Decided {
-            reasons: Vec::new(alloc),
-            notified: Vec::new(alloc),
-        });
-    };
-    let integrations = receiver.integrations.as_slice();
-    match muted_until {
-        Some(until) => decide_muted(alloc, integrations, until),
-        None => decide_each(
-            alloc,
-            integrations,
-            &state.log,
-            group,
-            unmuted,
-            route.repeat_interval,
-            t,
-        ),
+    match common_reason(muted_until, unmuted) {
+        Some(reason) => decide_alike(look, group, reason),
+        None => decide_each(look, group, unmuted),
     }
 }
 
-/// The reason of each of these integrations is that their group's route is muted until a time.
-fn decide_muted(
-    alloc: Global,
-    integrations: &[Integration],
-    until: u64,
-) -> Result<Decided, AllocError>
-    ensures { IfOk result (AreDecided (λ i. Reason.RouteMuted until) (enumerate_from 0 integrations.now)) }
+/// Returns the reason that all integrations have, where there is one for which none is notified.
+fn common_reason(muted_until: Option<u64>, unmuted: &UnmutedMembers) -> Option<Reason>
+    ensures { (t : ℕ) → result ≡ common_reason muted_until (alert_sets_of (copies_of t unmuted.now)) }
 {
-    let mut reasons = Vec::with_capacity(alloc, integrations.len())?;
+    if let Some(until) = muted_until {
+        return Some(Reason::RouteMuted { until });
+    }
+    if unmuted.is_empty() {
+        Some(Reason::NothingLeft)
+    } else {
+        None
+    }
+}
+
+/// Decides that no integration is notified, for this reason.
+fn decide_alike(look: &Look, group: &GroupName, reason: Reason) -> Result<Decided, AllocError>
+    requires { notifies reason ≡ false }
+    ensures { IfOk result (AreDecided look.now.why (λ i. reason) (integrations_of look.now.config.now group.now)) }
+{
+    if !look.why {
+        return Ok(Decided::nobody(look.alloc));
+    }
+    let integrations = look.config.integrations_of(group);
+    let mut reasons = Vec::with_capacity(look.alloc, integrations.len())?;
     for _ in integrations {
-        reasons.push(Reason::RouteMuted { until })?;
+        reasons.push(reason)?;
     }
     Ok(Decided {
         reasons,
-        notified: Vec::new(alloc),
+        notified: Vec::new(look.alloc),
     })
 }
 
-/// Decides for each of these integrations by its row of the log.
+/// Decides for each integration by its row of the log.
 fn decide_each(
-    alloc: Global,
-    integrations: &[Integration],
-    log: &NfLog<GroupName, Labels>,
+    look: &Look,
     group: &GroupName,
     unmuted: &UnmutedMembers,
-    repeat_interval: u64,
-    t: u64,
 ) -> Result<Decided, AllocError>
-    requires rising { AreRising (copies_of t unmuted.now) }
-    requires few { length integrations.now ≤ MAX_INTEGRATIONS }
-    requires fits { All (λ row. row.time + repeat_interval + 1 < 2 ^ 64) (log_rows log.now) }
-    ensures { IfOk result
-        (AreDecided (reason_among (log_rows log.now) group.now (alert_sets_of (copies_of t unmuted.now)) repeat_interval t)
-        (enumerate_from 0 integrations.now)) }
+    requires look { IsLook look.now }
+    requires rising { AreRising (copies_of look.now.t unmuted.now) }
+    requires some { is_nothing (alert_sets_of (copies_of look.now.t unmuted.now)) ≡ false }
+    requires route { group.now.route ≤ last_of look.now.config.now.routes }
+    ensures { IfOk result (AreDecided look.now.why
+        (reason_for look.now.config.now (state_seen look.now) group.now None (alert_sets_of (copies_of look.now.t unmuted.now)) look.now.t)
+        (integrations_of look.now.config.now group.now)) }
 {
-    let mut reasons = Vec::with_capacity(alloc, integrations.len())?;
-    let mut notified = Vec::new(alloc);
+    let route = look.config.routes.route(group.route);
+    let repeat_interval = route.repeat_interval;
+    let integrations = look.config.integrations_of(group);
+    let wanted = if look.why { integrations.len() } else { 0 };
+    let mut reasons = Vec::with_capacity(look.alloc, wanted)?;
+    let mut notified = Vec::new(look.alloc);
     let mut key = LogKey {
-        group: group.copy(alloc)?,
+        group: group.copy(look.alloc)?,
         integration: 0,
     };
     for integration in integrations {
-        let row = log.get(&key);
-        let send_resolved = integration.send_resolved;
-        let reason = reason(row, unmuted, send_resolved, repeat_interval, t);
-        reasons.push(reason)?;
-        if reason.notifies() {
-            notified.push(Update {
-                integration: key.integration,
-                send_resolved,
-            })?;
-        }
+        let row = look.state.log.get(&key);
+        let update = Update {
+            integration: key.integration,
+            send_resolved: integration.send_resolved,
+        };
+        let reason = reason(row, unmuted, update.send_resolved, repeat_interval, look.t);
+        push_if(&mut reasons, look.why, reason)?;
+        push_if(&mut notified, reason.notifies(), update)?;
         key.integration += 1;
     }
     Ok(Decided { reasons, notified })
 }
 
-/// Returns why an integration with this log row is notified, or why not.
+/// Adds an item to a list, if it is wanted there.
+fn push_if<T: Copy>(list: &mut Vec<T>, is_wanted: bool, item: T) -> Result<(), AllocError>
+    ensures { OnOk result (list.new.items ≡ list.old.items ++ (if is_wanted then item ∷ [] else [])) }
+{
+    if !is_wanted {
+        return Ok(());
+    }
+    list.push(item)?;
+    Ok(())
+}
+
+/// Returns why an integration with this log row is notified about what is unmuted, or why not.
 fn reason(
     logged: Option<&LogRow<Labels>>,
     unmuted: &UnmutedMembers,
@@ -146,13 +162,11 @@ fn reason(
     t: u64,
 ) -> Reason
     requires rising { AreRising (copies_of t unmuted.now) }
+    requires some { is_nothing (alert_sets_of (copies_of t unmuted.now)) ≡ false }
     requires fits { IfSome (option_copied logged) (λ row. row.time + repeat_interval + 1 < 2 ^ 64) }
     ensures { result
         ≡ reason_by_row (option_copied logged.entry) (alert_sets_of (copies_of t unmuted.now)) send_resolved repeat_interval t }
 {
-    if unmuted.is_empty() {
-        return Reason::NothingLeft;
-    }
     let firing = unmuted.firing.as_slice();
     let resolved = unmuted.resolved.as_slice();
     let update = update_reason(logged, firing, resolved, send_resolved, repeat_interval, t);

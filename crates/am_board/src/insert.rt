@@ -15,20 +15,20 @@
 //!
 //! An alert whose label set is known gets the known one (`with_known_labels`), which takes no
 //! memory. Its own goes, so each label set is stored once, however often its alert comes.
-ghost use Rattle.std.specs.Prelude.{◌≡◌, ℕ, ◌+◌, ◌<◌, ◌≤◌, ◌==◌, [], count_by, false, fold, is_none, length, map, position, None, All};
-ghost use Rattle.std.specs.Prelude.{IfSome, IfOk, IfErr, OnOk, MatchResult, vec_len};
+ghost use Rattle.std.specs.Prelude.{◌≡◌, ◌+◌, ◌<◌, ◌≤◌, ◌==◌, [], count_by, false, fold, is_none, length, map, position, None, All};
+ghost use Rattle.std.specs.Prelude.{IfSome, IfOk, IfErr, OnOk, vec_len};
 ghost use Rattle.am_alerts.specs.RoutingTree.{RoutingTree, last_of, routes_of};
 ghost use Rattle.am_board.specs.GroupNameCache.{AreKept};
 ghost use Rattle.am_board.specs.Group.{names_of, AreRouted, AddsAtMost, HasSpace};
 ghost use Rattle.am_model.specs.Causes.{insert_cause, is_full, is_alert_too_many};
-ghost use Rattle.am_model.specs.Records.{entry};
 ghost use Rattle.am_model.specs.Insert.{same_alert, put_into_group, names_for, after_insert};
 ghost use Rattle.am_board.specs.Refinement.{state_of, group_state};
 ghost use Rattle.am_board.specs.Marks.{is_marked, marks_of};
-ghost use Rattle.am_board.specs.Step.{MAX_CALLS, StateInvariant, AppliesCall, LeavesUnchanged, IsAnswer};
+ghost use Rattle.am_board.specs.Step.{MAX_CALLS, StateInvariant, IsAnswer};
 ghost use Rattle.std.specs.List.{IsDistinct};
 ghost use Rattle.am_board.specs.Inserting.{IsFound, AreFound, AreApart, IsToPut, index_in, target_of};
 ghost use Rattle.am_board.specs.Inserting.{IsReservedState, IsReadyFor, IsEmptyWithSpace, HaveSpace};
+ghost use Rattle.am_board.specs.Arrival.{Puts, insert_record};
 ghost use Rattle.am_board.specs.Inserting.{AreRoutedPlacements, IsPlacementOf, IsWhereToPut, name_at, stamped_alert};
 ghost use Rattle.am_model.specs.State.{MemberState, same_name};
 ghost use Rattle.am_alerts.specs.declared.limits.TheConstants.{MAX_TIME};
@@ -51,6 +51,15 @@ use am_alerts::route::Routes;
 use am_alerts::sequence::Sequence;
 use am_seed::Seed;
 use std::alloc::{AllocError, Global};
+
+/// An alert that comes, and the call that brings it.
+#[derive(Drop)]
+pub(crate) struct Arrival {
+    pub(crate) pass: u32,
+    /// The call's own time, in milliseconds.
+    pub(crate) time: u64,
+    pub(crate) alert: Alert,
+}
 
 /// A group that an alert goes to by one of its routes.
 #[derive(Drop)]
@@ -92,31 +101,37 @@ pub(crate) fn put_alert(
     config: &Config,
     state: &mut State,
     destinations: &mut GroupNameCache,
-    pass: u32,
-    now: u64,
-    alert: Alert,
+    arrival: Arrival,
 ) -> Result<Inserted, Fault>
     requires good { StateInvariant config.now state.old }
     requires kept { AreKept config.now state.old.known.items destinations.old }
-    ensures put { MatchResult result
-        (λ inserted. (insert_cause config.now (vec_len state.old.history) (state_of state.old) alert ≡ None)
-        × ((id : ℕ) → AppliesCall config.now id (entry pass (Call.Insert now alert) (Reply.Inserted inserted)) state.old state.new))
-        (λ fault. IsAnswer (insert_cause config.now (vec_len state.old.history) (state_of state.old) alert) fault
-        × LeavesUnchanged config.now state.old state.new) }
+    ensures put { Puts config.now state.old state.new arrival result }
     ensures kept { AreKept config.now state.new.known.items destinations.new }
 {
+    let Arrival { pass, time, alert } = arrival;
     let index = find_index(config, state, &alert)?;
     let alert = with_known_labels(alloc, &state.known, index, alert);
+    let arrival = Arrival { pass, time, alert };
     let kept = destinations.of(index);
-    if let Some(inserted) = put_again(alloc, config, state, index, kept, now, &alert)? {
-        state.history.push_reserved(Record {
-            pass,
-            call: Call::Insert { now, alert },
-            reply: Reply::Inserted(inserted),
-        });
+    if let Some(inserted) = put_again(alloc, config, state, index, kept, &arrival)? {
+        state.history.push_reserved(record_of(arrival, inserted));
         return Ok(inserted);
     }
-    put_routed(alloc, config, state, destinations, index, pass, now, alert)
+    put_routed(alloc, config, state, destinations, index, arrival)
+}
+
+/// The record of an accepted insert.
+fn record_of(arrival: Arrival, inserted: Inserted) -> Record
+    ensures { result ≡ insert_record arrival inserted }
+{
+    Record {
+        pass: arrival.pass,
+        call: Call::Insert {
+            now: arrival.time,
+            alert: arrival.alert,
+        },
+        reply: Reply::Inserted(inserted),
+    }
 }
 
 /// Adds an alert to the known ones and to the groups of its routes, which are looked for first, and
@@ -127,30 +142,25 @@ fn put_routed(
     state: &mut State,
     destinations: &mut GroupNameCache,
     index: Option<usize>,
-    pass: u32,
-    now: u64,
-    alert: Alert,
+    arrival: Arrival,
 ) -> Result<Inserted, Fault>
     requires good { StateInvariant config.now state.old }
     requires kept { AreKept config.now state.old.known.items destinations.old }
-    requires index { index ≡ position (same_alert alert) state.old.known.items }
+    requires index { index ≡ position (same_alert arrival.alert) state.old.known.items }
     requires within { IfSome index (λ i. i < length state.old.known.items) }
     requires space { is_full config.now (vec_len state.old.history) (state_of state.old) 1 ≡ false }
-    requires names { is_alert_too_many config.now (state_of state.old) alert ≡ false }
-    ensures put { MatchResult result
-        (λ inserted. (insert_cause config.now (vec_len state.old.history) (state_of state.old) alert ≡ None)
-        × ((id : ℕ) → AppliesCall config.now id (entry pass (Call.Insert now alert) (Reply.Inserted inserted)) state.old state.new))
-        (λ fault. IsAnswer (insert_cause config.now (vec_len state.old.history) (state_of state.old) alert) fault
-        × LeavesUnchanged config.now state.old state.new) }
+    requires names { is_alert_too_many config.now (state_of state.old) arrival.alert ≡ false }
+    ensures put { Puts config.now state.old state.new arrival result }
     ensures kept { AreKept config.now state.new.known.items destinations.new }
 {
     let kept = destinations.of(index);
     let stamp = state.inserts + 1;
-    let placements = find_placements(alloc, config, &state.groups, kept, &alert, stamp)?;
+    let alert = &arrival.alert;
+    let placements = find_placements(alloc, config, &state.groups, kept, alert, stamp)?;
     let names = new_names(alloc, kept, placements.as_slice());
     let number = index.unwrap_or(state.known.len());
     let found = Found { index, placements };
-    let inserted = put_found(alloc, config, state, found, pass, now, alert);
+    let inserted = put_found(alloc, config, state, found, arrival);
     if inserted.is_ok() {
         destinations.keep(number, names);
     }
@@ -180,27 +190,21 @@ fn put_found(
     config: &Config,
     state: &mut State,
     found: Found,
-    pass: u32,
-    now: u64,
-    alert: Alert,
+    arrival: Arrival,
 ) -> Result<Inserted, Fault>
     requires good { StateInvariant config.now state.old }
-    requires found { IsWhereToPut config.now state.old alert found }
-    ensures { MatchResult result
-        (λ inserted. (insert_cause config.now (vec_len state.old.history) (state_of state.old) alert ≡ None)
-        × ((id : ℕ) → AppliesCall config.now id (entry pass (Call.Insert now alert) (Reply.Inserted inserted)) state.old state.new))
-        (λ fault. IsAnswer (insert_cause config.now (vec_len state.old.history) (state_of state.old) alert) fault
-        × LeavesUnchanged config.now state.old state.new) }
+    requires found { IsWhereToPut config.now state.old arrival.alert found }
+    ensures { Puts config.now state.old state.new arrival result }
 {
     let Found { index, placements } = found;
-    let t = state.time(now);
+    let t = state.time(arrival.time);
     let stamp = state.inserts + 1;
     let made = count_missing(placements.as_slice());
     if state.groups.len() + made > config.limits.groups {
         return Err(Fault::TooManyGroups);
     }
-    let labels = alert.labels().copy(alloc)?;
-    let copy = alert.copy(alloc)?;
+    let labels = arrival.alert.labels().copy(alloc)?;
+    let copy = arrival.alert.copy(alloc)?;
     reserve_insert(state, placements.as_slice())?;
 
     let inserted = Inserted {
@@ -209,9 +213,8 @@ fn put_found(
         made,
     };
     put_prepared(state, t, index, labels, copy, placements);
-    let call = Call::Insert { now, alert };
-    let reply = Reply::Inserted(inserted);
-    state.history.push_reserved(Record { pass, call, reply });
+    let record = record_of(arrival, inserted);
+    state.history.push_reserved(record);
     Ok(inserted)
 }
 

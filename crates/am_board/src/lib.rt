@@ -3,14 +3,14 @@
 //! The definitions are those of `am_model`; this crate has none of its own of what a call replies.
 //! Its modules:
 //!
-//! - `board`, `history`, `ticket`, `preview`, `previewed`, `status`, `views`, `logged`, `fault`: the public
-//!   calls and types.
+//! - `board`, `history`, `ticket`, `preview`, `status`, `views`, `logged`, `fault`: the public calls and
+//!   types.
 //! - `state`, `known`, `groups`, `group`, `members`, `silences`, `flush`: the stored state. Contracts see the
 //!   tables as plain lists in the order of arrival, with their capacity.
 //! - `due`, `order`, `noted`, `unsilenced`, `destinations`: indexes and caches, which only save time. No contract above
 //!   them mentions them.
-//! - `insert` (with `again`), `silence`, `begin` (with `walk`, `unmuted`, `dedup`, `plan`), `note`, `finish`,
-//!   `maintain`, `forget`, `load`: one module for each call, named after it.
+//! - `insert` (with `again`), `silence`, `begin` (with `look`, `found`, `walk`, `unmuted`, `dedup`, `plan`),
+//!   `note`, `finish`, `maintain`, `forget`, `load`: one module for each call, named after it.
 //!
 //! Each module of a call has one function over the plain state with the exact contract. It relies
 //! on `StateInvariant` and ensures `AppliesCall` or `LeavesUnchanged` (specs/Step.antt). The
@@ -30,6 +30,7 @@ pub mod fault;
 mod finish;
 mod flush;
 mod forget;
+mod found;
 pub mod group;
 mod groups;
 pub mod history;
@@ -37,6 +38,7 @@ mod insert;
 mod known;
 mod load;
 mod logged;
+mod look;
 mod maintain;
 mod members;
 mod note;
@@ -45,7 +47,6 @@ mod order;
 pub mod own_ticket;
 mod plan;
 pub mod preview;
-pub mod previewed;
 mod silence;
 mod silences;
 mod state;

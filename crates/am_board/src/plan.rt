@@ -1,38 +1,32 @@
-//! The flush to open: all that its begin puts into the board and its ticket. `plan` finds whom to
-//! notify, `plan_notifying` is given it.
+//! The flush to open: all that its begin puts into the board and its ticket.
 //!
 //! Copies are made only where an integration is to be notified. The label sets are made once then:
 //! the open flush and each notified integration share them, so a note or the finish moves them into
 //! the log and never allocates.
-ghost use Rattle.std.specs.Prelude.{◌≡◌, ◌<◌, ◌≤◌, All, IfOk, length, map, slice_index_or};
+ghost use Rattle.std.specs.Prelude.{◌≡◌, ◌≤◌, IfOk, map};
 ghost use Rattle.std.specs.List.{IsDistinct};
-ghost use Rattle.std.specs.VecDeque.{deque_len};
-ghost use Rattle.am_mute.specs.Sources.{AreLearnt};
 ghost use Rattle.am_alerts.specs.RoutingTree.{last_of};
 ghost use Rattle.am_model.specs.Begin.{notified_of};
-ghost use Rattle.am_model.specs.Configured.{HaveFewIntegrations};
-ghost use Rattle.am_board.specs.Beginning.{AreRising, IsFlushNotifying, IsUnmuted, alert_sets_of, notified_for_update};
-ghost use Rattle.am_board.specs.Beginning.{update_of, notice_of_update, IsPlannedFlush, IsPlan, copies_of};
 ghost use Rattle.am_model.specs.Insert.{same_member};
-ghost use Rattle.am_board.specs.LogRows.{log_rows};
-ghost use Rattle.am_board.specs.Refinement.{state_of, group_state};
-ghost use Rattle.am_board.specs.Step.{StateInvariant};
+ghost use Rattle.am_board.specs.Beginning.{AreRising, IsFlushNotifying, IsPlannedFlush, IsUnmuted, alert_sets_of};
+ghost use Rattle.am_board.specs.Beginning.{notice_of_update, notified_for_update, update_of};
+ghost use Rattle.am_board.specs.Found.{Finds, Plans, PlansShown};
+ghost use Rattle.am_board.specs.Look.{IsLook, state_seen};
+ghost use Rattle.am_board.specs.Refinement.{group_state};
 
-use crate::begin::{ChosenGroup, MIN_FLUSH_TIMEOUT};
-use crate::config::Config;
-use crate::dedup::{Update, decide};
+use crate::begin::MIN_FLUSH_TIMEOUT;
+use crate::dedup::Update;
 use crate::fault::Fault;
 use crate::flush::{AlertSets, Notified, OpenFlush};
+use crate::found::Found;
 use crate::group::{Group, GroupName};
+use crate::look::Look;
 use crate::notice::{MAX_DEADLINE, Notice};
 use crate::record::Opened;
-use crate::state::State;
-use crate::unmuted::{Unmuted, UnmutedMembers, leaving_at};
-use crate::walk::Walk;
-use am_alerts::limits::MAX_TIME;
+use crate::unmuted::{Unmuted, leaving_at};
 use am_alerts::sequence::copy_all;
 use am_model::boxed::Boxed;
-use am_mute::sources::Sources;
+use am_model::preview::Preview;
 use am_nflog::LogKey;
 use am_retry::Outcome;
 use std::alloc::{AllocError, Global};
@@ -52,117 +46,86 @@ pub(crate) struct PlannedFlush {
     pub(crate) recorded: Boxed<Opened>,
 }
 
-/// Returns the flush that a begin opens, unless no integration needs an update.
+/// What is to be done with the group that a begin takes: the flush to open, unless no integration
+/// needs an update, and what is shown, if it is wanted why.
 pub(crate) fn plan(
-    alloc: Global,
-    config: &Config,
+    look: &Look,
     id: u64,
-    state: &State,
-    sources: &Sources,
-    chosen: ChosenGroup,
-) -> Result<Option<PlannedFlush>, Fault>
-    requires good { StateInvariant config.now state.now }
-    requires sources { AreLearnt config.now.rules state.now.known.items sources.now }
-    requires times { All (λ row. row.time ≤ MAX_TIME) (log_rows state.now.log) }
-    requires index { chosen.index < length state.now.groups.items }
-    requires time { chosen.t ≤ MAX_TIME }
-    ensures { (d : Group) → IsPlan config.now id (deque_len state.now.flushes) (state_of state.now) chosen.t
-        (group_state (slice_index_or state.now.groups.items chosen.index d)) result }
-{
-    let group = state.groups.at(chosen.index);
-    plan_of(alloc, config, id, state, sources, group, chosen.t)
-}
-
-/// Returns the flush of a group that a begin at `t` opens, unless no integration needs an update.
-fn plan_of(
-    alloc: Global,
-    config: &Config,
-    id: u64,
-    state: &State,
-    sources: &Sources,
     group: &Group,
-    t: u64,
-) -> Result<Option<PlannedFlush>, Fault>
-    requires sources { AreLearnt config.now.rules state.now.known.items sources.now }
-    requires route { group.now.name.route ≤ last_of config.now.routes }
-    requires few { HaveFewIntegrations config.now }
+) -> Result<(Option<PlannedFlush>, Option<Preview>), Fault>
+    requires look { IsLook look.now }
+    requires route { group.now.name.route ≤ last_of look.now.config.now.routes }
     requires apart { IsDistinct same_member (group_state group.now).members }
-    requires times { All (λ row. row.time ≤ MAX_TIME) (log_rows state.now.log) }
-    requires time { t ≤ MAX_TIME }
-    ensures { IsPlan config.now id (deque_len state.now.flushes) (state_of state.now) t (group_state group.now) result }
+    ensures { PlansShown look.now id (group_state group.now) result }
 {
-    if config.route_muted(&group.name, t).is_some() {
-        return Ok(None);
-    }
-    let rules = config.rules.as_slice();
-    let members = &group.members;
-    let walk = Walk::over(alloc, rules, state, sources, members, false, t)?;
-    let unmuted = walk.into_unmuted();
-    if unmuted.is_empty() {
-        return Ok(None);
-    }
-    let decided = decide(alloc, config, state, &group.name, None, &unmuted, t)?;
-    let notified = decided.notified.as_slice();
-    plan_notifying(alloc, config, id, state, group, &unmuted, notified, t)
+    let found = Found::of(look, group)?;
+    let planned = plan_found(look, id, group, &found)?;
+    Ok((planned, found.preview))
 }
 
-/// Returns the flush of a group at `t` that notifies these integrations about what is unmuted, if
-/// there are any.
-pub(crate) fn plan_notifying(
-    alloc: Global,
-    config: &Config,
+/// Returns the flush of a group in which this is found, unless no integration needs an update.
+fn plan_found(
+    look: &Look,
     id: u64,
-    state: &State,
     group: &Group,
-    unmuted: &UnmutedMembers,
-    notified: &[Update],
-    t: u64,
+    found: &Found,
 ) -> Result<Option<PlannedFlush>, Fault>
-    requires route { group.now.name.route ≤ last_of config.now.routes }
-    requires time { t ≤ MAX_TIME }
-    requires rising { AreRising (copies_of t unmuted.now) }
-    requires unmuted { IsUnmuted config.now (state_of state.now) t (group_state group.now) (copies_of t unmuted.now) }
-    requires notified { notified.now ≡ map update_of (notified_of config.now (state_of state.now) t (group_state group.now)) }
-    ensures { IsPlan config.now id (deque_len state.now.flushes) (state_of state.now) t (group_state group.now) result }
+    requires look { IsLook look.now }
+    requires route { group.now.name.route ≤ last_of look.now.config.now.routes }
+    requires found { Finds look.now (group_state group.now) found.now }
+    ensures { Plans look.now id (group_state group.now) result }
 {
+    let notified = found.notified.as_slice();
     if notified.is_empty() {
         return Ok(None);
     }
-    if state.flushes.len() >= config.limits.flushes {
+    if look.state.flushes.len() >= look.config.limits.flushes {
         return Err(Fault::TooManyOpen);
     }
-    let copies = unmuted.copies(alloc, t)?;
-    let planned = open(alloc, config, id, state, group, &copies, notified, t)?;
+    let copies = found.unmuted.copies(look.alloc, look.t)?;
+    let planned = open(look, id, group, &copies, notified)?;
     Ok(Some(planned))
 }
 
-/// Returns the flush to open of a group at `t`, for these integrations.
+/// Returns the flush to open of a group, for these integrations.
 fn open(
-    alloc: Global,
-    config: &Config,
+    look: &Look,
     id: u64,
-    state: &State,
     group: &Group,
     unmuted: &Unmuted,
     notified: &[Update],
-    t: u64,
 ) -> Result<PlannedFlush, AllocError>
-    requires route { group.now.name.route ≤ last_of config.now.routes }
-    requires time { t ≤ MAX_TIME }
+    requires look { IsLook look.now }
+    requires route { group.now.name.route ≤ last_of look.now.config.now.routes }
     requires rising { AreRising unmuted.now }
-    requires unmuted { IsUnmuted config.now (state_of state.now) t (group_state group.now) unmuted.now }
-    requires notified { notified.now ≡ map update_of (notified_of config.now (state_of state.now) t (group_state group.now)) }
-    ensures { IfOk result (IsPlannedFlush config.now id (state_of state.now) t (group_state group.now)) }
+    requires unmuted { IsUnmuted look.now.config.now (state_seen look.now) look.now.t (group_state group.now) unmuted.now }
+    requires notified { notified.now
+        ≡ map update_of (notified_of look.now.config.now (state_seen look.now) look.now.t (group_state group.now)) }
+    ensures { IfOk result (IsPlannedFlush look.now.config.now id (state_seen look.now) look.now.t (group_state group.now)) }
 {
-    let number = state.next_number;
-    let route = config.routes.route(group.name.route);
-    let deadline = t.saturating_add(route.group_interval.max(MIN_FLUSH_TIMEOUT));
-    let kept_for = config
+    let alloc = look.alloc;
+    let number = look.state.next_number;
+    let route = look.config.routes.route(group.name.route);
+    let interval = route.group_interval.max(MIN_FLUSH_TIMEOUT);
+    let deadline = look.t.saturating_add(interval);
+    let kept_for = look
+        .config
         .retention
         .min(route.repeat_interval.saturating_mul(2));
-    let notices = notices(alloc, id, number, deadline, &group.name, unmuted, notified)?;
+    let opening = Opening {
+        alloc,
+        board_id: id,
+        number,
+        deadline,
+        kept_for,
+        group,
+        unmuted,
+        notified,
+        t: look.t,
+    };
+    let notices = opening.notices()?;
     Ok(PlannedFlush {
-        flush: flush_of(alloc, number, kept_for, group, unmuted, notified, t)?,
+        flush: opening.flush()?,
         number,
         deadline,
         group: group.name.copy(alloc)?,
@@ -193,80 +156,78 @@ fn recorded(
     )
 }
 
-/// Returns the open flush of a group at `t`, with the label sets that these integrations share.
-fn flush_of(
-    alloc: Global,
-    number: u64,
-    kept_for: u64,
-    group: &Group,
-    unmuted: &Unmuted,
-    notified: &[Update],
-    t: u64,
-) -> Result<OpenFlush, AllocError>
-    requires { AreRising unmuted.now }
-    ensures { IfOk result (IsFlushNotifying number kept_for group.now unmuted.now notified.now t) }
-{
-    let sets = unmuted.sets(alloc)?;
-    Ok(OpenFlush {
-        number,
-        group: group.name.copy(alloc)?,
-        kept_for,
-        notified: notified_by(alloc, &group.name, unmuted, &sets, notified)?,
-        sets,
-        leaving: leaving_at(alloc, group.members.as_slice(), t)?,
-    })
-}
-
-/// Returns a notice for each integration that needs an update.
-fn notices(
+/// A flush that is opened: of which group, when, and whom it notifies of what.
+#[derive(Clone, Copy)]
+struct Opening<'b> {
     alloc: Global,
     board_id: u64,
-    ticket: u64,
+    number: u64,
     deadline: u64,
-    group: &GroupName,
-    unmuted: &Unmuted,
-    notified: &[Update],
-) -> Result<Vec<Notice>, AllocError>
-    requires { deadline ≤ MAX_DEADLINE }
-    ensures items { IfOk result (λ notices. notices.items ≡
-        map (notice_of_update board_id ticket deadline group.now unmuted.now) notified.now) }
-{
-    let mut notices = Vec::with_capacity(alloc, notified.len())?;
-    for update in notified {
-        notices.push(Notice {
-            board_id,
-            ticket,
-            deadline,
-            group: group.copy(alloc)?,
-            integration: update.integration,
-            firing: unmuted.firing.copy(alloc)?,
-            resolved: unmuted.sent(alloc, update.send_resolved)?,
-        })?;
-    }
-    Ok(notices)
+    /// How long its rows stay in the log, in milliseconds.
+    kept_for: u64,
+    group: &'b Group,
+    unmuted: &'b Unmuted,
+    notified: &'b [Update],
+    t: u64,
 }
 
-/// Returns the integrations of a flush, each with what its log row will have.
-fn notified_by(
-    alloc: Global,
-    group: &GroupName,
-    unmuted: &Unmuted,
-    sets: &AlertSets,
-    notified: &[Update],
-) -> Result<Vec<Notified>, AllocError>
-    requires sets { sets.now ≡ alert_sets_of unmuted.now }
-    ensures { IfOk result (λ all. all.items ≡ map (notified_for_update group.now unmuted.now) notified.now) }
-{
-    let mut all = Vec::with_capacity(alloc, notified.len())?;
-    for update in notified {
-        all.push(Notified {
-            key: LogKey {
-                group: group.copy(alloc)?,
-                integration: update.integration,
-            },
-            nothing: unmuted.is_nothing(update.send_resolved),
-            sets: Some(sets.share()?),
-        })?;
+impl<'b> Opening<'b> {
+    /// Returns the open flush, with the label sets that its integrations share.
+    fn flush(&self) -> Result<OpenFlush, AllocError>
+        requires { AreRising self.now.unmuted.now }
+        ensures { IfOk result (IsFlushNotifying self.now.number self.now.kept_for self.now.group.now self.now.unmuted.now
+            self.now.notified.now self.now.t) }
+    {
+        let sets = self.unmuted.sets(self.alloc)?;
+        Ok(OpenFlush {
+            number: self.number,
+            group: self.group.name.copy(self.alloc)?,
+            kept_for: self.kept_for,
+            notified: self.notified_with(&sets)?,
+            sets,
+            leaving: leaving_at(self.alloc, self.group.members.as_slice(), self.t)?,
+        })
     }
-    Ok(all)
+
+    /// Returns a notice for each integration that needs an update.
+    fn notices(&self) -> Result<Vec<Notice>, AllocError>
+        requires { self.now.deadline ≤ MAX_DEADLINE }
+        ensures items { IfOk result (λ notices. notices.items
+            ≡ map (notice_of_update self.now.board_id self.now.number self.now.deadline self.now.group.now.name self.now.unmuted.now)
+            self.now.notified.now) }
+    {
+        let mut notices = Vec::with_capacity(self.alloc, self.notified.len())?;
+        for update in self.notified {
+            notices.push(Notice {
+                board_id: self.board_id,
+                ticket: self.number,
+                deadline: self.deadline,
+                group: self.group.name.copy(self.alloc)?,
+                integration: update.integration,
+                firing: self.unmuted.firing.copy(self.alloc)?,
+                resolved: self.unmuted.sent(self.alloc, update.send_resolved)?,
+            })?;
+        }
+        Ok(notices)
+    }
+
+    /// Returns the integrations of the flush, each with what its log row will have.
+    fn notified_with(&self, sets: &AlertSets) -> Result<Vec<Notified>, AllocError>
+        requires sets { sets.now ≡ alert_sets_of self.now.unmuted.now }
+        ensures { IfOk result (λ all. all.items
+            ≡ map (notified_for_update self.now.group.now.name self.now.unmuted.now) self.now.notified.now) }
+    {
+        let mut all = Vec::with_capacity(self.alloc, self.notified.len())?;
+        for update in self.notified {
+            all.push(Notified {
+                key: LogKey {
+                    group: self.group.name.copy(self.alloc)?,
+                    integration: update.integration,
+                },
+                nothing: self.unmuted.is_nothing(update.send_resolved),
+                sets: Some(sets.share()?),
+            })?;
+        }
+        Ok(all)
+    }
 }

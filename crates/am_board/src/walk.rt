@@ -8,30 +8,27 @@ ghost use Rattle.std.specs.Prelude.{◌≡◌, ◌++◌, [], false, true, IfOk, 
 ghost use Rattle.std.specs.List.{IsDistinct, cons_option, filter_map};
 ghost use Rattle.am_mute.specs.Mute.{is_muted, mute_cause_of};
 ghost use Rattle.am_mute.specs.Silence.{is_silenced};
-ghost use Rattle.am_mute.specs.Sources.{AreLearnt};
 ghost use Rattle.am_mute.specs.declared.mute.MuteCause.{MuteCause};
 ghost use Rattle.am_model.specs.Insert.{same_member};
 ghost use Rattle.am_board.specs.Beginning.{copies_at};
+ghost use Rattle.am_board.specs.Look.{IsLook};
 ghost use Rattle.am_board.specs.Members.{labels_of};
 ghost use Rattle.am_board.specs.Order.{indexes_in_order};
-ghost use Rattle.am_board.specs.Refinement.{member_state, state_of};
-ghost use Rattle.am_board.specs.Walk.{AreFound, IsWalk, alert_there, cause_of, firing_if, listed_if, muted_at, muted_if};
+ghost use Rattle.am_board.specs.Refinement.{member_state};
+ghost use Rattle.am_board.specs.Walk.{AreSeen, IsWalk, alert_there, cause_seen, firing_if, listed_if, muted_at, muted_if};
 ghost use Rattle.am_board.specs.Walk.{muted_member, resolved_if};
 ghost use Rattle.am_board.specs.declared.group.Member.{Member};
 
 use crate::group::Member;
+use crate::look::Look;
 use crate::members::Members;
 use crate::order::{indexes_in_order, member_at};
 use crate::silences::NotedSilences;
-use crate::state::State;
-use crate::unmuted::UnmutedMembers;
 use crate::unsilenced::NotedIndex;
 use am_alerts::labels::Labels;
 use am_alerts::sequence::Sequence;
 use am_model::preview::MutedAlert;
-use am_mute::inhibit::InhibitRule;
 use am_mute::mute::{MuteCause, mute_cause_under, mute_cause_with, muted_under, muted_with};
-use am_mute::sources::Sources;
 use std::alloc::{AllocError, Global};
 
 /// A muted alert of a group: its index among the alerts, and what mutes it.
@@ -51,47 +48,19 @@ pub(crate) struct Walk<'m> {
 }
 
 impl<'m> Walk<'m> {
-    /// Finds what the alerts of a group are at `t`. The muted ones are left out if causes aren't wanted.
-    pub(crate) fn over(
-        alloc: Global,
-        rules: &[InhibitRule],
-        state: &State,
-        sources: &Sources,
-        members: &'m Members,
-        wants_causes: bool,
-        t: u64,
-    ) -> Result<Walk<'m>, AllocError>
-        requires sources { AreLearnt rules.now state.now.known.items sources.now }
+    /// Finds what the alerts of a group are. The muted ones are left out if it isn't wanted why.
+    pub(crate) fn over(look: &Look, members: &'m Members) -> Result<Walk<'m>, AllocError>
+        requires look { IsLook look.now }
         requires apart { IsDistinct same_member (map member_state members.now.items) }
-        ensures { IfOk result (IsWalk rules.now (state_of state.now) t members.now.items wants_causes) }
+        ensures { IfOk result (IsWalk look.now members.now.items) }
     {
         let all = members.as_slice();
         let noted = members.noted();
         match members.indexes() {
-            Some(indexes) => walk_indexes(
-                alloc,
-                rules,
-                state,
-                sources,
-                all,
-                indexes,
-                noted,
-                wants_causes,
-                t,
-            ),
+            Some(indexes) => walk_indexes(look, all, indexes, noted),
             None => {
-                let indexes = indexes_in_order(alloc, all)?;
-                walk_indexes(
-                    alloc,
-                    rules,
-                    state,
-                    sources,
-                    all,
-                    indexes.as_slice(),
-                    noted,
-                    wants_causes,
-                    t,
-                )
+                let indexes = indexes_in_order(look.alloc, all)?;
+                walk_indexes(look, all, indexes.as_slice(), noted)
             }
         }
     }
@@ -99,34 +68,28 @@ impl<'m> Walk<'m> {
     /// Finds what mutes the alert at an index, if anything does, and adds it.
     fn visit(
         &mut self,
-        alloc: Global,
-        rules: &[InhibitRule],
-        state: &State,
-        sources: &Sources,
+        look: &Look,
         index: usize,
         member: &'m Member,
         noted: &mut NotedIndex,
-        wants_causes: bool,
-        t: u64,
     ) -> Result<(), AllocError>
-        requires { AreLearnt rules.now state.now.known.items sources.now }
-        ensures firing { OnOk result (copies_at t self.new.firing.items
-            ≡ copies_at t self.old.firing.items ++ firing_if t member.now.alert (cause_of rules.now (state_of state.now) t member.now)) }
-        ensures resolved { OnOk result (copies_at t self.new.resolved.items
-            ≡ copies_at t self.old.resolved.items
-            ++ resolved_if t member.now.alert (cause_of rules.now (state_of state.now) t member.now)) }
+        requires { IsLook look.now }
+        ensures firing { OnOk result (copies_at look.now.t self.new.firing.items
+            ≡ copies_at look.now.t self.old.firing.items ++ firing_if look.now.t member.now.alert (cause_seen look.now member.now)) }
+        ensures resolved { OnOk result (copies_at look.now.t self.new.resolved.items
+            ≡ copies_at look.now.t self.old.resolved.items ++ resolved_if look.now.t member.now.alert (cause_seen look.now member.now)) }
         ensures muted { OnOk result (self.new.muted.items
-            ≡ self.old.muted.items ++ listed_if wants_causes index (cause_of rules.now (state_of state.now) t member.now)) }
+            ≡ self.old.muted.items ++ listed_if look.now.why index (cause_seen look.now member.now)) }
     {
         let labels = member.alert.labels();
-        if wants_causes {
-            let cause = mute_cause(alloc, rules, state, sources, labels, noted, t)?;
-            return self.add(index, member, cause, t);
+        if look.why {
+            let cause = mute_cause(look, labels, noted)?;
+            return self.add(index, member, cause, look.t);
         }
-        if is_muted(alloc, rules, state, sources, labels, noted, t)? {
+        if is_muted(look, labels, noted)? {
             return Ok(());
         }
-        self.add(index, member, None, t)
+        self.add(index, member, None, look.t)
     }
 
     /// Adds the alert at an index, which this mutes, if anything does.
@@ -152,104 +115,86 @@ impl<'m> Walk<'m> {
         }
         Ok(())
     }
-
-    /// The alerts that aren't muted.
-    pub(crate) fn into_unmuted(self) -> UnmutedMembers<'m>
-        ensures firing { result.firing ≡ self.entry.firing }
-        ensures resolved { result.resolved ≡ self.entry.resolved }
-    {
-        UnmutedMembers {
-            firing: self.firing,
-            resolved: self.resolved,
-        }
-    }
 }
 
 /// Walks over the alerts at these indexes.
 fn walk_indexes<'m>(
-    alloc: Global,
-    rules: &[InhibitRule],
-    state: &State,
-    sources: &Sources,
+    look: &Look,
     members: &'m [Member],
     indexes: &[usize],
     noted: NotedIndex,
-    wants_causes: bool,
-    t: u64,
 ) -> Result<Walk<'m>, AllocError>
-    requires { AreLearnt rules.now state.now.known.items sources.now }
-    ensures { IfOk result (AreFound rules.now (state_of state.now) t members.now indexes.now wants_causes) }
+    requires { IsLook look.now }
+    ensures { IfOk result (AreSeen look.now members.now indexes.now) }
 {
     let mut walk = Walk {
-        firing: Vec::with_capacity(alloc, indexes.len())?,
-        resolved: Vec::new(alloc),
-        muted: Vec::new(alloc),
+        firing: Vec::with_capacity(look.alloc, indexes.len())?,
+        resolved: Vec::new(look.alloc),
+        muted: Vec::new(look.alloc),
     };
     let mut noted = noted;
     for index in indexes {
         if let Some(member) = member_at(members, *index) {
-            walk.visit(
-                alloc,
-                rules,
-                state,
-                sources,
-                *index,
-                member,
-                &mut noted,
-                wants_causes,
-                t,
-            )?;
+            walk.visit(look, *index, member, &mut noted)?;
         }
     }
     Ok(walk)
 }
 
-/// What mutes a label set at `t`, if anything does.
+/// What mutes a label set, if anything does.
 ///
 /// If it is noted at an index that no silence mutes it, none is looked at.
 fn mute_cause(
-    alloc: Global,
-    rules: &[InhibitRule],
-    state: &State,
-    sources: &Sources,
+    look: &Look,
     labels: &Labels,
     noted: &mut NotedIndex,
-    t: u64,
 ) -> Result<Option<MuteCause>, AllocError>
-    requires { AreLearnt rules.now state.now.known.items sources.now }
-    ensures { IfOk result (λ cause.
-        cause ≡ mute_cause_of labels.now t state.now.silences.items rules.now state.now.known.items) }
+    requires { IsLook look.now }
+    ensures { IfOk result (λ cause. cause
+        ≡ mute_cause_of labels.now look.now.t look.now.state.now.silences.items look.now.config.now.rules look.now.state.now.known.items) }
 {
-    let known = state.known.as_slice();
-    if is_unsilenced(&state.silences, labels, noted, t) {
-        return mute_cause_with(alloc, labels, t, &[], rules, known, sources);
+    let rules = look.config.rules.as_slice();
+    let known = look.state.known.as_slice();
+    let silences = &look.state.silences;
+    if is_unsilenced(silences, labels, noted, look.t) {
+        return mute_cause_with(look.alloc, labels, look.t, &[], rules, known, look.sources);
     }
-    let silences = state.silences.all();
-    mute_cause_under(alloc, labels, t, silences, rules, known, sources)
+    let silences = silences.all();
+    mute_cause_under(
+        look.alloc,
+        labels,
+        look.t,
+        silences,
+        rules,
+        known,
+        look.sources,
+    )
 }
 
-/// Whether a label set is muted at `t`. This stops at the first silence that is found.
+/// Whether a label set is muted. This stops at the first silence that is found.
 ///
 /// If it is noted at an index that no silence mutes it, none is looked at.
-fn is_muted(
-    alloc: Global,
-    rules: &[InhibitRule],
-    state: &State,
-    sources: &Sources,
-    labels: &Labels,
-    noted: &mut NotedIndex,
-    t: u64,
-) -> Result<bool, AllocError>
-    requires { AreLearnt rules.now state.now.known.items sources.now }
-    ensures { IfOk result (λ muted.
-        muted ≡ is_muted labels.now t state.now.silences.items rules.now state.now.known.items) }
+fn is_muted(look: &Look, labels: &Labels, noted: &mut NotedIndex) -> Result<bool, AllocError>
+    requires { IsLook look.now }
+    ensures { IfOk result (λ muted. muted
+        ≡ is_muted labels.now look.now.t look.now.state.now.silences.items look.now.config.now.rules look.now.state.now.known.items) }
 {
-    let known = state.known.as_slice();
-    if is_unsilenced(&state.silences, labels, noted, t) {
-        return muted_with(alloc, labels, t, &[], rules, known, sources);
+    let rules = look.config.rules.as_slice();
+    let known = look.state.known.as_slice();
+    let silences = &look.state.silences;
+    if is_unsilenced(silences, labels, noted, look.t) {
+        return muted_with(look.alloc, labels, look.t, &[], rules, known, look.sources);
     }
-    let silences = state.silences.all();
-    muted_under(alloc, labels, t, silences, rules, known, sources)
+    let silences = silences.all();
+    muted_under(
+        look.alloc,
+        labels,
+        look.t,
+        silences,
+        rules,
+        known,
+        look.sources,
+    )
 }
 
 /// Whether it is known without a look-up that no silence mutes a label set at `t`.

@@ -14,7 +14,7 @@ pub replace-requires-clause-member : goal.replace-requires-clause-member
 replace-requires-clause-member t c =
     let old : GroupList = c.args.groups.now in
     let mid : GroupList = c.put_in_each.new.groups in
-    let put = is_put c.args.config.now c.args.t (stamped_alert c.args.alert.now c.args.stamp) c.in-Some.names.now old mid c.in_ok-put_in_each.field-0 c.if-not-branch.false c.in_ok-put_in_each.ensures in
+    let put = is_put c.args.config.now c.args.written.now.t (stamped_alert c.args.written.now.alert.now c.args.written.now.stamp) c.in-Some.names.now old mid c.in_ok-put_in_each.field-0 c.if-not-branch.false c.in_ok-put_in_each.ensures in
     let found = c.in-Some-spot.ensures in
     let same = c.labels.ensures.labels ∙ ap (λ (a : AlertData). a.labels) (sym c.in_ok-copy.ensures) in
     subst (λ ls. HasAt ls c.in-Some-spot.spot mid.items) same
@@ -26,8 +26,8 @@ returns t c =
     let old : GroupList = c.args.groups.now in
     let mid : GroupList = c.put_in_each.new.groups in
     let new : GroupList = c.replace.new.self in
-    let m : MemberState = stamped_alert c.args.alert.now c.args.stamp in
-    let put = is_put config c.args.t m c.in-Some.names.now old mid c.in_ok-put_in_each.field-0 c.if-not-branch.false c.in_ok-put_in_each.ensures in
-    let group = subst (λ (a : AlertData). Changes (Gets (stamped_alert a c.args.stamp) c.route.result.now.group_wait c.args.t) c.in-Some-spot.spot.group mid new) c.in_ok-copy.ensures c.replace.ensures.group in
-    put_one_more config c.args.t m old mid new c.in-Some.names.now c.in-Some.name.now c.labels.result.now c.in-Some-spot.spot c.route.result.now.group_wait
+    let m : MemberState = stamped_alert c.args.written.now.alert.now c.args.written.now.stamp in
+    let put = is_put config c.args.written.now.t m c.in-Some.names.now old mid c.in_ok-put_in_each.field-0 c.if-not-branch.false c.in_ok-put_in_each.ensures in
+    let group = subst (λ (a : AlertData). Changes (Gets (stamped_alert a c.args.written.now.stamp) c.route.result.now.group_wait c.args.written.now.t) c.in-Some-spot.spot.group mid new) c.in_ok-copy.ensures c.replace.ensures.group in
+    put_one_more config c.args.written.now.t m old mid new c.in-Some.names.now c.in-Some.name.now c.labels.result.now c.in-Some-spot.spot c.route.result.now.group_wait
     put c.in-Some-spot.ensures group c.replace.ensures.labels (ap (λ (r : Route). r.group_wait) c.route.ensures.route) c.args.names.now c.in-Some.ensures.cases.0

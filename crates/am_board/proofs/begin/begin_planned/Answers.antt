@@ -19,11 +19,11 @@ begin_flush-requires-clause-few c = subst (λ (o : Option PlannedFlush). IfSome 
 pub returns-in-None : goal.returns-in-None
 returns-in-None c config g good takes plan =
     let s = c.args.state.now in
-    c.begin_quiet.ensures config c.args.id g good takes
-    (subst (λ (o : Option PlannedFlush). IsPlan config c.args.id (deque_len s.flushes) (state_of s) c.args.chosen.t (group_state g) (Ok o)) c.in-None.is plan)
+    c.begin_quiet.ensures config g good takes
+    (subst (λ (o : Option PlannedFlush). IsPlan config c.args.chosen.call.id (deque_len s.flushes) (state_of s) c.args.chosen.t (group_state g) (Ok o)) c.in-None.is plan)
 
 pub returns-in-Some : goal.returns-in-Some
 returns-in-Some c config g good takes plan =
     let s = c.args.state.now in
-    let opens = subst (λ (o : Option PlannedFlush). IsPlan config c.args.id (deque_len s.flushes) (state_of s) c.args.chosen.t (group_state g) (Ok o)) c.in-Some.is plan in
+    let opens = subst (λ (o : Option PlannedFlush). IsPlan config c.args.chosen.call.id (deque_len s.flushes) (state_of s) c.args.chosen.t (group_state g) (Ok o)) c.in-Some.is plan in
     c.begin_flush.ensures config g good takes opens.0 opens.2

@@ -20,8 +20,8 @@ returns-in_default c =
 pub returns : goal.returns
 returns c =
     let s = c.args.state.now in
-    let chosen : ChosenGroup = record { pass = c.args.pass; now = c.args.now; t = c.time-t.result; index = c.in-Some.index; due = c.due_again-due.result } in
+    let chosen : ChosenGroup = record { call = c.args.call; t = c.time-t.result; index = c.in-Some.index; due = c.due_again-due.result } in
     let takes : IsChosen c.args.config.now s chosen c.at.result.now =
     taking_found c.args.config.now s chosen c.at.result.now s.groups.items s.flushes.items refl refl
     c.time-t.ensures c.in-Some.ensures.within (c.in-Some.ensures.first (map flush_state s.flushes.items) c.requires.marked c.at.result.now) c.at.ensures c.due_again-due.ensures in
-    record { pass = refl; now = refl; group = c.at.result.now; chosen = takes }
+    (refl, record { group = c.at.result.now; chosen = takes })

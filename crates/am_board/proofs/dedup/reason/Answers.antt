@@ -1,16 +1,15 @@
-use Rattle.std.proofs.Common.{◌≡◌, ◌&&◌, false, IsTrue, List, Bor, map, sym, ap, ◌∙◌, subst, if◌then◌else◌}
+use Rattle.std.proofs.Common.{◌≡◌, IsTrue, List, Bor, map, sym, ap, ◌∙◌, subst, if◌then◌else◌}
 use Rattle.std.specs.Option.{option_copied}
 use Rattle.am_alerts.specs.Labels.{label_set_cmp, same_label_set}
 use Rattle.am_alerts.specs.declared.labels.Label.{Label}
-use Rattle.am_nflog.specs.Members.{is_ascending, is_empty}
+use Rattle.am_nflog.specs.Members.{is_ascending}
 use Rattle.am_nflog.specs.Needed.{update_reason}
 use Rattle.am_model.specs.declared.reason.Reason.{Reason}
 use Rattle.am_model.specs.declared.reason.Reason.TheVariants.{NothingLeft}
 use Rattle.am_model.specs.look_back.Reasons.{reason_of_update}
-use Rattle.am_board.specs.Beginning.{alert_sets_of, copies_at, lent_labels, copies_of}
+use Rattle.am_board.specs.Beginning.{alert_sets_of, lent_labels, copies_of}
 use Rattle.am_board.specs.declared.group.Member.{Member}
 use Rattle.am_board.proofs.lemmas.begin.Lent.{labels-lent, lent-rise}
-use Rattle.am_board.proofs.lemmas.begin.Updates.{empty-label_sets}
 use Rattle.am_board.proofs.dedup.reason.Goals as goal
 
 pub update_reason-update-requires-clause-firing_ascending : goal.update_reason-update-requires-clause-firing_ascending
@@ -28,9 +27,6 @@ returns c =
     let t = c.args.t in
     let found = c.args.unmuted.now in
     let sets = alert_sets_of (copies_of t found) in
-    let some : (is_empty sets.firing && is_empty sets.resolved) ≡ false =
-    (λ i. empty-label_sets (copies_at t found.firing.items) i && empty-label_sets (copies_at t found.resolved.items) i)
-    ∙ sym (c.is_empty.ensures t) ∙ c.if-is_empty.false in
     let fact : List (List Label) → List (List Label) → Reason = λ fire gone.
     reason_of_update c.args.repeat_interval (update_reason same_label_set (option_copied c.args.logged) fire gone c.args.send_resolved c.args.repeat_interval t) in
     let fire : map lent_labels c.as_slice-firing.result.now ≡ sets.firing = ap (map lent_labels) c.as_slice-firing.ensures.value ∙ labels-lent t found.firing.items in
@@ -38,4 +34,4 @@ returns c =
     c.reason_of_update.ensures
     ∙ ap (reason_of_update c.args.repeat_interval) c.update_reason-update.ensures
     ∙ (λ i. fact (fire i) (gone i))
-    ∙ sym (ap (λ b. if b then NothingLeft else fact sets.firing sets.resolved) some)
+    ∙ sym (ap (λ b. if b then NothingLeft else fact sets.firing sets.resolved) c.requires.some)

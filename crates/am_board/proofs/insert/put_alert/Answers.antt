@@ -7,9 +7,11 @@ use Rattle.am_model.specs.declared.config.Config.{Config}
 use Rattle.am_model.specs.declared.record.Inserted.{Inserted}
 use Rattle.am_board.specs.Again.{IsPutAgain, PutsAgain}
 use Rattle.am_board.specs.GroupNameCache.{AreKept}
+use Rattle.am_board.specs.Arrival.{Puts}
 use Rattle.am_board.specs.Inserting.{IsReservedState}
+use Rattle.am_board.specs.declared.insert.Arrival.{Arrival}
 use Rattle.am_board.specs.declared.state.State as kept
-use Rattle.am_board.proofs.lemmas.insert.PutAgain.{Puts, puts_reserved}
+use Rattle.am_board.proofs.lemmas.insert.PutAgain.{puts_reserved}
 use Rattle.am_board.proofs.lemmas.invariant.GroupNameCache.{kept_put}
 use Rattle.am_board.proofs.insert.put_alert.Goals as goal
 
@@ -25,7 +27,7 @@ module _ (config : Config) (now : ℕ) (alert : AlertData) (old mid : kept.State
 pub put_again-requires-clause-kept : goal.put_again-requires-clause-kept
 put_again-requires-clause-kept c =
     let config : Config = c.args.config.now in
-    let kept = c.of-kept.ensures config c.args.state.now.known.items c.args.alert.labels c.requires.kept c.in_ok-index.ensures.index in
+    let kept = c.of-kept.ensures config c.args.state.now.known.items c.args.arrival.alert.labels c.requires.kept c.in_ok-index.ensures.index in
     subst (λ (a : AlertData). IfSome c.of-kept.result (λ names. names.now ≡ names_for config a.labels)) (sym c.with_known_labels-alert.ensures) kept
 
 pub returns-in-Some-clause-kept : goal.returns-in-Some-clause-kept
@@ -33,7 +35,7 @@ returns-in-Some-clause-kept c =
     let config : Config = c.args.config.now in
     let old : kept.State = c.args.state.now in
     let alert : AlertData = c.with_known_labels-alert.result in
-    let put = is_again config c.args.now alert old c.put_again.new.state c.in_ok-inserted.field-0 c.in_ok-inserted.ensures c.in-Some.inserted c.in-Some.is in
+    let put = is_again config c.args.arrival.time alert old c.put_again.new.state c.in_ok-inserted.field-0 c.in_ok-inserted.ensures c.in-Some.inserted c.in-Some.is in
     subst (λ known. AreKept config known c.args.destinations.now) (sym (ap (λ (s : State). s.known) put.state)) (kept_put config alert old.known.items c.args.destinations.now c.requires.kept)
 
 pub returns-clause-put : goal.returns-clause-put
@@ -42,6 +44,7 @@ returns-clause-put c =
     let old : kept.State = c.args.state.now in
     let mid : kept.State = c.put_again.new.state in
     let alert : AlertData = c.with_known_labels-alert.result in
-    let held = is_held config c.args.now alert old mid c.in_ok-inserted.field-0 c.in_ok-inserted.ensures c.in_default.is in
-    subst (Puts config old c.put_routed.new.state c.args.pass c.args.now c.put_routed.result) c.with_known_labels-alert.ensures
-    (puts_reserved config old mid c.put_routed.new.state c.args.pass c.args.now alert c.put_routed.result held c.put_routed.ensures.put)
+    let held = is_held config c.args.arrival.time alert old mid c.in_ok-inserted.field-0 c.in_ok-inserted.ensures c.in_default.is in
+    let come : AlertData → Arrival = λ a. record { pass = c.args.arrival.pass; time = c.args.arrival.time; alert = a } in
+    subst (λ a. Puts config old c.put_routed.new.state (come a) c.put_routed.result) c.with_known_labels-alert.ensures
+    (puts_reserved config old mid c.put_routed.new.state (come alert) c.put_routed.result held c.put_routed.ensures.put)

@@ -4,6 +4,7 @@ use Rattle.std.specs.VecDeque.{deque_items, deque_len}
 use Rattle.am_alerts.specs.AlertData.{AlertData}
 use Rattle.am_board.specs.declared.insert.Placement.{Placement}
 use Rattle.am_board.specs.declared.insert.Found.{Found}
+use Rattle.am_board.specs.Arrival.{insert_record}
 use Rattle.am_board.specs.Inserting.{AreFound, AreRoutedPlacements, IsWhereToPut, stamped_alert}
 use Rattle.am_board.proofs.lemmas.insert.Again.{names_routed}
 use Rattle.am_board.proofs.lemmas.insert.Found.{still_found, are_apart, names_apart}
@@ -17,9 +18,7 @@ use Rattle.am_model.specs.declared.config.Config.{Config}
 use Rattle.am_board.specs.declared.flush.OpenFlush.{OpenFlush}
 use Rattle.am_model.specs.declared.record.Inserted.{Inserted}
 use Rattle.am_model.specs.declared.record.Record.{Record}
-use Rattle.am_model.specs.declared.record.Call.TheVariants as call
 use Rattle.am_model.specs.declared.record.Reply.TheVariants as reply
-use Rattle.am_model.specs.Records.{entry}
 use Rattle.am_board.specs.declared.state.State as kept
 use Rattle.am_board.proofs.lemmas.insert.Inserting.{answer_groups, no_cause, makes_many, makes_few, made_counted, are_found, are_empty, are_placed, count_is, inserted_is, insert_leaves, stays_reserved}
 use Rattle.am_board.proofs.insert.put_found.Goals as goal
@@ -40,28 +39,28 @@ returns-then-len-made c =
     let config : Config = c.args.config.now in
     let s : kept.State = c.args.state.now in
     let is = c.requires.found in
-    let made = made_of config s c.args.alert c.args.found c.as_slice.result.now c.count_missing-made.result is c.as_slice.ensures.value c.count_missing-made.ensures in
-    (answer_groups config (vec_len s.history) (state_of s) c.args.alert is.space is.few (makes_many config s c.args.alert c.count_missing-made.result made (omega (arith, c.if-len-made.true, c.len.ensures.len))), stays_itself config s c.requires.good)
+    let made = made_of config s c.args.arrival.alert c.args.found c.as_slice.result.now c.count_missing-made.result is c.as_slice.ensures.value c.count_missing-made.ensures in
+    (answer_groups config (vec_len s.history) (state_of s) c.args.arrival.alert is.space is.few (makes_many config s c.args.arrival.alert c.count_missing-made.result made (omega (arith, c.if-len-made.true, c.len.ensures.len))), stays_itself config s c.requires.good)
 
 pub reserve_insert-requires-clause-distinct : goal.reserve_insert-requires-clause-distinct
 reserve_insert-requires-clause-distinct c = names_apart c.args.state.now.groups.items c.requires.good.consistent.groups
 
 pub reserve_insert-requires-clause-found : goal.reserve_insert-requires-clause-found
 reserve_insert-requires-clause-found c =
-    subst (AreFound c.args.state.now.groups.items) (sym c.as_slice-2.ensures.value) (found_of c.args.config.now c.args.state.now c.args.alert c.args.found c.requires.found)
+    subst (AreFound c.args.state.now.groups.items) (sym c.as_slice-2.ensures.value) (found_of c.args.config.now c.args.state.now c.args.arrival.alert c.args.found c.requires.found)
 
 pub put_prepared-requires-clause-found : goal.put_prepared-requires-clause-found
 put_prepared-requires-clause-found c =
     still_found c.args.found.placements.items c.args.state.now.groups.items c.reserve_insert.new.state.groups.items c.in_ok-reserve_insert.ensures.kept.names
-    (found_of c.args.config.now c.args.state.now c.args.alert c.args.found c.requires.found)
+    (found_of c.args.config.now c.args.state.now c.args.arrival.alert c.args.found c.requires.found)
 
 pub put_prepared-requires-clause-empty : goal.put_prepared-requires-clause-empty
 put_prepared-requires-clause-empty c =
     let s : kept.State = c.args.state.now in
-    are_empty c.args.config.now.routes s.groups.items (stamped_alert c.args.alert (s.inserts + 1)) c.args.found.placements.items c.requires.found.placements
+    are_empty c.args.config.now.routes s.groups.items (stamped_alert c.args.arrival.alert (s.inserts + 1)) c.args.found.placements.items c.requires.found.placements
 
 pub put_prepared-requires-clause-apart : goal.put_prepared-requires-clause-apart
-put_prepared-requires-clause-apart c = are_apart c.args.config.now c.args.alert.labels c.args.found.placements.items c.requires.found.names
+put_prepared-requires-clause-apart c = are_apart c.args.config.now c.args.arrival.alert.labels c.args.found.placements.items c.requires.found.names
 
 -- each placement is of a route that is there
 routed : (config : Config) (labels : List Label) (ps : List Placement) → map (λ p. p.name) ps ≡ names_for config labels → AreRoutedPlacements config.routes ps
@@ -76,7 +75,7 @@ returns c =
     let reserved : kept.State = c.reserve_insert.new.state in
     let new : kept.State = c.put_prepared.new.state in
     let placements : List Placement = c.args.found.placements.items in
-    let alert : AlertData = c.args.alert in
+    let alert : AlertData = c.args.arrival.alert in
     let is = c.requires.found in
     let names = is.names in
     let routes = routed config alert.labels placements names in
@@ -91,15 +90,16 @@ returns c =
     let flushes : deque_len new.flushes ≡ deque_len reserved.flushes = ap deque_len c.put_prepared.ensures.flushes in
     let records : vec_len new.history ≡ vec_len reserved.history = ap (λ (rs : Vec Record Global). vec_len rs) c.put_prepared.ensures.history in
     let space : vec_capacity new.history ≡ vec_capacity reserved.history = ap (λ (rs : Vec Record Global). vec_capacity rs) c.put_prepared.ensures.history in
-    let added : Record = entry c.args.pass (call.Insert c.args.now alert) (reply.Inserted (record { stamp = s.inserts + 1; groups = c.len-2.result; made = c.count_missing-made.result })) in (
+    let returned : Inserted = record { stamp = s.inserts + 1; groups = c.len-2.result; made = c.count_missing-made.result } in
+    let added : Record = insert_record c.args.arrival returned in (
       no_cause config (vec_len s.history) (state_of s) alert is.space is.few (makes_few config s alert c.count_missing-made.result made (omega (arith, c.if-len-made.false, c.len.ensures.len))),
       λ id. record {
-        returned = ap (λ (returned : Inserted). Some (reply.Inserted returned)) (inserted_is config (state_of s) alert c.len-2.result c.count_missing-made.result groups made);
-        state = agrees_same _ _ (insert_leaves config s reserved new c.time-t.result c.args.now alert c.in_ok-copy.copy placements (c.put_prepared.ensures.state config) kept c.in_ok-copy.ensures c.time-t.ensures c.requires.good.consistent.clock placed names);
+        returned = ap (λ (r : Inserted). Some (reply.Inserted r)) (inserted_is config (state_of s) alert c.len-2.result c.count_missing-made.result groups made);
+        state = agrees_same _ _ (insert_leaves config s reserved new c.time-t.result c.args.arrival.time alert c.in_ok-copy.copy placements (c.put_prepared.ensures.state config) kept c.in_ok-copy.ensures c.time-t.ensures c.requires.good.consistent.clock placed names);
         routed = c.put_prepared.ensures.routed config.routes still.routed routes;
         prepared = subst (All (IsPrepared config new.log)) (ap deque_items (sym c.put_prepared.ensures.flushes)) logged;
         marked = subst (λ (os : List OpenFlush). AreMarked (map flush_state os) new.groups.items) (ap deque_items (sym c.put_prepared.ensures.flushes)) (λ name. c.put_prepared.ensures.marks name ∙ still.marked name);
-        history = c.push_reserved.ensures.items ∙ ap (λ (rs : List Record). rs ++ added ∷ []) (ap (λ (rs : Vec Record Global). rs.items) c.put_prepared.ensures.history ∙ kept.history);
+        history = c.push_reserved.ensures.items ∙ ap (λ (r : Record). c.put_prepared.new.state.history.items ++ r ∷ []) c.record_of-record.ensures ∙ ap (λ (rs : List Record). rs ++ added ∷ []) (ap (λ (rs : Vec Record Global). rs.items) c.put_prepared.ensures.history ∙ kept.history);
         records = omega (arith, c.push_reserved.ensures.len, records, kept.records);
         space = omega (arith, c.push_reserved.ensures.len, c.push_reserved.ensures.capacity, records, space, flushes, ready.records);
       },

@@ -1,12 +1,14 @@
 -- Why a begin is refused, from what is found of the kept state.
-use Rattle.std.proofs.Common.{◌≡◌, ◌≢◌, ℕ, ◌+◌, ◌<◌, ◌≤◌, true, false, cond, ◌&&◌, nat_le, List, [], ◌∷◌, length, map, get_or, slice_index_or, Option, Some, None, Result, Ok, Err, MatchResult, vec_len, vec_capacity, inl, inr, refl, sym, ap, subst, ◌∙◌, arith}
+use Rattle.std.proofs.Common.{◌≡◌, ◌≢◌, ℕ, ◌+◌, ◌<◌, ◌≤◌, true, false, cond, ◌&&◌, nat_le, Bool, if◌then◌else◌, List, [], ◌∷◌, length, map, get_or, Option, Some, None, Result, Ok, Err, vec_len, vec_capacity, inl, inr, refl, sym, ap, subst, ◌∙◌, arith}
 use Rattle.std.specs.Prelude.{IfSome}
+use Rattle.std.specs.Option.{option_map}
 use Rattle.std.proofs.Math.Bool.{and-false}
 use Rattle.std.proofs.lemmas.Bool.Decides.{nat_tests}
 use Rattle.std.proofs.lemmas.List.{get_or_default, length-map}
 use Rattle.std.specs.VecDeque.{deque_len}
 use Rattle.am_alerts.specs.RoutingTree.{route_at}
 use Rattle.am_board.specs.declared.begin.Begun.{Begun}
+use Rattle.am_board.specs.declared.begin.BeginCall.{BeginCall}
 use Rattle.am_board.specs.declared.begin.ChosenGroup.{ChosenGroup}
 use Rattle.am_model.specs.declared.config.Config.{Config}
 use Rattle.am_model.specs.declared.config.Integration.{Integration}
@@ -15,7 +17,8 @@ use Rattle.am_model.specs.declared.fault.Fault.TheVariants.{NoMemory, TooManyOpe
 use Rattle.am_board.specs.declared.flush.OpenFlush.{OpenFlush}
 use Rattle.am_board.specs.declared.group.Group.{Group}
 use Rattle.am_board.specs.declared.plan.PlannedFlush.{PlannedFlush}
-use Rattle.am_model.specs.declared.record.Call.TheVariants.{Begin}
+use Rattle.am_model.specs.declared.preview.Preview.{Preview}
+use Rattle.am_model.specs.look_back.Preview.{preview_at, preview_on, reason_of}
 use Rattle.am_board.specs.declared.state.State as kept
 use Rattle.am_model.specs.Begin.{notified_of, notice_for, taken}
 use Rattle.am_model.specs.Configured.{HaveFewIntegrations}
@@ -23,25 +26,23 @@ use Rattle.am_model.specs.Notice.{NoticeData}
 use Rattle.am_model.specs.declared.config.TheConstants.{MAX_INTEGRATIONS}
 use Rattle.am_model.proofs.configuration.FewNotified.{few_notified}
 use Rattle.am_model.specs.Causes.{is_full, notifies_some, opens_by, begin_cause}
-use Rattle.am_model.specs.Records.{entry}
-use Rattle.am_board.specs.History.{reply_of, IsFresh}
 use Rattle.am_board.specs.Refinement.{state_of, group_state, flush_state}
-use Rattle.am_board.specs.Beginning.{IsPlan, IsPlannedFlush, first_of, IsChosen, IsEnd}
-use Rattle.am_model.specs.State.{GroupState, time}
-use Rattle.am_board.specs.Step.{AppliesCall, LeavesUnchanged, IsAnswer}
-
--- what a begin is to answer where this is the first cause other than memory
-abbrev pub IsReturned : Config → ℕ → ℕ → ℕ → kept.State → kept.State → Option Fault → Result Begun Fault → Type 0
-IsReturned config id pass now old new cause result =
-    MatchResult result
-    (λ begun. (cause ≡ None) × AppliesCall config id (entry pass (Begin now) (reply_of begun)) old new × IsFresh id begun)
-    (λ fault. IsAnswer cause fault × LeavesUnchanged config old new)
+use Rattle.am_board.specs.Beginning.{IsPlan, IsPlannedFlush, first_of, IsChosen, IsEnd, Begins, BeginsShown, cause_of, with_preview}
+use Rattle.am_model.specs.State.{GroupState, State, time}
+use Rattle.am_board.specs.Step.{IsAnswer}
 
 -- only memory can be wanting
-pub returned : (config : Config) (id pass now : ℕ) (old new : kept.State) (cause : Option Fault) (result : Result Begun Fault) → cause ≡ None
-    → IsEnd config id pass now old new result → IsReturned config id pass now old new cause result
-returned config id pass now old new cause (Ok begun) none end = (none, end.0, end.1)
-returned config id pass now old new cause (Err fault) none end = (subst (λ o. IsAnswer o fault) (sym none) end.0, end.1)
+pub returned : (config : Config) (call : BeginCall) (old new : kept.State) (result : Result Begun Fault) → cause_of config call old ≡ None
+    → IsEnd config call old new result → Begins config call old new result
+returned config call old new (Ok begun) none end = (none, end.0, end.1)
+returned config call old new (Err fault) none end = (subst (λ o. IsAnswer o fault) (sym none) end.0, end.1)
+
+-- what is shown is returned with the reply
+pub shown_with : (config : Config) (call : BeginCall) (why : Bool) (old new : kept.State) (result : Result Begun Fault) (shown : Option Preview)
+    → Begins config call old new result → shown ≡ (if why then preview_at config (state_of old) (time (state_of old) call.now) else None)
+    → BeginsShown config call why old new (with_preview result shown)
+shown_with config call why old new (Ok begun) shown begins is = (begins.0, begins.1, (begins.2, is))
+shown_with config call why old new (Err fault) shown begins is = begins
 
 -- ---- the causes, where the history has capacity
 
@@ -105,7 +106,7 @@ taken-none s t groups flushes all open_now none = (λ i. first_of (map flush_sta
 -- the group that was found is the one that the begin takes
 pub taking_found : (config : Config) (s : kept.State) (chosen : ChosenGroup) (g : Group) (groups : List Group) (flushes : List OpenFlush)
     → groups ≡ s.groups.items → flushes ≡ s.flushes.items
-    → chosen.t ≡ time (state_of s) chosen.now → chosen.index < length groups
+    → chosen.t ≡ time (state_of s) chosen.call.now → chosen.index < length groups
     → first_of (map flush_state flushes) chosen.t (map group_state groups) ≡ Some (group_state (get_or groups chosen.index g))
     → g ≡ get_or s.groups.items chosen.index g
     → chosen.due ≡ chosen.t + (route_at config.routes g.name.route).group_interval
@@ -131,15 +132,11 @@ one_of (x ∷ xs) i within = x
 
 -- ---- what a plan has, if a flush is planned
 
-module _ (config : Config) (id : ℕ) (s : kept.State) (chosen : ChosenGroup) (within : chosen.index < length s.groups.items) (o : Option PlannedFlush)
-    (plan : (d : Group) → IsPlan config id (deque_len s.flushes) (state_of s) chosen.t (group_state (slice_index_or s.groups.items chosen.index d)) (Ok o)) where
-  abbrev at_index : GroupState
-  at_index = group_state (slice_index_or s.groups.items chosen.index (one_of s.groups.items chosen.index within))
-
-  has : (P : PlannedFlush → Type 0) → ((p : PlannedFlush) → IsPlannedFlush config id (state_of s) chosen.t at_index p → P p) → IfSome o P
-  has P from = by o (plan (one_of s.groups.items chosen.index within))
+module _ (config : Config) (id opened : ℕ) (s : State) (t : ℕ) (g : GroupState) (o : Option PlannedFlush) (plan : IsPlan config id opened s t g (Ok o)) where
+  has : (P : PlannedFlush → Type 0) → ((p : PlannedFlush) → IsPlannedFlush config id s t g p → P p) → IfSome o P
+  has P from = by o plan
     where
-      by : (p : Option PlannedFlush) → IsPlan config id (deque_len s.flushes) (state_of s) chosen.t at_index (Ok p) → IfSome p P
+      by : (p : Option PlannedFlush) → IsPlan config id opened s t g (Ok p) → IfSome p P
       by None is = tt
       by (Some flush) is = from flush is.2
 
@@ -152,54 +149,44 @@ module _ (config : Config) (id : ℕ) (s : kept.State) (chosen : ChosenGroup) (w
   pub planned_few : HaveFewIntegrations config → IfSome o (λ p. vec_len p.notices ≤ MAX_INTEGRATIONS)
   planned_few few = has (λ p. vec_len p.notices ≤ MAX_INTEGRATIONS) few_notices
     where
-      few_notices : (p : PlannedFlush) → IsPlannedFlush config id (state_of s) chosen.t at_index p → vec_len p.notices ≤ MAX_INTEGRATIONS
+      few_notices : (p : PlannedFlush) → IsPlannedFlush config id s t g p → vec_len p.notices ≤ MAX_INTEGRATIONS
       few_notices p is =
-          let notified = notified_of config (state_of s) chosen.t at_index in
-          let count = ap (λ (ns : List NoticeData). length ns) is.notices ∙ length-map notified (notice_for config id (state_of s) chosen.t at_index) in
-          omega (arith, p.notices.ok.0, count, few_notified config (state_of s) chosen.t at_index few)
+          let notified = notified_of config s t g in
+          let count = ap (λ (ns : List NoticeData). length ns) is.notices ∙ length-map notified (notice_for config id s t g) in
+          omega (arith, p.notices.ok.0, count, few_notified config s t g few)
 
 -- ---- what is computed for the group that a begin takes
 
 module _ (config : Config) (id : ℕ) (s : kept.State) (chosen : ChosenGroup) (g : Group) (takes : IsChosen config s chosen g) where
-  -- the plan is for this group
-  planned : (r : Result (Option PlannedFlush) Fault)
-      → ((d : Group) → IsPlan config id (deque_len s.flushes) (state_of s) chosen.t (group_state (slice_index_or s.groups.items chosen.index d)) r)
-      → IsPlan config id (deque_len s.flushes) (state_of s) chosen.t (group_state g) r
-  planned r plan = subst (λ (x : Group). IsPlan config id (deque_len s.flushes) (state_of s) chosen.t (group_state x) r) (takes.group g) (plan g)
-
   -- whether a flush is to be opened, by what is notified
   opens_taken : opens_by config (state_of s) chosen.t (taken (state_of s) chosen.t) ≡ notifies_some (notified_of config (state_of s) chosen.t (group_state g))
   opens_taken = ap (λ o. opens_by config (state_of s) chosen.t o) takes.first
 
-  module _ (space : vec_len s.history + deque_len s.flushes + 2 ≤ config.limits.history) where
-    -- nobody is notified: only memory can be wanting
-    cause-quiet : notified_of config (state_of s) chosen.t (group_state g) ≡ [] → begin_cause config (vec_len s.history) (state_of s) (time (state_of s) chosen.now) ≡ None
-    cause-quiet none = cause-closed config s chosen.now chosen.t takes.time space (opens_taken ∙ ap notifies_some none)
+  -- what is shown of it is the preview of the state
+  pub shown_taken : (why : Bool) → (if why then Some (preview_on config (state_of s) chosen.t (reason_of config (state_of s) chosen.t) (group_state g)) else None)
+      ≡ (if why then preview_at config (state_of s) (time (state_of s) chosen.call.now) else None)
+  shown_taken why =
+      ap (λ (o : Option Preview). if why then o else None)
+      (sym (ap (option_map (preview_on config (state_of s) chosen.t (reason_of config (state_of s) chosen.t))) takes.first)
+      ∙ ap (preview_at config (state_of s)) takes.time)
 
+  module _ (space : vec_len s.history + deque_len s.flushes + 2 ≤ config.limits.history) where
     -- why it is refused before anything is put
-    pub planned_err : (fault : Fault)
-        → ((d : Group) → IsPlan config id (deque_len s.flushes) (state_of s) chosen.t (group_state (slice_index_or s.groups.items chosen.index d)) (Err fault))
-        → IsAnswer (begin_cause config (vec_len s.history) (state_of s) (time (state_of s) chosen.now)) fault
+    pub planned_err : (fault : Fault) → IsPlan config id (deque_len s.flushes) (state_of s) chosen.t (group_state g) (Err fault) → IsAnswer (cause_of config chosen.call s) fault
     planned_err fault plan =
-        elim (planned (Err fault) plan) [
-          | inl memory ↦ subst (λ f. IsAnswer (begin_cause config (vec_len s.history) (state_of s) (time (state_of s) chosen.now)) f) (sym memory) (answer-memory config s chosen.now chosen.t takes.time space)
+        elim plan [
+          | inl memory ↦ subst (λ f. IsAnswer (cause_of config chosen.call s) f) (sym memory) (answer-memory config s chosen.call.now chosen.t takes.time space)
           | inr full ↦
-              let many = cause-many config s chosen.now chosen.t takes.time space full.2 (opens_taken ∙ notifies_some-true (notified_of config (state_of s) chosen.t (group_state g)) full.1) in
+              let many = cause-many config s chosen.call.now chosen.t takes.time space full.2 (opens_taken ∙ notifies_some-true (notified_of config (state_of s) chosen.t (group_state g)) full.1) in
               subst (λ o. IsAnswer o fault) (sym many) (inl full.0)
         ]
 
     -- a flush is opened or nobody is notified: only memory can be wanting
-    cause_planned : (o : Option PlannedFlush)
-        → ((d : Group) → IsPlan config id (deque_len s.flushes) (state_of s) chosen.t (group_state (slice_index_or s.groups.items chosen.index d)) (Ok o))
-        → begin_cause config (vec_len s.history) (state_of s) (time (state_of s) chosen.now) ≡ None
-    cause_planned None plan = cause-quiet (planned (Ok None) plan)
-    cause_planned (Some flush) plan = cause-few config s chosen.now chosen.t takes.time space (planned (Ok (Some flush)) plan).1
+    cause_planned : (o : Option PlannedFlush) → IsPlan config id (deque_len s.flushes) (state_of s) chosen.t (group_state g) (Ok o) → cause_of config chosen.call s ≡ None
+    cause_planned None none = cause-closed config s chosen.call.now chosen.t takes.time space (opens_taken ∙ ap notifies_some none)
+    cause_planned (Some flush) plan = cause-few config s chosen.call.now chosen.t takes.time space plan.1
 
     -- the begin ends as its plan says
-    pub ended : (o : Option PlannedFlush)
-        → ((d : Group) → IsPlan config id (deque_len s.flushes) (state_of s) chosen.t (group_state (slice_index_or s.groups.items chosen.index d)) (Ok o))
-        → (new : kept.State) (result : Result Begun Fault)
-        → (IsPlan config id (deque_len s.flushes) (state_of s) chosen.t (group_state g) (Ok o) → IsEnd config id chosen.pass chosen.now s new result)
-        → IsReturned config id chosen.pass chosen.now s new (begin_cause config (vec_len s.history) (state_of s) (time (state_of s) chosen.now)) result
-    ended o plan new result end =
-        returned config id chosen.pass chosen.now s new (begin_cause config (vec_len s.history) (state_of s) (time (state_of s) chosen.now)) result (cause_planned o plan) (end (planned (Ok o) plan))
+    pub ended : (o : Option PlannedFlush) → IsPlan config id (deque_len s.flushes) (state_of s) chosen.t (group_state g) (Ok o)
+        → (new : kept.State) (result : Result Begun Fault) → IsEnd config chosen.call s new result → Begins config chosen.call s new result
+    ended o plan new result end = returned config chosen.call s new result (cause_planned o plan) end

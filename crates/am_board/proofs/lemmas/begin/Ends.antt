@@ -65,12 +65,12 @@ prepared_kept config log more keeps fs all i f h =
 
 module _ (config : Config) (id : ℕ) (old : kept.State) (chosen : ChosenGroup) (g : Group) (good : StateInvariant config old) (takes : IsChosen config old chosen g) where
   -- what is reported, and the state after, by what is notified
-  taking_returned : reply config id (state_of old) (Begin chosen.now) ≡ Some (reply_notifying config id (state_of old) chosen.t (group_state g) (notified_of config (state_of old) chosen.t (group_state g)))
+  taking_returned : reply config id (state_of old) (Begin chosen.call.now) ≡ Some (reply_notifying config id (state_of old) chosen.t (group_state g) (notified_of config (state_of old) chosen.t (group_state g)))
   taking_returned =
       ap (λ t. Some (begun config id (state_of old) t)) (sym takes.time)
       ∙ ap (λ o. Some (reply_taking config id (state_of old) chosen.t o)) takes.first
 
-  after_this : (r : Reply) → after config (state_of old) (entry chosen.pass (Begin chosen.now) r) ≡ after_notifying config (state_of old) chosen.t (group_state g) (notified_of config (state_of old) chosen.t (group_state g))
+  after_this : (r : Reply) → after config (state_of old) (entry chosen.call.pass (Begin chosen.call.now) r) ≡ after_notifying config (state_of old) chosen.t (group_state g) (notified_of config (state_of old) chosen.t (group_state g))
   after_this r =
       ap (λ t. after_begin config (state_of old) t) (sym takes.time)
       ∙ ap (λ o. after_taking config (state_of old) chosen.t o) takes.first
@@ -115,10 +115,10 @@ module _ (config : Config) (id : ℕ) (old : kept.State) (chosen : ChosenGroup) 
       → new.groups.items ≡ set old.groups.items chosen.index h
       → marks_of new.groups.items ≡ marks_of old.groups.items
       → new ≡ record old { clock = chosen.t; groups = new.groups; history = new.history }
-      → new.history.items ≡ old.history.items ++ entry chosen.pass (Begin chosen.now) (Quiet recorded removed) ∷ []
+      → new.history.items ≡ old.history.items ++ entry chosen.call.pass (Begin chosen.call.now) (Quiet recorded removed) ∷ []
       → vec_len new.history ≡ vec_len old.history + 1
       → vec_len new.history + deque_len old.flushes ≤ vec_capacity new.history
-      → AppliesCall config id (entry chosen.pass (Begin chosen.now) (Quiet name removed)) old new
+      → AppliesCall config id (entry chosen.call.pass (Begin chosen.call.now) (Quiet name removed)) old new
   accepts_quiet h name recorded removed new none left named recorded_named gone put marks is history records space =
       let named_as_before : h.name ≡ g.name = ap (λ (x : GroupState). x.name) left in
       let groups = ap (map group_state) put ∙ groups_after (λ x. without_resolved chosen.t (begun_group config chosen.t x)) h left in
@@ -137,7 +137,7 @@ module _ (config : Config) (id : ℕ) (old : kept.State) (chosen : ChosenGroup) 
         routed = subst (λ gs. AreRouted config.routes (names_of gs)) (sym put) (routed_after h named_as_before);
         prepared = subst (λ (s : kept.State). All (IsPrepared config s.log) s.flushes.items) (sym is) good.prepared;
         marked = λ n. ap (λ ms. is_marked ms n) marks ∙ (good.marked n ∙ sym (ap (λ (s : kept.State). is_flushing (map flush_state s.flushes.items) n) is));
-        history = history ∙ (λ i. old.history.items ++ entry chosen.pass (Begin chosen.now) (Quiet ((recorded_named ∙ sym named) i) removed) ∷ []);
+        history = history ∙ (λ i. old.history.items ++ entry chosen.call.pass (Begin chosen.call.now) (Quiet ((recorded_named ∙ sym named) i) removed) ∷ []);
         records = records;
         space = subst (λ n. vec_len new.history + n ≤ vec_capacity new.history) (sym (ap (λ (s : kept.State). deque_len s.flushes) is)) space;
       }
@@ -154,10 +154,10 @@ module _ (config : Config) (id : ℕ) (old : kept.State) (chosen : ChosenGroup) 
       → ((key : LogKey GroupName) → IsTrue (is_known same_name old.log key) → IsTrue (is_known same_name new.log key))
       → All (λ (a : Notified). a.key.group ≡ o.flush.group → IsTrue (is_known same_name new.log a.key)) o.flush.notified.items
       → new.flushes.items ≡ old.flushes.items ++ o.flush ∷ []
-      → new.history.items ≡ old.history.items ++ entry chosen.pass (Begin chosen.now) (Flush o.recorded_group o.recorded) ∷ []
+      → new.history.items ≡ old.history.items ++ entry chosen.call.pass (Begin chosen.call.now) (Flush o.recorded_group o.recorded) ∷ []
       → vec_len new.history ≡ vec_len old.history + 1
       → vec_len new.history + deque_len new.flushes ≤ vec_capacity new.history
-      → AppliesCall config id (entry chosen.pass (Begin chosen.now) (flush_reply o.number o.group o.deadline o.notices.items)) old new
+      → AppliesCall config id (entry chosen.call.pass (Begin chosen.call.now) (flush_reply o.number o.group o.deadline o.notices.items)) old new
   accepts_flush h o new some planned marked open_now put is rows keeps notified flushes history records space =
       let all_notified = notified_of config (state_of old) chosen.t (group_state g) in
       let named_as_before : h.name ≡ g.name = ap (λ (x : GroupState). x.name) marked in
@@ -195,7 +195,7 @@ module _ (config : Config) (id : ℕ) (old : kept.State) (chosen : ChosenGroup) 
             ∙ sym (ap (λ fs. is_flushing (map flush_state fs) n) flushes ∙ flushing_more old.flushes.items o.flush n))));
         history =
             history
-            ∙ (λ i. old.history.items ++ entry chosen.pass (Begin chosen.now) (Flush ((planned.recorded_group ∙ sym planned.group) i) (planned.recorded i)) ∷ []);
+            ∙ (λ i. old.history.items ++ entry chosen.call.pass (Begin chosen.call.now) (Flush ((planned.recorded_group ∙ sym planned.group) i) (planned.recorded i)) ∷ []);
         records = records;
         space = space;
       }

@@ -15,7 +15,6 @@ use Rattle.std.proofs.lemmas.List.{length-map, take_more}
 use Rattle.std.proofs.lemmas.List.Elements.{filter_map-append}
 use Rattle.std.proofs.lemmas.List.Sorted.{IsPermutation-refl, IsPermutation-cons, IsPermutation-trans}
 use Rattle.std.proofs.lemmas.Map.Keys.{IsDistinct-cons}
-use Rattle.am_mute.specs.Inhibit.{RuleData}
 use Rattle.am_mute.specs.declared.mute.MuteCause.{MuteCause}
 use Rattle.am_model.proofs.lists.Distinct.{IsDistinct-nil}
 use Rattle.am_model.proofs.lists.Exchanges.{by_exchanges, two_exchanged, IsDistinct-permutation}
@@ -197,7 +196,6 @@ module _ (causes : Member → Option MuteCause) (ms : List Member) where
       ap (filter_map (alert_there ms)) (turn ∙ ap (λ n. filter_map here (range_with_len 0 n)) (length-map ms labels_of)) ∙ all_listed
 
 -- the muted members as they are listed are the muted alerts of a preview
-pub as_muted_alerts : (config : Config) (rules : List RuleData) (s : State) (t : ℕ) (ms : List Member) → rules ≡ config.rules
-    → filter_map (muted_member (cause_of rules s t)) ms ≡ filter_map (muted_alert config s t) (map member_state ms)
-as_muted_alerts config rules s t ms same =
-    ap (λ r. filter_map (muted_member (cause_of r s t)) ms) same ∙ sym (filter_map-map member_state (muted_alert config s t) ms)
+pub as_muted_alerts : (config : Config) (s : State) (t : ℕ) (ms : List Member)
+    → filter_map (muted_member (cause_of config.rules s t)) ms ≡ filter_map (muted_alert config s t) (map member_state ms)
+as_muted_alerts config s t ms = sym (filter_map-map member_state (muted_alert config s t) ms)

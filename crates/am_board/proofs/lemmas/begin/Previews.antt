@@ -1,5 +1,5 @@
 -- What a begin is to do, as the walks over the members of a group and over its receiver's integrations come to it.
-use Rattle.std.proofs.Common.{◌≡◌, ◌+◌, ◌<◌, ℕ, Bool, Option, Some, None, List, [], ◌∷◌, ◌++◌, length, map, find, take, get_or, refl, sym, ap, ◌∙◌, subst}
+use Rattle.std.proofs.Common.{◌≡◌, ◌+◌, ◌<◌, ℕ, Bool, true, false, if◌then◌else◌, Option, Some, None, List, [], ◌∷◌, ◌++◌, length, map, find, take, get_or, refl, sym, ap, ◌∙◌, subst}
 use Rattle.std.specs.Prelude.{All, IfSome}
 use Rattle.std.specs.List.{enumerate_from}
 use Rattle.std.specs.Option.{option_map}
@@ -24,6 +24,11 @@ pub reasons-more : (reason : ℕ × Integration → Reason) (is : List Integrati
     → map reason (enumerate_from 0 (take (i + 1) is)) ≡ map reason (enumerate_from 0 (take i is)) ++ reason (i, one) ∷ []
 reasons-more reason is i one within here =
     ap (map reason) (enumerate-more is i one within here) ∙ map-append reason (enumerate_from 0 (take i is)) ((i, one) ∷ [])
+
+-- one reason more, if reasons are wanted
+pub wanted-more : (why : Bool) (reasons more : List Reason) (one : Reason) → more ≡ reasons ++ one ∷ [] → (if why then reasons else []) ++ (if why then one ∷ [] else []) ≡ (if why then more else [])
+wanted-more true reasons more one is = sym is
+wanted-more false reasons more one is = refl
 
 module _ (eq : GroupName → GroupName → Bool) (same : (a b : GroupName) → eq a b ≡ same_name a b) (log : Slots GroupName (List Label)) (key : LogKey GroupName) (name : GroupName) (i : ℕ)
     (apart : HasDistinctKeys eq log) (group : key.group ≡ name) (integration : key.integration ≡ i) where

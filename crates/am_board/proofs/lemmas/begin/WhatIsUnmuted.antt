@@ -6,7 +6,6 @@ use Rattle.std.specs.List.{IsDistinct, filter_map}
 use Rattle.std.specs.declared.cmp.Ordering.{Ordering}
 use Rattle.am_alerts.specs.AlertData.{AlertData, is_resolved}
 use Rattle.am_alerts.specs.Labels.{label_set_cmp, same_label_set}
-use Rattle.am_mute.specs.Inhibit.{RuleData}
 use Rattle.am_mute.specs.Mute.{is_muted}
 use Rattle.am_nflog.specs.Members.{is_ascending}
 use Rattle.am_model.specs.declared.config.Config.{Config}
@@ -20,7 +19,7 @@ use Rattle.am_model.specs.Insert.{same_alert, same_member}
 use Rattle.am_board.specs.Refinement.{group_state, member_state}
 use Rattle.am_board.specs.Members.{labels_of}
 use Rattle.am_board.specs.Order.{member_cmp, indexes_in_order}
-use Rattle.am_board.specs.Walk.{IsWalk}
+use Rattle.am_board.specs.Walk.{AreFound}
 use Rattle.am_board.specs.declared.walk.Walk.{Walk}
 use Rattle.am_model.specs.Lists.{in_order, unless, without}
 use Rattle.am_model.specs.State.{GroupState, MemberState, State}
@@ -54,37 +53,37 @@ module _ (config : Config) (s : State) (t : ℕ) (g : Group) (apart : IsDistinct
       (IsDistinct-mapped same_member same_alert (λ (m : MemberState). copied t m.alert) (λ m n i. same_label_set (labels-copied t m.alert i) (labels-copied t n.alert i)) (group_state g).members apart)
 
   -- what fires and what is resolved of a group in the order of its labels is what is unmuted in it
-  is_found : (rules : List RuleData) (members : List Member) (firing resolved : List AlertData)
-      → route_muted config g.name t ≡ None → rules ≡ config.rules → members ≡ in_order member_cmp g.members.items
-      → firing ≡ firing_among rules s t members → resolved ≡ resolved_among rules s t members
+  is_found : (members : List Member) (firing resolved : List AlertData)
+      → route_muted config g.name t ≡ None → members ≡ in_order member_cmp g.members.items
+      → firing ≡ firing_among config.rules s t members → resolved ≡ resolved_among config.rules s t members
       → IsUnmuted config s t (group_state g) (record { firing = firing; resolved = resolved })
-  is_found rules members firing resolved not_muted same_rules same_members fire gone =
+  is_found members firing resolved not_muted same_members fire gone =
       let copy = copy_under config.rules s t (group_state g) in
       let apart_copy : IsDistinct same_alert copy = IsDistinct-copy config.rules s t (group_state g) apart in
       record {
         firing =
             fire
-            ∙ (ap (λ r. firing_among r s t members) same_rules ∙ ap (firing_among config.rules s t) same_members)
+            ∙ ap (firing_among config.rules s t) same_members
             ∙ ap (without (λ (a : AlertData). is_resolved a t)) copy-in_order
             ∙ left_out (λ a. not (is_resolved a t)) copy apart_copy
             ∙ sym (ap (λ o. in_order alert_cmp (without (λ a. is_resolved a t) (unless o copy))) not_muted);
         resolved =
             gone
-            ∙ (ap (λ r. resolved_among r s t members) same_rules ∙ ap (resolved_among config.rules s t) same_members)
+            ∙ ap (resolved_among config.rules s t) same_members
             ∙ ap (filter (λ (a : AlertData). is_resolved a t)) copy-in_order
             ∙ left_out (λ a. is_resolved a t) copy apart_copy
             ∙ sym (ap (λ o. in_order alert_cmp (filter (λ a. is_resolved a t) (unless o copy))) not_muted);
       }
 
   -- what a walk finds is what is unmuted
-  pub is_walked : (rules : List RuleData) (causes : Bool) (walk : Walk) (unmuted : Unmuted)
-      → route_muted config g.name t ≡ None → rules ≡ config.rules → IsWalk rules s t g.members.items causes walk
+  pub is_walked : (causes : Bool) (walk : Walk) (unmuted : Unmuted)
+      → route_muted config g.name t ≡ None → AreFound config.rules s t g.members.items (indexes_in_order (map labels_of g.members.items)) causes walk
       → unmuted.firing ≡ copies_at t walk.firing.items → unmuted.resolved ≡ copies_at t walk.resolved.items
       → IsUnmuted config s t (group_state g) unmuted
-  is_walked rules causes walk unmuted not_muted same_rules is fire gone =
+  is_walked causes walk unmuted not_muted is fire gone =
       let ms = g.members.items in
-      let found = is_found rules (filter_map (slice_get ms) (indexes_in_order (map labels_of ms))) (copies_at t walk.firing.items) (copies_at t walk.resolved.items)
-      not_muted same_rules (members_there ms) is.firing is.resolved in
+      let found = is_found (filter_map (slice_get ms) (indexes_in_order (map labels_of ms))) (copies_at t walk.firing.items) (copies_at t walk.resolved.items)
+      not_muted (members_there ms) is.firing is.resolved in
       record { firing = fire ∙ found.firing; resolved = gone ∙ found.resolved }
 
 -- nothing is unmuted where the route is muted

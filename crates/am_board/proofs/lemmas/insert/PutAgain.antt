@@ -1,29 +1,29 @@
 -- The state that an insert leaves that puts an alert in place of the known one and of the one in each of its groups.
-use Rattle.std.proofs.Common.{◌≡◌, ℕ, ◌+◌, ◌≤◌, ◌++◌, ◌∷◌, [], Vec, Global, List, Some, None, Result, Ok, Err, map, sym, ap, ◌∙◌, subst, arith, vec_len, vec_capacity}
+use Rattle.std.proofs.Common.{◌≡◌, ℕ, ◌+◌, ◌≤◌, ◌++◌, ◌∷◌, [], Vec, Global, List, Some, Result, Ok, Err, map, sym, ap, ◌∙◌, subst, arith, vec_len, vec_capacity}
 use Rattle.std.specs.VecDeque.{deque_items}
-use Rattle.std.specs.Prelude.{All, MatchResult}
+use Rattle.std.specs.Prelude.{All}
 use Rattle.am_alerts.specs.AlertData.{AlertData}
 use Rattle.am_model.specs.Causes.{insert_cause}
 use Rattle.am_model.specs.Insert.{same_alert, groups_with, after_insert}
 use Rattle.am_model.specs.Lists.{upsert}
 use Rattle.am_model.specs.Laws.{IsConsistent}
-use Rattle.am_model.specs.Records.{entry}
 use Rattle.am_model.specs.Replay.{reply, after}
 use Rattle.am_model.specs.State.{State, is_flushing}
 use Rattle.am_board.specs.Marks.{is_marked}
 use Rattle.am_model.specs.declared.config.Config.{Config}
 use Rattle.am_model.specs.declared.fault.Fault.{Fault}
-use Rattle.am_model.specs.declared.record.Call.TheVariants as call
 use Rattle.am_model.specs.declared.record.Inserted.{Inserted}
 use Rattle.am_model.specs.declared.record.Record.{Record}
 use Rattle.am_model.specs.declared.record.Reply.TheVariants as replies
 use Rattle.am_board.specs.Again.{IsPutAgain}
 use Rattle.am_board.specs.Group.{AreRouted}
+use Rattle.am_board.specs.Arrival.{Puts, insert_record}
 use Rattle.am_board.specs.Inserting.{IsReservedState, stamped_alert}
 use Rattle.am_board.specs.LogRows.{log_rows}
 use Rattle.am_board.specs.Refinement.{state_of, group_state, flush_state, EqualUpToRowOrder, IsPrepared}
 use Rattle.am_board.specs.Step.{MAX_CALLS, StateInvariant, AppliesCall, LeavesUnchanged, IsAnswer}
 use Rattle.am_board.specs.declared.flush.OpenFlush.{OpenFlush}
+use Rattle.am_board.specs.declared.insert.Arrival.{Arrival}
 use Rattle.am_board.specs.declared.state.State as kept
 use Rattle.am_board.proofs.lemmas.insert.Inserting.{stays_reserved}
 use Rattle.am_board.proofs.lemmas.invariant.Staying.{agrees_same}
@@ -45,11 +45,11 @@ again_leaves config s new t a clock inserts known groups silences log flushes nu
     }
 
 -- with its record it is an accepted insert
-pub applies_again : (config : Config) (old mid : kept.State) (pass now : ℕ) (alert : AlertData) (returned : Inserted) (pushed : Vec Record Global) → StateInvariant config old → IsPutAgain config now alert returned old mid
-    → pushed.items ≡ mid.history.items ++ entry pass (call.Insert now alert) (replies.Inserted returned) ∷ [] → vec_len pushed ≡ vec_len mid.history + 1 → vec_capacity pushed ≡ vec_capacity mid.history
-    → (id : ℕ) → AppliesCall config id (entry pass (call.Insert now alert) (replies.Inserted returned)) old (record mid { history = pushed })
-applies_again config old mid pass now alert returned pushed good put items counted space id =
-    let r : Record = entry pass (call.Insert now alert) (replies.Inserted returned) in
+pub applies_again : (config : Config) (old mid : kept.State) (arrival : Arrival) (returned : Inserted) (pushed : Vec Record Global) → StateInvariant config old → IsPutAgain config arrival.time arrival.alert returned old mid
+    → pushed.items ≡ mid.history.items ++ insert_record arrival returned ∷ [] → vec_len pushed ≡ vec_len mid.history + 1 → vec_capacity pushed ≡ vec_capacity mid.history
+    → (id : ℕ) → AppliesCall config id (insert_record arrival returned) old (record mid { history = pushed })
+applies_again config old mid arrival returned pushed good put items counted space id =
+    let r : Record = insert_record arrival returned in
     let logged : All (IsPrepared config mid.log) old.flushes.items = subst (λ log. All (IsPrepared config log) old.flushes.items) (sym put.log) good.prepared in
     record {
       returned = ap (λ (t : Inserted). Some (replies.Inserted t)) put.returned;
@@ -106,16 +106,8 @@ module _ (config : Config) (old mid : kept.State) (held : IsReservedState old mi
   pub cause_reserved : (alert : AlertData) → insert_cause config (vec_len mid.history) (state_of mid) alert ≡ insert_cause config (vec_len old.history) (state_of old) alert
   cause_reserved alert = λ i. insert_cause config (held.records i) (held.state i) alert
 
--- the state after the call is that after the insert of an alert, or the call failed with its cause
-abbrev pub Puts : Config → kept.State → kept.State → ℕ → ℕ → Result Inserted Fault → AlertData → Type 0
-Puts config old new pass now r alert =
-    MatchResult r
-    (λ returned. (insert_cause config (vec_len old.history) (state_of old) alert ≡ None)
-    × ((id : ℕ) → AppliesCall config id (entry pass (call.Insert now alert) (replies.Inserted returned)) old new))
-    (λ fault. IsAnswer (insert_cause config (vec_len old.history) (state_of old) alert) fault × LeavesUnchanged config old new)
-
-pub puts_reserved : (config : Config) (old mid new : kept.State) (pass now : ℕ) (alert : AlertData) (r : Result Inserted Fault) → IsReservedState old mid → Puts config mid new pass now r alert → Puts config old new pass now r alert
-puts_reserved config old mid new pass now alert (Ok returned) held h =
-    (sym (cause_reserved config old mid held alert) ∙ h.0, λ id. applies_reserved config old mid held id (entry pass (call.Insert now alert) (replies.Inserted returned)) new (h.1 id))
-puts_reserved config old mid new pass now alert (Err fault) held h =
-    (subst (λ cause. IsAnswer cause fault) (cause_reserved config old mid held alert) h.0, leaves_reserved config old mid held new h.1)
+pub puts_reserved : (config : Config) (old mid new : kept.State) (arrival : Arrival) (r : Result Inserted Fault) → IsReservedState old mid → Puts config mid new arrival r → Puts config old new arrival r
+puts_reserved config old mid new arrival (Ok returned) held h =
+    (sym (cause_reserved config old mid held arrival.alert) ∙ h.0, λ id. applies_reserved config old mid held id (insert_record arrival returned) new (h.1 id))
+puts_reserved config old mid new arrival (Err fault) held h =
+    (subst (λ cause. IsAnswer cause fault) (cause_reserved config old mid held arrival.alert) h.0, leaves_reserved config old mid held new h.1)

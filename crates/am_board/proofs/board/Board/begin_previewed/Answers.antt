@@ -11,11 +11,11 @@ use Rattle.am_board.proofs.lemmas.invariant.Limits.{begin_within, begin_caused, 
 use Rattle.am_board.proofs.lemmas.invariant.Sound.{good}
 use Rattle.am_board.proofs.board.Board.begin_previewed.Goals as goal
 
-pub take_previewed-requires-clause-good : goal.take_previewed-requires-clause-good
-take_previewed-requires-clause-good c = good c.self.inside c.self.invariant
+pub take-requires-clause-good : goal.take-requires-clause-good
+take-requires-clause-good c = good c.self.inside c.self.invariant
 
-pub take_previewed-requires-clause-times : goal.take_previewed-requires-clause-times
-take_previewed-requires-clause-times c = rows_timely c.self.inside c.self.invariant c.args.self.now c.self.view_is
+pub take-requires-clause-times : goal.take-requires-clause-times
+take-requires-clause-times c = rows_timely c.self.inside c.self.invariant c.args.self.now c.self.view_is
 
 -- the reply of what is returned
 abbrev replied : Begun × Option Preview → Reply
@@ -23,40 +23,40 @@ replied both = reply_of both.0
 
 pub invariant_of-self : goal.invariant_of-self
 invariant_of-self c =
-    sound_again c.self.inside c.self.invariant c.args.self.now c.self.view_is c.take_previewed.new.state c.args.pass (Begin c.args.now) replied _
-    (λ x h. h.1) _ refl (λ x h. begin_within c.self.inside c.self.invariant c.args.pass c.args.now c.take_previewed.new.state x.0 h.0 h.1) c.take_previewed.result c.take_previewed.ensures
+    sound_again c.self.inside c.self.invariant c.args.self.now c.self.view_is c.take.new.state c.args.pass (Begin c.args.now) replied _
+    (λ x h. h.1) _ refl (λ x h. begin_within c.self.inside c.self.invariant c.args.pass c.args.now c.take.new.state x.0 h.0 h.1) c.take.result c.take.ensures
 
 pub returns-clause-recorded : goal.returns-clause-recorded
 returns-clause-recorded c =
-    recorded c.self.inside c.self.invariant c.args.self.now c.self.view_is c.take_previewed.new.state c.args.pass (Begin c.args.now) replied _
-    (λ x h. h.1) _ c.take_previewed.result c.take_previewed.ensures
+    recorded c.self.inside c.self.invariant c.args.self.now c.self.view_is c.take.new.state c.args.pass (Begin c.args.now) replied _
+    (λ x h. h.1) _ c.take.result c.take.ensures
 
 pub returns-clause-reply : goal.returns-clause-reply
 returns-clause-reply c =
-    returned_now c.self.inside c.self.invariant c.args.self.now c.self.view_is c.take_previewed.new.state c.args.pass (Begin c.args.now) replied _
-    (λ x h. h.1) _ c.take_previewed.result c.take_previewed.ensures
+    returned_now c.self.inside c.self.invariant c.args.self.now c.self.view_is c.take.new.state c.args.pass (Begin c.args.now) replied _
+    (λ x h. h.1) _ c.take.result c.take.ensures
 
 pub returns-clause-cause : goal.returns-clause-cause
 returns-clause-cause c =
-    caused_too _ _ (begin_caused c.self.inside c.self.invariant c.args.self.now c.self.view_is c.args.now) _ _ _ c.take_previewed.result c.take_previewed.ensures
+    caused_too _ _ (begin_caused c.self.inside c.self.invariant c.args.self.now c.self.view_is c.args.now) _ _ _ c.take.result c.take.ensures
 
 pub returns-clause-refused : goal.returns-clause-refused
 returns-clause-refused c =
-    refused c.self.inside c.self.invariant c.args.self.now c.self.view_is c.take_previewed.new.state c.args.pass (Begin c.args.now) replied _
-    (λ x h. h.1) _ c.take_previewed.result c.take_previewed.ensures
+    refused c.self.inside c.self.invariant c.args.self.now c.self.view_is c.take.new.state c.args.pass (Begin c.args.now) replied _
+    (λ x h. h.1) _ c.take.result c.take.ensures
 
 pub returns-clause-fresh : goal.returns-clause-fresh
 returns-clause-fresh c =
-    subst (λ (d : BoardData). IfOk c.take_previewed.result (λ (both : Begun × Option Preview). IsFresh d.id both.0)) c.self.view_is
-    (IfOk-weaker c.take_previewed.result _ _ (λ both more. more.0) (fresh_too _ _ _ _ c.take_previewed.result c.take_previewed.ensures))
+    subst (λ (d : BoardData). IfOk c.take.result (λ (both : Begun × Option Preview). IsFresh d.id both.0)) c.self.view_is
+    (IfOk-weaker c.take.result _ _ (λ both more. more.0) (fresh_too _ _ _ _ c.take.result c.take.ensures))
 
 pub returns-clause-previewed : goal.returns-clause-previewed
 returns-clause-previewed c =
-    IfOk-weaker c.take_previewed.result _ _
+    IfOk-weaker c.take.result _ _
     (λ both more. more.1 ∙ preview_now c.self.inside c.self.invariant c.args.self.now c.self.view_is c.args.now)
-    (fresh_too _ _ _ _ c.take_previewed.result c.take_previewed.ensures)
+    (fresh_too _ _ _ _ c.take.result c.take.ensures)
 
 pub returns-clause-unhindered : goal.returns-clause-unhindered
 returns-clause-unhindered c most =
-    begin_unhindered c.self.inside c.self.invariant c.args.self.now c.self.view_is c.args.now c.take_previewed.result
-    (caused_too _ _ (begin_caused c.self.inside c.self.invariant c.args.self.now c.self.view_is c.args.now) _ _ _ c.take_previewed.result c.take_previewed.ensures) most
+    begin_unhindered c.self.inside c.self.invariant c.args.self.now c.self.view_is c.args.now c.take.result
+    (caused_too _ _ (begin_caused c.self.inside c.self.invariant c.args.self.now c.self.view_is c.args.now) _ _ _ c.take.result c.take.ensures) most

@@ -1,7 +1,0 @@
-use Rattle.std.proofs.Common.{◌≡◌, take, map}
-use Rattle.am_board.specs.Beginning.{notified_for_update}
-use Rattle.am_board.proofs.plan.notified_by.Given as goal
-
--- each integration so far
-abbrev pub invariant-loop-update : goal.invariant-loop-update
-invariant-loop-update l = l.all.items ≡ map (notified_for_update l.group l.unmuted) (take l.update-index l.notified)

@@ -8,6 +8,8 @@ pub mod Content
 pub mod Escaping
 -- members of a JSON object that are put in one after another, and its values without floats
 pub mod Members
+-- the lines of remarks, with those of one more before them
+pub mod RemarkLines
 -- what is written of a JSON text from one of its characters on
 pub mod Uncontrolled
 -- a text to which two more are added, one after the other

@@ -1,7 +1,7 @@
 -- Previews of two flushes that are alike have the same lines.
 use Rattle.std.proofs.Common.{◌≡◌, ◌∙◌, ◌+◌, ◌++◌, ◌&&◌, ◌||◌, ◌==◌, ◌∷◌, [], Bool, ℕ, List, Option, Some, None, true, false, not, ap, codes, refl, sym, length, if◌then◌else◌}
 use Rattle.std.specs.Prelude.{IfSome}
-use Rattle.std.specs.List.{list_all}
+use Rattle.std.specs.List.{flat_map, list_all}
 use Rattle.std.specs.Option.{IsSomeAnd}
 use Rattle.std.proofs.lemmas.Bool.{and_parts}
 use Rattle.am_model.specs.declared.config.Config.{Config}
@@ -16,75 +16,75 @@ use Rattle.am_terms.specs.TimeFormatData.{TimeFormatData}
 use Rattle.am_timeline.specs.Alike.{AreAlike, has_no_edge, is_unasked}
 use Rattle.am_timeline.specs.Playback.{PlaybackData, notices_at}
 use Rattle.am_timeline.specs.Runs.{lines_by, sends_nothing, start_frame}
-use Rattle.am_timeline.specs.Timeline.{FrameData, begun_lines, notified_lines, is_sent_nothing, muted_line, no_integrations_line, not_sent_line, nothing_left, nothing_left_line, quiet_line, quiet_lines}
-use Rattle.am_timeline.specs.Timeline.{edge_text, is_on_edge, next_flush, quiet_reason_text, reason_text}
+use Rattle.am_timeline.specs.Timeline.{FrameData, before, begun_lines, edge_of, is_on_edge, is_sent_nothing, next_flush, nothing_left}
+use Rattle.am_timeline.specs.Timeline.{remark_line, remark_on, remarks_from, remarks_with}
+use Rattle.am_timeline.specs.declared.remark.Edge.{Edge}
+use Rattle.am_timeline.specs.declared.remark.Remark.{Remark}
+use Rattle.am_timeline.specs.declared.remark.Remark.TheVariants.{NoneLeft, Muted, NoIntegrations, NotAsked, NothingToSend}
 
 -- a preview
 abbrev preview_of : ℕ → GroupName → List MutedAlert → List Reason → Preview
 preview_of time group muted reasons = record { time = time; group = group; muted = muted; reasons = reasons }
 
--- where a begin isn't on the edge, its reason is shown
-no-edge : (config : Config) (times : TimeFormatData) (o : Preview) (r : Reason) → not (is_on_edge o.time r) ≡ true
-    → quiet_reason_text config times o r ≡ reason_text times r
-no-edge config times o r h = by (is_on_edge o.time r) h
+-- where a begin isn't on the edge, it has none
+no-edge : (config : Config) (o : Preview) (r : Reason) → not (is_on_edge o.time r) ≡ true → edge_of config o r ≡ None
+no-edge config o r h = by (is_on_edge o.time r) h
   where
-    by : (b : Bool) → not b ≡ true → (if b then edge_text times o.time (next_flush config o) else reason_text times r) ≡ reason_text times r
+    here : Option Edge
+    here = Some (record { at = o.time; next = next_flush config o })
+
+    by : (b : Bool) → not b ≡ true → (if b then here else None) ≡ None
     by true h = cc
     by false h = refl
 
--- a line on an integration that isn't asked is the same at another time, with other notices, where neither time is on the edge
-quiet_line-timeless : (config : Config) (times : TimeFormatData) (frame : FrameData) (t u : ℕ) (g : GroupName) (m : List MutedAlert) (rs : List Reason)
-    (some others : List NoticeData) (position : ℕ) (r : Reason) → is_unasked r ≡ true → not (is_on_edge t r) ≡ true → not (is_on_edge u r) ≡ true
-    → quiet_line config times frame (preview_of t g m rs) some position r ≡ quiet_line config times frame (preview_of u g m rs) others position r
-quiet_line-timeless config times frame t u g m rs some others position r h before after = by (notifies r) h
+-- what is said of an integration that isn't asked is the same at another time, with other notices, where neither time is on the edge
+remark_on-timeless : (config : Config) (t u : ℕ) (g : GroupName) (m : List MutedAlert) (rs : List Reason) (some others : List NoticeData)
+    (position : ℕ) (r : Reason) → is_unasked r ≡ true → not (is_on_edge t r) ≡ true → not (is_on_edge u r) ≡ true
+    → remark_on config (preview_of t g m rs) some position r ≡ remark_on config (preview_of u g m rs) others position r
+remark_on-timeless config t u g m rs some others position r h old new = by (notifies r) h
   where
-    sent_line : List ℕ
-    sent_line = not_sent_line config times frame (preview_of t g m rs) position (codes "all resolved, which it isn't sent")
+    quiet : Option Edge → Option Remark
+    quiet edge = Some (NotAsked position r edge)
 
-    quiet : ℕ → List ℕ
-    quiet at = not_sent_line config times frame (preview_of at g m rs) position (quiet_reason_text config times (preview_of at g m rs) r)
-
-    same : quiet t ≡ quiet u
-    same =
-        ap (not_sent_line config times frame (preview_of t g m rs) position)
-        (no-edge config times (preview_of t g m rs) r before ∙ sym (no-edge config times (preview_of u g m rs) r after))
+    same : quiet (edge_of config (preview_of t g m rs) r) ≡ quiet (edge_of config (preview_of u g m rs) r)
+    same = ap quiet (no-edge config (preview_of t g m rs) r old ∙ sym (no-edge config (preview_of u g m rs) r new))
 
     by : (b : Bool) → not b ≡ true
-        → (if b then (if is_sent_nothing some position then sent_line else []) else quiet t)
-        ≡ (if b then (if is_sent_nothing others position then sent_line else []) else quiet u)
+        → (if b then (if is_sent_nothing some position then Some (NothingToSend position) else None)
+        else quiet (edge_of config (preview_of t g m rs) r))
+        ≡ (if b then (if is_sent_nothing others position then Some (NothingToSend position) else None)
+        else quiet (edge_of config (preview_of u g m rs) r))
     by true h = cc
     by false h = same
 
--- the same of the lines on integrations of which none is asked
-quiet_lines-timeless : (config : Config) (times : TimeFormatData) (frame : FrameData) (t u : ℕ) (g : GroupName) (m : List MutedAlert) (rs : List Reason)
-    (some others : List NoticeData) (position : ℕ) (reasons : List Reason) → list_all is_unasked reasons ≡ true
+-- the same of integrations of which none is asked
+remarks_from-timeless : (config : Config) (t u : ℕ) (g : GroupName) (m : List MutedAlert) (rs : List Reason) (some others : List NoticeData)
+    (position : ℕ) (reasons : List Reason) → list_all is_unasked reasons ≡ true
     → list_all (λ r. not (is_on_edge t r)) reasons ≡ true → list_all (λ r. not (is_on_edge u r)) reasons ≡ true
-    → quiet_lines config times frame (preview_of t g m rs) some position reasons
-    ≡ quiet_lines config times frame (preview_of u g m rs) others position reasons
-quiet_lines-timeless config times frame t u g m rs some others position [] h before after = refl
-quiet_lines-timeless config times frame t u g m rs some others position (r ∷ reasons) h before after =
+    → remarks_from config (preview_of t g m rs) some position reasons ≡ remarks_from config (preview_of u g m rs) others position reasons
+remarks_from-timeless config t u g m rs some others position [] h old new = refl
+remarks_from-timeless config t u g m rs some others position (r ∷ reasons) h old new =
     let parts = and_parts _ _ h in
-    let old = and_parts _ _ before in
-    let new = and_parts _ _ after in
-    let first = quiet_line-timeless config times frame t u g m rs some others position r parts.0 old.0 new.0 in
-    let rest = quiet_lines-timeless config times frame t u g m rs some others (position + 1) reasons parts.1 old.1 new.1 in
-    λ i. first i ++ rest i
+    let olds = and_parts _ _ old in
+    let news = and_parts _ _ new in
+    let first = remark_on-timeless config t u g m rs some others position r parts.0 olds.0 news.0 in
+    let rest = remarks_from-timeless config t u g m rs some others (position + 1) reasons parts.1 olds.1 news.1 in
+    λ i. before (first i) (rest i)
 
 -- the lines on a flush with this preview and these notices
 abbrev shown : Config → TimeFormatData → FrameData → Preview → List NoticeData → List ℕ
-shown config times frame o notices =
-    if nothing_left o.reasons then nothing_left_line config times frame o
-    else muted_line config times frame o ++ notified_lines config times frame o notices
+shown config times frame o notices = flat_map (remark_line config times frame o) (remarks_with config o notices)
 
 -- they are the same at another time, with other notices, where no integration is asked
 shown-timeless : (config : Config) (times : TimeFormatData) (frame : FrameData) (t u : ℕ) (g : GroupName) (m : List MutedAlert) (rs : List Reason)
     (some others : List NoticeData) → list_all is_unasked rs ≡ true → has_no_edge (preview_of t g m rs) ≡ true → has_no_edge (preview_of u g m rs) ≡ true
     → shown config times frame (preview_of t g m rs) some ≡ shown config times frame (preview_of u g m rs) others
-shown-timeless config times frame t u g m rs some others h before after =
-    let o = preview_of t g m rs in
-    ap (λ (lines : List ℕ). if nothing_left rs then nothing_left_line config times frame o
-    else muted_line config times frame o ++ (if length rs == 0 then no_integrations_line config times frame o (codes "no integrations") else lines))
-    (quiet_lines-timeless config times frame t u g m rs some others 0 rs h before after)
+shown-timeless config times frame t u g m rs some others h old new =
+    ap (λ (said : List Remark). flat_map (remark_line config times frame (preview_of t g m rs))
+    (if nothing_left rs then NoneLeft ∷ []
+    else (if length m == 0 then (if length rs == 0 then NoIntegrations ∷ [] else said)
+    else Muted ∷ (if length rs == 0 then NoIntegrations ∷ [] else said))))
+    (remarks_from-timeless config t u g m rs some others 0 rs h old new)
 
 -- they are the same where the previews are alike
 shown-alike : (config : Config) (times : TimeFormatData) (frame : FrameData) (o p : Preview) (some others : List NoticeData) → AreAlike o p

@@ -1,5 +1,5 @@
 -- Json: the timeline as JSON. Each line is an object.
-use Rattle.std.specs.Prelude.{ℕ, ◌+◌, not, ◌&&◌, ◌==◌, nat_lt, nat_le, List, [], ◌∷◌, ◌++◌, length, map, codes, Option, slice_get}
+use Rattle.std.specs.Prelude.{ℕ, ◌&&◌, nat_lt, nat_le, List, [], ◌∷◌, ◌++◌, map, codes, Option, slice_get}
 use Rattle.std.specs.Prelude.{if◌then◌else◌}
 use Rattle.std.specs.Char.{encode_utf8}
 use Rattle.std.specs.List.{flat_map}
@@ -22,7 +22,6 @@ use Rattle.am_model.specs.declared.reason.Reason.{Reason}
 use Rattle.am_model.specs.declared.reason.Reason.TheVariants.{FirstNotice, NewAlert, AllResolved, NewlyResolved, Repeat, NothingLeft}
 use Rattle.am_model.specs.declared.reason.Reason.TheVariants.{NothingFiring, NotYet, RouteMuted}
 use Rattle.am_model.specs.Configured.{route_of, integration_text}
-use Rattle.am_model.specs.look_back.Reasons.{notifies}
 use Rattle.am_model.specs.Notice.{NoticeData}
 use Rattle.am_terms.specs.declared.event.Event.{Event}
 use Rattle.am_terms.specs.declared.event.Event.TheVariants.{Begun, Sent}
@@ -30,9 +29,11 @@ use Rattle.am_terms.specs.declared.event.PreviewedBegin.{PreviewedBegin}
 use Rattle.am_terms.specs.TimeFormatData.{TimeFormatData}
 use Rattle.am_timeline.specs.IntegrationName.{target_name}
 use Rattle.am_timeline.specs.Shown.{hex_text}
-use Rattle.am_timeline.specs.Playback.{PlaybackData, SentData, is_delivered, notices_at, sent_of}
-use Rattle.am_timeline.specs.Timeline.{expiry_before, expiry_if_first, is_late, is_on_edge, is_sent_nothing, labels_of, next_flush}
-use Rattle.am_timeline.specs.Timeline.{nothing_left, reason_words}
+use Rattle.am_timeline.specs.Playback.{PlaybackData, SentData, is_delivered, sent_of}
+use Rattle.am_timeline.specs.Timeline.{expiry_before, expiry_if_first, is_late, labels_of, reason_words, remarks}
+use Rattle.am_timeline.specs.declared.remark.Edge.{Edge}
+use Rattle.am_timeline.specs.declared.remark.Remark.{Remark}
+use Rattle.am_timeline.specs.declared.remark.Remark.TheVariants.{NoneLeft, Muted, NoIntegrations, NotAsked, NothingToSend}
 
 -- a member of an object: its name and its value
 abbrev pub Member : Type 0
@@ -165,42 +166,51 @@ unfoldable pub sent_members : PlaybackData → TimeFormatData → SentData → R
 sent_members playback times s reason =
     sending_members playback.config times s ++ sent_reason_members (expiry_before playback s) reason ++ content_members s.notice
 
--- the fields of a begin that has this preview
-abbrev pub begun_members : Config → TimeFormatData → List ℕ → Preview → List Member
-begun_members config times event o = event_members config times event o.time o.group
-
 -- the muted alerts of a begin
-abbrev pub muted_member : Preview → Member
-muted_member o = (codes "muted", muted_data o.muted)
+abbrev pub muted_member : List MutedAlert → Member
+muted_member muted = (codes "muted", muted_data muted)
 
--- a begin that some alerts of its group are muted at
-unfoldable pub muted_members : Config → TimeFormatData → Preview → List Member
-muted_members config times o = begun_members config times (codes "muted") o ++ muted_member o ∷ []
+-- that nothing is left of a group: no alerts, or muted ones
+abbrev pub left_members : List MutedAlert → List Member
+left_members muted = text_at (codes "reason") (codes "nothing left") ∷ muted_member muted ∷ []
 
--- a begin at which nothing is left of its group: no alerts, or muted ones
-unfoldable pub left_members : Config → TimeFormatData → Preview → List Member
-left_members config times o =
-    begun_members config times (codes "quiet") o ++ text_at (codes "reason") (codes "nothing left") ∷ muted_member o ∷ []
-
--- a group's receiver that is sent nothing, since it has no integrations
-unfoldable pub unasked_members : Config → TimeFormatData → Preview → List Member
-unasked_members config times o =
-    begun_members config times (codes "quiet") o ++ receiver_member config o.group ∷ text_at (codes "reason") (codes "no integrations") ∷ []
+-- that a group's receiver has no integrations
+abbrev pub unasked_members : Config → GroupName → List Member
+unasked_members config group = receiver_member config group ∷ text_at (codes "reason") (codes "no integrations") ∷ []
 
 -- when the next flush begins, if a begin is on the edge for an integration: the notice is repeated at one of the two
-abbrev pub edge_members : Config → Preview → Reason → List Member
-edge_members config o reason = if is_on_edge o.time reason then number_at (codes "edge") (next_flush config o) ∷ [] else []
+abbrev pub edge_members : Option Edge → List Member
+edge_members edge = option_map_or (λ e. number_at (codes "edge") e.next ∷ []) edge []
 
--- why an integration is sent nothing at a begin
-abbrev pub quiet_reason_members : Config → Preview → Reason → List Member
-quiet_reason_members config o reason =
-    if notifies reason then text_at (codes "reason") (codes "all resolved, which it isn't sent") ∷ []
-    else reason_members reason ++ edge_members config o reason
+-- an integration that isn't asked at a begin, and why; it can be on the edge for it
+abbrev pub not_asked_members : Config → GroupName → ℕ → Reason → Option Edge → List Member
+not_asked_members config group position reason edge =
+    integration_members config group position ++ reason_members reason ++ edge_members edge
 
--- an integration that is sent nothing, and why
-unfoldable pub quiet_members : Config → TimeFormatData → Preview → ℕ → Reason → List Member
-quiet_members config times o position reason =
-    begun_members config times (codes "quiet") o ++ integration_members config o.group position ++ quiet_reason_members config o reason
+-- an integration that is asked at a begin, but has nothing to send
+abbrev pub nothing_to_send_members : Config → GroupName → ℕ → List Member
+nothing_to_send_members config group position =
+    integration_members config group position ++ text_at (codes "reason") (codes "all resolved, which it isn't sent") ∷ []
+
+-- what is said of a begin that has this preview
+abbrev pub said_members : Config → Preview → Remark → List Member
+said_members config o NoneLeft = left_members o.muted
+said_members config o Muted = muted_member o.muted ∷ []
+said_members config o NoIntegrations = unasked_members config o.group
+said_members config o (NotAsked position reason edge) = not_asked_members config o.group position reason edge
+said_members config o (NothingToSend position) = nothing_to_send_members config o.group position
+
+-- what happened at a begin of which this is said
+abbrev pub remark_event : Remark → List ℕ
+remark_event NoneLeft = codes "quiet"
+remark_event Muted = codes "muted"
+remark_event NoIntegrations = codes "quiet"
+remark_event (NotAsked position reason edge) = codes "quiet"
+remark_event (NothingToSend position) = codes "quiet"
+
+-- the fields of a remark on a begin
+unfoldable pub remark_members : Config → TimeFormatData → Preview → Remark → List Member
+remark_members config times o remark = event_members config times (remark_event remark) o.time o.group ++ said_members config o remark
 
 -- a character of a line: a control character that JSON allows, from U+007F to U+009F, by its number, as `\u0085`
 abbrev pub char_uncontrolled : ℕ → List ℕ
@@ -224,33 +234,13 @@ json_of_sent playback times s =
     option_map_or (λ reason. object_line (sent_members playback times s reason))
     (slice_get s.begin.preview.reasons s.notice.integration) []
 
--- the line on the muted alerts of a begin, if there are any
-abbrev pub json_of_muted : Config → TimeFormatData → Preview → List ℕ
-json_of_muted config times o = if length o.muted == 0 then [] else object_line (muted_members config times o)
+-- the line on a remark on a begin
+abbrev pub json_of_remark : Config → TimeFormatData → Preview → Remark → List ℕ
+json_of_remark config times o remark = object_line (remark_members config times o remark)
 
--- the line on an integration at a begin: nothing where there is something to send
-abbrev pub json_of_quiet : Config → TimeFormatData → Preview → List NoticeData → ℕ → Reason → List ℕ
-json_of_quiet config times o notices position reason =
-    if notifies reason && not (is_sent_nothing notices position) then [] else object_line (quiet_members config times o position reason)
-
--- the lines on the integrations from a position on, at a begin
-abbrev pub json_of_reasons : Config → TimeFormatData → Preview → List NoticeData → ℕ → List Reason → List ℕ
-json_of_reasons config times o notices position [] = []
-json_of_reasons config times o notices position (reason ∷ reasons) =
-    json_of_quiet config times o notices position reason ++ json_of_reasons config times o notices (position + 1) reasons
-
--- the lines on the integrations at a begin at which something is left, or of which there is none
-abbrev pub json_of_notified : Config → TimeFormatData → Preview → List NoticeData → List ℕ
-json_of_notified config times o notices =
-    if length o.reasons == 0 then object_line (unasked_members config times o)
-    else json_of_reasons config times o notices 0 o.reasons
-
--- the lines on a begin: which alerts are muted, and who is sent nothing
+-- a begin: a line for each remark
 abbrev pub json_of_begun : PlaybackData → TimeFormatData → PreviewedBegin → List ℕ
-json_of_begun playback times begin =
-    if nothing_left begin.preview.reasons then object_line (left_members playback.config times begin.preview)
-    else json_of_muted playback.config times begin.preview
-    ++ json_of_notified playback.config times begin.preview (notices_at playback.history begin.index)
+json_of_begun playback times begin = flat_map (json_of_remark playback.config times begin.preview) (remarks playback begin)
 
 -- the lines on an event
 abbrev pub json_of_event : PlaybackData → TimeFormatData → Event → List ℕ

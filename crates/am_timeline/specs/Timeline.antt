@@ -1,6 +1,6 @@
 -- Timeline: what happened in a rehearsal, a line for each event.
 use Rattle.std.specs.Prelude.{ℕ, ◌+◌, Bool, true, false, not, ◌&&◌, ◌==◌, List, [], ◌∷◌, ◌++◌, length, codes, decimal}
-use Rattle.std.specs.Prelude.{min, nat_lt, Option, None, slice_get, if◌then◌else◌}
+use Rattle.std.specs.Prelude.{min, nat_lt, Option, None, Some, slice_get, if◌then◌else◌}
 use Rattle.std.specs.List.{flat_map, join_by, list_all}
 use Rattle.std.specs.Option.{option_map_or}
 use Rattle.am_alerts.specs.AlertData.{AlertData}
@@ -23,6 +23,9 @@ use Rattle.am_model.specs.Notice.{NoticeData, is_nothing}
 use Rattle.am_terms.specs.declared.event.Event.{Event}
 use Rattle.am_terms.specs.declared.event.Event.TheVariants.{Begun, Sent}
 use Rattle.am_terms.specs.declared.event.PreviewedBegin.{PreviewedBegin}
+use Rattle.am_timeline.specs.declared.remark.Edge.{Edge}
+use Rattle.am_timeline.specs.declared.remark.Remark.{Remark}
+use Rattle.am_timeline.specs.declared.remark.Remark.TheVariants.{NoneLeft, Muted, NoIntegrations, NotAsked, NothingToSend}
 use Rattle.am_timeline.specs.Expiry.{expired}
 use Rattle.am_timeline.specs.IntegrationName.{target_name}
 use Rattle.am_timeline.specs.Shown.{text_shown, set_shown, sets_shown}
@@ -94,18 +97,22 @@ is_on_edge t (RouteMuted until) = false
 abbrev pub next_flush : Config → Preview → ℕ
 next_flush config o = min (o.time + (route_of config o.group).group_interval) MAX_TIME
 
+-- a begin that is on the edge for an integration, with the next flush: the notice is repeated at one of the two
+abbrev pub edge_of : Config → Preview → Reason → Option Edge
+edge_of config o reason = if is_on_edge o.time reason then Some (record { at = o.time; next = next_flush config o }) else None
+
 -- a time behind a word
 unfoldable pub time_behind : TimeFormatData → List ℕ → ℕ → List ℕ
 time_behind times word t = word ++ times.text t
 
 -- that a notice is repeated at one of two flushes
-unfoldable pub edge_text : TimeFormatData → ℕ → ℕ → List ℕ
-edge_text times t next = time_behind times (codes "repeat at ") t ++ time_behind times (codes " or ") next ++ codes ": on the edge"
+unfoldable pub edge_text : TimeFormatData → Edge → List ℕ
+edge_text times edge =
+    time_behind times (codes "repeat at ") edge.at ++ time_behind times (codes " or ") edge.next ++ codes ": on the edge"
 
--- why an integration is sent nothing at a begin
-abbrev pub quiet_reason_text : Config → TimeFormatData → Preview → Reason → List ℕ
-quiet_reason_text config times o reason =
-    if is_on_edge o.time reason then edge_text times o.time (next_flush config o) else reason_text times reason
+-- why an integration isn't asked at a begin; it can be on the edge for it
+abbrev pub quiet_reason_text : TimeFormatData → Reason → Option Edge → List ℕ
+quiet_reason_text times reason edge = option_map_or (edge_text times) edge (reason_text times reason)
 
 -- when the entry expired whose lack makes a notice a first one, if it had
 abbrev pub expiry_if_first : Option ℕ → Reason → Option ℕ
@@ -228,54 +235,9 @@ pub record FrameData : Type 0 where
 abbrev pub own_frame : Preview → FrameData
 own_frame o = record { time = o.time; ending = codes "\n" }
 
--- a begin that some alerts of its group are muted at
-abbrev pub muted_line : Config → TimeFormatData → FrameData → Preview → List ℕ
-muted_line config times frame o =
-    if length o.muted == 0 then []
-    else time_text times frame.time (codes "muted   ") ++ group_shown config o.group ++ codes ": " ++ muted_text times o.muted
-    ++ frame.ending
-
--- what is left of a group: no alerts, or muted ones
-abbrev pub nothing_left_text : TimeFormatData → List MutedAlert → List ℕ
-nothing_left_text times muted = if length muted == 0 then codes "no alerts" else muted_text times muted
-
--- a begin at which nothing is left of its group
-abbrev pub nothing_left_line : Config → TimeFormatData → FrameData → Preview → List ℕ
-nothing_left_line config times frame o =
-    time_text times frame.time (codes "quiet   ") ++ group_shown config o.group ++ codes ": " ++ nothing_left_text times o.muted
-    ++ frame.ending
-
--- a group's receiver that is sent nothing, and why
-abbrev pub no_integrations_line : Config → TimeFormatData → FrameData → Preview → List ℕ → List ℕ
-no_integrations_line config times frame o why =
-    time_text times frame.time (codes "quiet   ") ++ group_receiver_text config o.group ++ codes ": " ++ why ++ frame.ending
-
--- an integration that is sent nothing
-abbrev pub not_sent_text : Config → TimeFormatData → FrameData → Preview → ℕ → List ℕ
-not_sent_text config times frame o position =
-    time_text times frame.time (codes "quiet   ") ++ target_shown config o.group position ++ codes ": "
-
--- the same, and why
-abbrev pub not_sent_line : Config → TimeFormatData → FrameData → Preview → ℕ → List ℕ → List ℕ
-not_sent_line config times frame o position why = not_sent_text config times frame o position ++ why ++ frame.ending
-
 -- whether an integration is asked though there is nothing to send
 abbrev pub is_sent_nothing : List NoticeData → ℕ → Bool
 is_sent_nothing notices position = option_map_or is_nothing (notice_for position notices) false
-
--- an integration at a begin: nothing where there is something to send
-abbrev pub quiet_line : Config → TimeFormatData → FrameData → Preview → List NoticeData → ℕ → Reason → List ℕ
-quiet_line config times frame o notices position reason =
-    if notifies reason
-    then (if is_sent_nothing notices position
-    then not_sent_line config times frame o position (codes "all resolved, which it isn't sent") else [])
-    else not_sent_line config times frame o position (quiet_reason_text config times o reason)
-
--- the integrations from a position on, at a begin
-abbrev pub quiet_lines : Config → TimeFormatData → FrameData → Preview → List NoticeData → ℕ → List Reason → List ℕ
-quiet_lines config times frame o notices position [] = []
-quiet_lines config times frame o notices position (reason ∷ reasons) =
-    quiet_line config times frame o notices position reason ++ quiet_lines config times frame o notices (position + 1) reasons
 
 -- whether a reason is that nothing is left
 abbrev pub is_left : Reason → Bool
@@ -293,18 +255,75 @@ is_left (RouteMuted until) = false
 abbrev pub nothing_left : List Reason → Bool
 nothing_left reasons = not (length reasons == 0) && list_all is_left reasons
 
--- the integrations at a begin at which something is left, or of which there is none
-abbrev pub notified_lines : Config → TimeFormatData → FrameData → Preview → List NoticeData → List ℕ
-notified_lines config times frame o notices =
-    if length o.reasons == 0 then no_integrations_line config times frame o (codes "no integrations")
-    else quiet_lines config times frame o notices 0 o.reasons
+-- what is said of an integration at a begin: nothing where there is something to send
+abbrev pub remark_on : Config → Preview → List NoticeData → ℕ → Reason → Option Remark
+remark_on config o notices position reason =
+    if notifies reason then (if is_sent_nothing notices position then Some (NothingToSend position) else None)
+    else Some (NotAsked position reason (edge_of config o reason))
 
--- a begin: which alerts are muted, and who is sent nothing
+-- a remark, if there is one, before others
+abbrev pub before : Option Remark → List Remark → List Remark
+before None remarks = remarks
+before (Some remark) remarks = remark ∷ remarks
+
+-- what is said of the integrations from a position on
+abbrev pub remarks_from : Config → Preview → List NoticeData → ℕ → List Reason → List Remark
+remarks_from config o notices position [] = []
+remarks_from config o notices position (reason ∷ reasons) =
+    before (remark_on config o notices position reason) (remarks_from config o notices (position + 1) reasons)
+
+-- what is said of the integrations at a begin at which something is left, or that there is none
+abbrev pub remarks_on_integrations : Config → Preview → List NoticeData → List Remark
+remarks_on_integrations config o notices =
+    if length o.reasons == 0 then NoIntegrations ∷ [] else remarks_from config o notices 0 o.reasons
+
+-- what is said of a begin with these notices
+abbrev pub remarks_with : Config → Preview → List NoticeData → List Remark
+remarks_with config o notices =
+    if nothing_left o.reasons then NoneLeft ∷ []
+    else (if length o.muted == 0 then remarks_on_integrations config o notices else Muted ∷ remarks_on_integrations config o notices)
+
+-- remarks: what is said of a begin: which alerts are muted, and who is sent nothing
+abbrev pub remarks : PlaybackData → PreviewedBegin → List Remark
+remarks playback begin = remarks_with playback.config begin.preview (notices_at playback.history begin.index)
+
+-- what is left of a group: no alerts, or muted ones
+abbrev pub nothing_left_text : TimeFormatData → List MutedAlert → List ℕ
+nothing_left_text times muted = if length muted == 0 then codes "no alerts" else muted_text times muted
+
+-- what a line on a begin is about
+abbrev pub remark_word : Remark → List ℕ
+remark_word NoneLeft = codes "quiet   "
+remark_word Muted = codes "muted   "
+remark_word NoIntegrations = codes "quiet   "
+remark_word (NotAsked position reason edge) = codes "quiet   "
+remark_word (NothingToSend position) = codes "quiet   "
+
+-- of whom something is said: a group, its receiver or an integration of that
+abbrev pub remark_target : Config → GroupName → Remark → List ℕ
+remark_target config name NoneLeft = group_shown config name
+remark_target config name Muted = group_shown config name
+remark_target config name NoIntegrations = group_receiver_text config name
+remark_target config name (NotAsked position reason edge) = target_shown config name position
+remark_target config name (NothingToSend position) = target_shown config name position
+
+-- what is said, where these alerts are muted
+abbrev pub remark_text : TimeFormatData → List MutedAlert → Remark → List ℕ
+remark_text times muted NoneLeft = nothing_left_text times muted
+remark_text times muted Muted = muted_text times muted
+remark_text times muted NoIntegrations = codes "no integrations"
+remark_text times muted (NotAsked position reason edge) = quiet_reason_text times reason edge
+remark_text times muted (NothingToSend position) = codes "all resolved, which it isn't sent"
+
+-- the line on a remark
+abbrev pub remark_line : Config → TimeFormatData → FrameData → Preview → Remark → List ℕ
+remark_line config times frame o remark =
+    time_text times frame.time (remark_word remark) ++ remark_target config o.group remark ++ codes ": "
+    ++ remark_text times o.muted remark ++ frame.ending
+
+-- a begin: a line for each remark
 abbrev pub begun_lines : PlaybackData → TimeFormatData → FrameData → PreviewedBegin → List ℕ
-begun_lines playback times frame begin =
-    if nothing_left begin.preview.reasons then nothing_left_line playback.config times frame begin.preview
-    else muted_line playback.config times frame begin.preview
-    ++ notified_lines playback.config times frame begin.preview (notices_at playback.history begin.index)
+begun_lines playback times frame begin = flat_map (remark_line playback.config times frame begin.preview) (remarks playback begin)
 
 -- the lines on a begin, each with its own time
 abbrev pub own_lines : PlaybackData → TimeFormatData → PreviewedBegin → List ℕ

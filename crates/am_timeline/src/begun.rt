@@ -1,19 +1,17 @@
-//! The lines on begins: the muted alerts, and the integrations that aren't notified.
+//! The lines of the timeline on begins.
 ghost use Rattle.std.specs.Prelude.{◌≡◌, ◌++◌, OnOk, string_bytes};
-ghost use Rattle.std.specs.List.{list_all};
-ghost use Rattle.am_timeline.specs.Timeline.{notified_lines, begun_lines, is_left};
-ghost use Rattle.am_timeline.specs.Timeline.{is_sent_nothing, nothing_left_line, nothing_left_text, muted_line};
-ghost use Rattle.am_timeline.specs.Timeline.{edge_text, next_flush, nothing_left, quiet_line, quiet_lines, quiet_reason_text, time_behind};
-ghost use Rattle.am_timeline.specs.Timeline.{no_integrations_line, not_sent_line, not_sent_text};
+ghost use Rattle.am_timeline.specs.Timeline.{begun_lines, edge_text, nothing_left_text, quiet_reason_text, remark_line, remark_target};
+ghost use Rattle.am_timeline.specs.Timeline.{remark_text, remark_word, time_behind};
 
 use crate::frame::Frame;
 use crate::groups::{push_group, push_group_receiver, push_target};
-use crate::line::{is_on_edge, push_reason, push_time};
+use crate::line::{push_reason, push_time};
 use crate::muted::push_muted;
-use crate::playback::{Playback, notice_for, notices_at};
-use am_alerts::limits::MAX_TIME;
+use crate::print::Print;
+use crate::remark::{Edge, Remark};
+use crate::remarks::{Printer, push_remarks};
 use am_model::config::Config;
-use am_model::notice::Notice;
+use am_model::group::GroupName;
 use am_model::preview::MutedAlert;
 use am_model::reason::Reason;
 use am_terms::clock::TimeFormat;
@@ -21,64 +19,106 @@ use am_terms::event::PreviewedBegin;
 use am_terms::shared_preview::SharedPreview;
 use std::alloc::AllocError;
 
-/// Adds the lines on a begin: the muted alerts, and each integration that isn't notified, with its
+/// Prints remarks in a frame.
+#[derive(Drop)]
+struct Lines<'l, 'p, 's, C: TimeFormat> {
+    print: &'l Print<'p, 's, C>,
+    frame: &'l Frame<'l>,
+}
+
+impl<'l, 'p, 's, C: TimeFormat> Printer for Lines<'l, 'p, 's, C> {
+    ghost line = { λ l o remark.
+        remark_line l.print.now.playback.now.config (C.times l.print.now.clock.now) l.frame.now o remark };
+
+    fn push(
+        &self,
+        preview: &SharedPreview,
+        remark: Remark,
+        out: &mut String,
+    ) -> Result<(), AllocError> {
+        push_remark(self.print, self.frame, preview, remark, out)
+    }
+}
+
+/// Adds the lines on a begin: which alerts are muted, and each integration that isn't notified, with its
 /// reason.
 pub(crate) fn push_begun<C: TimeFormat>(
-    playback: &Playback,
-    clock: &C,
+    print: &Print<'_, '_, C>,
     frame: &Frame<'_>,
     begin: &PreviewedBegin,
     out: &mut String,
 ) -> Result<(), AllocError>
     ensures { OnOk result (string_bytes out.new
-        ≡ string_bytes out.old ++ begun_lines playback.now (C.times clock.now) frame.now begin.now) }
+        ≡ string_bytes out.old ++ begun_lines print.now.playback.now (C.times print.now.clock.now) frame.now begin.now) }
 {
-    if nothing_left(begin.preview.reasons()) {
-        return push_left(playback.config, clock, frame, &begin.preview, out);
-    }
-    push_muted_line(playback.config, clock, frame, &begin.preview, out)?;
-    let notices = notices_at(playback.history, begin.index);
-    push_notified(playback.config, clock, frame, &begin.preview, notices, out)
+    let lines = Lines { print, frame };
+    push_remarks(&lines, print.playback, begin, out)
 }
 
-/// Returns whether nothing is left of a group, by the reasons of its receiver's integrations.
-pub(crate) fn nothing_left(reasons: &[Reason]) -> bool
-    ensures { result ≡ nothing_left reasons.now }
-{
-    reasons.len() != 0 && are_left(reasons)
-}
-
-fn are_left(reasons: &[Reason]) -> bool
-    ensures { result ≡ list_all is_left reasons.now }
-{
-    reasons.iter().all(|reason| is_left(reason))
-}
-
-fn is_left(reason: &Reason) -> bool
-    ensures { result ≡ is_left reason.now }
-{
-    match reason {
-        Reason::NothingLeft => true,
-        _ => false,
-    }
-}
-
-/// Adds the line on a begin at which nothing is left of its group.
-fn push_left<C: TimeFormat>(
-    config: &Config,
-    clock: &C,
+fn push_remark<C: TimeFormat>(
+    print: &Print<'_, '_, C>,
     frame: &Frame<'_>,
     preview: &SharedPreview,
+    remark: Remark,
+    out: &mut String,
+) -> Result<(), AllocError>
+    ensures { OnOk result (string_bytes out.new ≡ string_bytes out.old
+        ++ remark_line print.now.playback.now.config (C.times print.now.clock.now) frame.now preview.now remark) }
+{
+    push_time(print.clock, frame.time, remark_word(remark), out)?;
+    push_remark_target(print.config(), preview.group(), remark, out)?;
+    out.push_str(": ")?;
+    push_remark_text(print.clock, preview.muted(), remark, out)?;
+    out.push_str(frame.ending)
+}
+
+fn remark_word(remark: Remark) -> &'static str
+    ensures { result.now ≡ remark_word remark }
+{
+    match remark {
+        Remark::Muted => "muted   ",
+        Remark::NoneLeft
+        | Remark::NoIntegrations
+        | Remark::NotAsked { .. }
+        | Remark::NothingToSend { .. } => "quiet   ",
+    }
+}
+
+/// Adds of whom something is said: a group, its receiver or an integration of that.
+fn push_remark_target(
+    config: &Config,
+    group: &GroupName,
+    remark: Remark,
     out: &mut String,
 ) -> Result<(), AllocError>
     ensures { OnOk result (string_bytes out.new
-        ≡ string_bytes out.old ++ nothing_left_line config.now (C.times clock.now) frame.now preview.now) }
+        ≡ string_bytes out.old ++ remark_target config.now group.now remark) }
 {
-    push_time(clock, frame.time, "quiet   ", out)?;
-    push_group(config, preview.group(), out)?;
-    out.push_str(": ")?;
-    push_muted_or_none(clock, preview.muted(), out)?;
-    out.push_str(frame.ending)
+    match remark {
+        Remark::NoneLeft | Remark::Muted => push_group(config, group, out),
+        Remark::NoIntegrations => push_group_receiver(config, group, out),
+        Remark::NotAsked { integration, .. } => push_target(config, group, integration, out),
+        Remark::NothingToSend { integration } => push_target(config, group, integration, out),
+    }
+}
+
+/// Adds what is said, where these alerts are muted.
+fn push_remark_text<C: TimeFormat>(
+    clock: &C,
+    muted: &[MutedAlert],
+    remark: Remark,
+    out: &mut String,
+) -> Result<(), AllocError>
+    ensures { OnOk result (string_bytes out.new
+        ≡ string_bytes out.old ++ remark_text (C.times clock.now) muted.now remark) }
+{
+    match remark {
+        Remark::NoneLeft => push_muted_or_none(clock, muted, out),
+        Remark::Muted => push_muted(clock, muted, out),
+        Remark::NoIntegrations => out.push_str("no integrations"),
+        Remark::NotAsked { reason, edge, .. } => push_quiet_reason(clock, &reason, edge, out),
+        Remark::NothingToSend { .. } => out.push_str("all resolved, which it isn't sent"),
+    }
 }
 
 fn push_muted_or_none<C: TimeFormat>(
@@ -95,135 +135,29 @@ fn push_muted_or_none<C: TimeFormat>(
     push_muted(clock, muted, out)
 }
 
-/// Adds the line on the muted alerts of a begin, if there are any.
-fn push_muted_line<C: TimeFormat>(
-    config: &Config,
-    clock: &C,
-    frame: &Frame<'_>,
-    preview: &SharedPreview,
-    out: &mut String,
-) -> Result<(), AllocError>
-    ensures { OnOk result (string_bytes out.new
-        ≡ string_bytes out.old ++ muted_line config.now (C.times clock.now) frame.now preview.now) }
-{
-    if preview.muted().len() == 0 {
-        return Ok(());
-    }
-    push_time(clock, frame.time, "muted   ", out)?;
-    push_group(config, preview.group(), out)?;
-    out.push_str(": ")?;
-    push_muted(clock, preview.muted(), out)?;
-    out.push_str(frame.ending)
-}
-
-/// Adds the lines on the integrations at a begin.
-fn push_notified<C: TimeFormat>(
-    config: &Config,
-    clock: &C,
-    frame: &Frame<'_>,
-    preview: &SharedPreview,
-    notices: &[Notice],
-    out: &mut String,
-) -> Result<(), AllocError>
-    ensures { OnOk result (string_bytes out.new
-        ≡ string_bytes out.old ++ notified_lines config.now (C.times clock.now) frame.now preview.now notices.now) }
-{
-    if preview.reasons().len() == 0 {
-        return push_unasked(config, clock, frame, preview, "no integrations", out);
-    }
-    push_quiet_lines(config, clock, frame, preview, notices, out)
-}
-
-fn push_quiet_lines<C: TimeFormat>(
-    config: &Config,
-    clock: &C,
-    frame: &Frame<'_>,
-    preview: &SharedPreview,
-    notices: &[Notice],
-    out: &mut String,
-) -> Result<(), AllocError>
-    ensures { OnOk result (string_bytes out.new ≡ string_bytes out.old
-        ++ quiet_lines config.now (C.times clock.now) frame.now preview.now notices.now 0 preview.now.reasons) }
-{
-    for (position, reason) in preview.reasons().iter().enumerate() {
-        push_quiet(
-            config, clock, frame, preview, notices, position, reason, out,
-        )?;
-    }
-    Ok(())
-}
-
-/// Adds the line on an integration at a begin; nothing where there is something to send.
-fn push_quiet<C: TimeFormat>(
-    config: &Config,
-    clock: &C,
-    frame: &Frame<'_>,
-    preview: &SharedPreview,
-    notices: &[Notice],
-    position: usize,
-    reason: &Reason,
-    out: &mut String,
-) -> Result<(), AllocError>
-    ensures { OnOk result (string_bytes out.new ≡ string_bytes out.old
-        ++ quiet_line config.now (C.times clock.now) frame.now preview.now notices.now position reason.now) }
-{
-    if !reason.notifies() {
-        return push_not_notified(config, clock, frame, preview, position, reason, out);
-    }
-    if is_sent_nothing(notices, position) {
-        let why = "all resolved, which it isn't sent";
-        return push_untold(config, clock, frame, preview, position, why, out);
-    }
-    Ok(())
-}
-
-fn push_not_notified<C: TimeFormat>(
-    config: &Config,
-    clock: &C,
-    frame: &Frame<'_>,
-    preview: &SharedPreview,
-    position: usize,
-    reason: &Reason,
-    out: &mut String,
-) -> Result<(), AllocError>
-    ensures { OnOk result (string_bytes out.new ≡ string_bytes out.old
-        ++ not_sent_line config.now (C.times clock.now) frame.now preview.now position
-        (quiet_reason_text config.now (C.times clock.now) preview.now reason.now)) }
-{
-    push_untold_front(config, clock, frame, preview, position, out)?;
-    push_quiet_reason(config, clock, preview, reason, out)?;
-    out.push_str(frame.ending)
-}
-
-/// Adds why an integration is sent nothing at a begin.
+/// Adds why an integration isn't asked at a begin; it can be on the edge for it.
 fn push_quiet_reason<C: TimeFormat>(
-    config: &Config,
     clock: &C,
-    preview: &SharedPreview,
     reason: &Reason,
+    edge: Option<Edge>,
     out: &mut String,
 ) -> Result<(), AllocError>
-    ensures { OnOk result (string_bytes out.new ≡ string_bytes out.old
-        ++ quiet_reason_text config.now (C.times clock.now) preview.now reason.now) }
+    ensures { OnOk result (string_bytes out.new
+        ≡ string_bytes out.old ++ quiet_reason_text (C.times clock.now) reason.now edge) }
 {
-    if is_on_edge(preview.time(), reason) {
-        return push_edge(clock, preview.time(), next_flush(config, preview), out);
+    match edge {
+        None => push_reason(clock, reason, out),
+        Some(edge) => push_edge(clock, edge, out),
     }
-    push_reason(clock, reason, out)
 }
 
 /// Adds that a notice is repeated at one of two flushes.
 #[tactic(auto, unfolding(crate::specs::Timeline::edge_text))]
-fn push_edge<C: TimeFormat>(
-    clock: &C,
-    at: u64,
-    next: u64,
-    out: &mut String,
-) -> Result<(), AllocError>
-    ensures { OnOk result (string_bytes out.new ≡ string_bytes out.old ++ edge_text (C.times clock.now) at next) }
+fn push_edge<C: TimeFormat>(clock: &C, edge: Edge, out: &mut String) -> Result<(), AllocError>
+    ensures { OnOk result (string_bytes out.new ≡ string_bytes out.old ++ edge_text (C.times clock.now) edge) }
 {
-    push_behind(clock, "repeat at ", at, out)?;
-    push_behind(clock, " or ", next, out)?;
+    push_behind(clock, "repeat at ", edge.at, out)?;
+    push_behind(clock, " or ", edge.next, out)?;
     out.push_str(": on the edge")
 }
 
@@ -239,74 +173,4 @@ fn push_behind<C: TimeFormat>(
 {
     out.push_str(word)?;
     clock.push_time(at, out)
-}
-
-/// Returns when the group of a begin is flushed next, in milliseconds.
-pub(crate) fn next_flush(config: &Config, preview: &SharedPreview) -> u64
-    ensures { result ≡ next_flush config.now preview.now }
-{
-    let interval = config.route_of(preview.group()).group_interval;
-    preview.time().saturating_add(interval).min(MAX_TIME)
-}
-
-fn push_untold<C: TimeFormat>(
-    config: &Config,
-    clock: &C,
-    frame: &Frame<'_>,
-    preview: &SharedPreview,
-    position: usize,
-    why: &str,
-    out: &mut String,
-) -> Result<(), AllocError>
-    ensures { OnOk result (string_bytes out.new ≡ string_bytes out.old
-        ++ not_sent_line config.now (C.times clock.now) frame.now preview.now position why.now) }
-{
-    push_untold_front(config, clock, frame, preview, position, out)?;
-    out.push_str(why)?;
-    out.push_str(frame.ending)
-}
-
-fn push_untold_front<C: TimeFormat>(
-    config: &Config,
-    clock: &C,
-    frame: &Frame<'_>,
-    preview: &SharedPreview,
-    position: usize,
-    out: &mut String,
-) -> Result<(), AllocError>
-    ensures { OnOk result (string_bytes out.new ≡ string_bytes out.old
-        ++ not_sent_text config.now (C.times clock.now) frame.now preview.now position) }
-{
-    push_time(clock, frame.time, "quiet   ", out)?;
-    push_target(config, preview.group(), position, out)?;
-    out.push_str(": ")
-}
-
-/// Returns whether an integration needs an update, but its notice has nothing to send.
-pub(crate) fn is_sent_nothing(notices: &[Notice], position: usize) -> bool
-    ensures { result ≡ is_sent_nothing notices.now position }
-{
-    match notice_for(position, notices) {
-        None => false,
-        Some(notice) => notice.nothing(),
-    }
-}
-
-/// Adds the line on a group whose receiver isn't notified, and why.
-fn push_unasked<C: TimeFormat>(
-    config: &Config,
-    clock: &C,
-    frame: &Frame<'_>,
-    preview: &SharedPreview,
-    why: &str,
-    out: &mut String,
-) -> Result<(), AllocError>
-    ensures { OnOk result (string_bytes out.new
-        ≡ string_bytes out.old ++ no_integrations_line config.now (C.times clock.now) frame.now preview.now why.now) }
-{
-    push_time(clock, frame.time, "quiet   ", out)?;
-    push_group_receiver(config, preview.group(), out)?;
-    out.push_str(": ")?;
-    out.push_str(why)?;
-    out.push_str(frame.ending)
 }

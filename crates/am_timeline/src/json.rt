@@ -3,27 +3,31 @@ ghost use Rattle.std.specs.Prelude.{◌≡◌, ◌++◌, ◌∷◌, [], IfOk, On
 ghost use Rattle.std.specs.Option.{option_map_or};
 ghost use Rattle.serde_json.specs.Data.{no_members};
 ghost use Rattle.serde_json.specs.View.{members_view};
-ghost use Rattle.am_timeline.specs.Json.{begun_members, content_members, edge_members, json_of_notified, json_of_begun, json_of_event};
-ghost use Rattle.am_timeline.specs.Json.{json_of_muted, json_of_quiet, json_of_reasons, json_of_sent, json_text, late_members};
-ghost use Rattle.am_timeline.specs.Json.{left_members, muted_member, muted_members, object_line, outcome_members, outcome_word};
-ghost use Rattle.am_timeline.specs.Json.{number_at, put_all, quiet_members, quiet_reason_members, reason_members, sending_members};
-ghost use Rattle.am_timeline.specs.Json.{sent_event, sent_members, sent_reason_members, sets_data, text_at, timed_members, unasked_members};
+ghost use Rattle.am_timeline.specs.Json.{content_members, edge_members, json_of_begun, json_of_event, json_of_remark, json_of_sent};
+ghost use Rattle.am_timeline.specs.Json.{json_text, late_members, left_members, muted_member, not_asked_members, nothing_to_send_members};
+ghost use Rattle.am_timeline.specs.Json.{number_at, object_line, outcome_members, outcome_word, put_all, reason_members, remark_event};
+ghost use Rattle.am_timeline.specs.Json.{remark_members, said_members, sending_members, sent_event, sent_members, sent_reason_members};
+ghost use Rattle.am_timeline.specs.Json.{sets_data, text_at, timed_members, unasked_members};
 ghost use Rattle.am_timeline.specs.Playback.{sent_of};
 
 mod object;
 
-use crate::begun::{is_sent_nothing, next_flush, nothing_left};
-use crate::line::{expiry_if_first, is_on_edge, reason_words};
-use crate::playback::{Playback, notices_at};
+use crate::line::{expiry_if_first, reason_words};
+use crate::playback::Playback;
+use crate::print::Print;
+use crate::remark::{Edge, Remark};
+use crate::remarks::{Printer, push_remarks};
 use crate::sent::{Sent, expiry_before, sent_of};
 use am_model::config::Config;
+use am_model::group::GroupName;
 use am_model::notice::Notice;
+use am_model::preview::MutedAlert;
 use am_model::reason::Reason;
 use am_retry::Outcome;
 use am_terms::clock::TimeFormat;
 use am_terms::event::{Event, PreviewedBegin};
 use am_terms::shared_preview::SharedPreview;
-use object::{Object, muted_list, sets_of};
+use object::{Object, sets_of};
 use std::alloc::{AllocError, Global};
 
 /// Returns the timeline with one JSON object for each of its lines, in the same order.
@@ -43,124 +47,112 @@ pub fn json_text<C: TimeFormat>(
 ) -> Result<String, AllocError>
     ensures { IfOk result (λ text. string_bytes text ≡ json_text playback.now (C.times clock.now)) }
 {
+    let print = Print {
+        alloc,
+        playback,
+        clock,
+    };
     let mut out = String::new(alloc);
     for event in playback.events {
-        push_event(alloc, playback, clock, event, &mut out)?;
+        push_event(&print, event, &mut out)?;
     }
     Ok(out)
 }
 
 /// Adds the lines on an event.
 fn push_event<C: TimeFormat>(
-    alloc: Global,
-    playback: &Playback,
-    clock: &C,
+    print: &Print<'_, '_, C>,
     event: &Event,
     out: &mut String,
 ) -> Result<(), AllocError>
     ensures { OnOk result (string_bytes out.new
-        ≡ string_bytes out.old ++ json_of_event playback.now (C.times clock.now) event.now) }
+        ≡ string_bytes out.old ++ json_of_event print.now.playback.now (C.times print.now.clock.now) event.now) }
 {
+    let playback = print.playback;
     match event {
         Event::Begun { begin } => match playback.begins.get(*begin as usize) {
             None => Ok(()),
-            Some(begin) => push_begun(alloc, playback, clock, begin, out),
+            Some(begin) => push_begun(print, begin, out),
         },
-        Event::Sent { .. } => push_sent_by(alloc, playback, clock, event, out),
+        Event::Sent { .. } => push_sent_by(print, event, out),
     }
 }
 
 /// Adds the line on the notice whose sending ended by this, if there is one.
 fn push_sent_by<C: TimeFormat>(
-    alloc: Global,
-    playback: &Playback,
-    clock: &C,
+    print: &Print<'_, '_, C>,
     event: &Event,
     out: &mut String,
 ) -> Result<(), AllocError>
     ensures { OnOk result (string_bytes out.new ≡ string_bytes out.old
-        ++ option_map_or (json_of_sent playback.now (C.times clock.now)) (sent_of playback.now event.now) []) }
+        ++ option_map_or (json_of_sent print.now.playback.now (C.times print.now.clock.now))
+        (sent_of print.now.playback.now event.now) []) }
 {
-    match sent_of(playback, event) {
+    match sent_of(print.playback, event) {
         None => Ok(()),
-        Some(sent) => push_sent(alloc, playback, clock, &sent, out),
+        Some(sent) => push_sent(print, &sent, out),
     }
 }
 
 /// Adds the line on a notice whose sending came to its end, with the reason of its integration, if it has one.
 fn push_sent<C: TimeFormat>(
-    alloc: Global,
-    playback: &Playback,
-    clock: &C,
+    print: &Print<'_, '_, C>,
     sent: &Sent,
     out: &mut String,
 ) -> Result<(), AllocError>
     ensures { OnOk result (string_bytes out.new
-        ≡ string_bytes out.old ++ json_of_sent playback.now (C.times clock.now) sent.now) }
+        ≡ string_bytes out.old ++ json_of_sent print.now.playback.now (C.times print.now.clock.now) sent.now) }
 {
     let notice = sent.notice;
     let reasons = sent.begin.preview.reasons();
     match reasons.get(notice.integration as usize) {
         None => Ok(()),
-        Some(reason) => push_sent_for(alloc, playback, clock, sent, reason, out),
+        Some(reason) => push_sent_for(print, sent, reason, out),
     }
 }
 
 fn push_sent_for<C: TimeFormat>(
-    alloc: Global,
-    playback: &Playback,
-    clock: &C,
+    print: &Print<'_, '_, C>,
     sent: &Sent,
     reason: &Reason,
     out: &mut String,
 ) -> Result<(), AllocError>
-    ensures { OnOk result (string_bytes out.new
-        ≡ string_bytes out.old ++ object_line (sent_members playback.now (C.times clock.now) sent.now reason.now)) }
+    ensures { OnOk result (string_bytes out.new ≡ string_bytes out.old
+        ++ object_line (sent_members print.now.playback.now (C.times print.now.clock.now) sent.now reason.now)) }
 {
-    let object = sent_object(alloc, playback, clock, sent, reason)?;
+    let object = sent_object(print, sent, reason)?;
     object.push_line(out)
 }
 
 /// Returns the object of a notice that was sent for a reason.
 #[tactic(auto, using(crate::proofs::Members::put_more), unfolding(crate::specs::Json::sent_members))]
 fn sent_object<C: TimeFormat>(
-    alloc: Global,
-    playback: &Playback,
-    clock: &C,
+    print: &Print<'_, '_, C>,
     sent: &Sent,
     reason: &Reason,
 ) -> Result<Object, AllocError>
     ensures { IfOk result (λ o. members_view o.members.entries
-        ≡ put_all no_members (sent_members playback.now (C.times clock.now) sent.now reason.now)) }
+        ≡ put_all no_members (sent_members print.now.playback.now (C.times print.now.clock.now) sent.now reason.now)) }
 {
-    let mut object = sending_object(alloc, playback.config, clock, sent)?;
-    put_sent_reason(expiry_before(playback, sent), reason, &mut object)?;
-    put_content(alloc, sent.notice, &mut object)?;
+    let mut object = sending_object(print, sent)?;
+    put_sent_reason(expiry_before(print.playback, sent), reason, &mut object)?;
+    put_content(print.alloc, sent.notice, &mut object)?;
     Ok(object)
 }
 
 /// Returns what is reported of every notice whose sending came to its end.
 #[tactic(auto, using(crate::proofs::Members::put_more), unfolding(crate::specs::Json::sending_members))]
 fn sending_object<C: TimeFormat>(
-    alloc: Global,
-    config: &Config,
-    clock: &C,
+    print: &Print<'_, '_, C>,
     sent: &Sent,
 ) -> Result<Object, AllocError>
     ensures { IfOk result (λ o. members_view o.members.entries
-        ≡ put_all no_members (sending_members config.now (C.times clock.now) sent.now)) }
+        ≡ put_all no_members (sending_members print.now.playback.now.config (C.times print.now.clock.now) sent.now)) }
 {
     let notice = sent.notice;
     let event = sent_event(sent.outcome);
-    let mut object = Object::new(
-        alloc,
-        config,
-        clock,
-        event,
-        sent.report.ended,
-        &notice.group,
-    )?;
-    object.put_integration(config, &notice.group, notice.integration as usize)?;
+    let mut object = Object::new(print, event, sent.report.ended, &notice.group)?;
+    object.put_integration(print.config(), &notice.group, notice.integration as usize)?;
     put_outcome(sent, &mut object)?;
     Ok(object)
 }
@@ -302,247 +294,166 @@ fn put_timed(words: &str, name: &str, at: u64, object: &mut Object) -> Result<()
 /// Adds the lines on a begin: the muted alerts, and each integration that isn't notified, with its
 /// reason.
 fn push_begun<C: TimeFormat>(
-    alloc: Global,
-    playback: &Playback,
-    clock: &C,
+    print: &Print<'_, '_, C>,
     begin: &PreviewedBegin,
     out: &mut String,
 ) -> Result<(), AllocError>
     ensures { OnOk result (string_bytes out.new
-        ≡ string_bytes out.old ++ json_of_begun playback.now (C.times clock.now) begin.now) }
+        ≡ string_bytes out.old ++ json_of_begun print.now.playback.now (C.times print.now.clock.now) begin.now) }
 {
-    let preview = &begin.preview;
-    if nothing_left(preview.reasons()) {
-        return push_left(alloc, playback.config, clock, preview, out);
-    }
-    push_muted(alloc, playback.config, clock, preview, out)?;
-    let notices = notices_at(playback.history, begin.index);
-    push_notified(alloc, playback.config, clock, preview, notices, out)
+    push_remarks(&Objects { print }, print.playback, begin, out)
 }
 
-/// Adds the line on a begin at which nothing is left of its group.
-fn push_left<C: TimeFormat>(
-    alloc: Global,
-    config: &Config,
-    clock: &C,
+/// Prints remarks as objects.
+#[derive(Drop)]
+struct Objects<'o, 'p, 's, C: TimeFormat> {
+    print: &'o Print<'p, 's, C>,
+}
+
+impl<'o, 'p, 's, C: TimeFormat> Printer for Objects<'o, 'p, 's, C> {
+    ghost line = { λ p o remark. json_of_remark p.print.now.playback.now.config (C.times p.print.now.clock.now) o remark };
+
+    fn push(
+        &self,
+        preview: &SharedPreview,
+        remark: Remark,
+        out: &mut String,
+    ) -> Result<(), AllocError> {
+        push_remark(self.print, preview, remark, out)
+    }
+}
+
+/// Adds the line on a remark.
+fn push_remark<C: TimeFormat>(
+    print: &Print<'_, '_, C>,
     preview: &SharedPreview,
+    remark: Remark,
     out: &mut String,
 ) -> Result<(), AllocError>
-    ensures { OnOk result (string_bytes out.new
-        ≡ string_bytes out.old ++ object_line (left_members config.now (C.times clock.now) preview.now)) }
+    ensures { OnOk result (string_bytes out.new ≡ string_bytes out.old
+        ++ json_of_remark print.now.playback.now.config (C.times print.now.clock.now) preview.now remark) }
 {
-    let object = left_object(alloc, config, clock, preview)?;
+    let object = remark_object(print, preview, remark)?;
     object.push_line(out)
 }
 
-fn left_object<C: TimeFormat>(
-    alloc: Global,
-    config: &Config,
-    clock: &C,
+#[tactic(auto, using(crate::proofs::Members::put_more), unfolding(crate::specs::Json::remark_members))]
+fn remark_object<C: TimeFormat>(
+    print: &Print<'_, '_, C>,
     preview: &SharedPreview,
+    remark: Remark,
 ) -> Result<Object, AllocError>
-    ensures { IfOk result (λ o. members_view o.members.entries
-        ≡ put_all no_members (left_members config.now (C.times clock.now) preview.now)) }
+    ensures { IfOk result (λ o. members_view o.members.entries ≡ put_all no_members
+        (remark_members print.now.playback.now.config (C.times print.now.clock.now) preview.now remark)) }
 {
-    let mut object = begun_object(alloc, config, clock, "quiet", preview)?;
+    let event = remark_event(remark);
+    let mut object = Object::new(print, event, preview.time(), preview.group())?;
+    put_said(print.config(), preview, remark, &mut object)?;
+    Ok(object)
+}
+
+/// Returns what happened at a begin of which this is said.
+fn remark_event(remark: Remark) -> &'static str
+    ensures { result.now ≡ remark_event remark }
+{
+    match remark {
+        Remark::Muted => "muted",
+        Remark::NoneLeft
+        | Remark::NoIntegrations
+        | Remark::NotAsked { .. }
+        | Remark::NothingToSend { .. } => "quiet",
+    }
+}
+
+/// Puts what is said of a begin.
+fn put_said(
+    config: &Config,
+    preview: &SharedPreview,
+    remark: Remark,
+    object: &mut Object,
+) -> Result<(), AllocError>
+    ensures { OnOk result (members_view object.new.members.entries
+        ≡ put_all (members_view object.old.members.entries) (said_members config.now preview.now remark)) }
+{
+    match remark {
+        Remark::NoneLeft => put_left(preview.muted(), object),
+        Remark::Muted => object.put_muted(preview.muted()),
+        Remark::NoIntegrations => put_unasked(config, preview.group(), object),
+        Remark::NotAsked {
+            integration,
+            reason,
+            edge,
+        } => put_not_asked(config, preview.group(), integration, &reason, edge, object),
+        Remark::NothingToSend { integration } => {
+            put_nothing_to_send(config, preview.group(), integration, object)
+        }
+    }
+}
+
+/// Puts that nothing is left of a group: no alerts, or muted ones.
+fn put_left(muted: &[MutedAlert], object: &mut Object) -> Result<(), AllocError>
+    ensures { OnOk result (members_view object.new.members.entries
+        ≡ put_all (members_view object.old.members.entries) (left_members muted.now)) }
+{
     object.put_text("reason", "nothing left")?;
-    put_muted(alloc, preview, &mut object)?;
-    Ok(object)
-}
-
-/// Adds the line on the muted alerts of a begin, if there are any.
-fn push_muted<C: TimeFormat>(
-    alloc: Global,
-    config: &Config,
-    clock: &C,
-    preview: &SharedPreview,
-    out: &mut String,
-) -> Result<(), AllocError>
-    ensures { OnOk result (string_bytes out.new
-        ≡ string_bytes out.old ++ json_of_muted config.now (C.times clock.now) preview.now) }
-{
-    if preview.muted().len() == 0 {
-        return Ok(());
-    }
-    let object = muted_object(alloc, config, clock, preview)?;
-    object.push_line(out)
-}
-
-#[tactic(auto, using(crate::proofs::Members::put_more), unfolding(crate::specs::Json::muted_members))]
-fn muted_object<C: TimeFormat>(
-    alloc: Global,
-    config: &Config,
-    clock: &C,
-    preview: &SharedPreview,
-) -> Result<Object, AllocError>
-    ensures { IfOk result (λ o. members_view o.members.entries
-        ≡ put_all no_members (muted_members config.now (C.times clock.now) preview.now)) }
-{
-    let mut object = begun_object(alloc, config, clock, "muted", preview)?;
-    put_muted(alloc, preview, &mut object)?;
-    Ok(object)
-}
-
-/// Puts the muted alerts of a begin.
-fn put_muted(alloc: Global, preview: &SharedPreview, object: &mut Object) -> Result<(), AllocError>
-    ensures { OnOk result (members_view object.new.members.entries
-        ≡ put_all (members_view object.old.members.entries) (muted_member preview.now ∷ [])) }
-{
-    object.put("muted", muted_list(alloc, preview.muted())?)
-}
-
-/// Adds the lines on the integrations at a begin.
-fn push_notified<C: TimeFormat>(
-    alloc: Global,
-    config: &Config,
-    clock: &C,
-    preview: &SharedPreview,
-    notices: &[Notice],
-    out: &mut String,
-) -> Result<(), AllocError>
-    ensures { OnOk result (string_bytes out.new
-        ≡ string_bytes out.old ++ json_of_notified config.now (C.times clock.now) preview.now notices.now) }
-{
-    if preview.reasons().len() == 0 {
-        return push_unasked(alloc, config, clock, preview, out);
-    }
-    push_quiet_lines(alloc, config, clock, preview, notices, out)
-}
-
-/// Adds the line on a group whose receiver has no integrations.
-fn push_unasked<C: TimeFormat>(
-    alloc: Global,
-    config: &Config,
-    clock: &C,
-    preview: &SharedPreview,
-    out: &mut String,
-) -> Result<(), AllocError>
-    ensures { OnOk result (string_bytes out.new
-        ≡ string_bytes out.old ++ object_line (unasked_members config.now (C.times clock.now) preview.now)) }
-{
-    let object = unasked_object(alloc, config, clock, preview)?;
-    object.push_line(out)
-}
-
-#[tactic(auto, using(crate::proofs::Members::put_more), unfolding(crate::specs::Json::unasked_members))]
-fn unasked_object<C: TimeFormat>(
-    alloc: Global,
-    config: &Config,
-    clock: &C,
-    preview: &SharedPreview,
-) -> Result<Object, AllocError>
-    ensures { IfOk result (λ o. members_view o.members.entries
-        ≡ put_all no_members (unasked_members config.now (C.times clock.now) preview.now)) }
-{
-    let mut object = begun_object(alloc, config, clock, "quiet", preview)?;
-    object.put_receiver(config, preview.group())?;
-    object.put_text("reason", "no integrations")?;
-    Ok(object)
-}
-
-fn push_quiet_lines<C: TimeFormat>(
-    alloc: Global,
-    config: &Config,
-    clock: &C,
-    preview: &SharedPreview,
-    notices: &[Notice],
-    out: &mut String,
-) -> Result<(), AllocError>
-    ensures { OnOk result (string_bytes out.new ≡ string_bytes out.old
-        ++ json_of_reasons config.now (C.times clock.now) preview.now notices.now 0 preview.now.reasons) }
-{
-    for (position, reason) in preview.reasons().iter().enumerate() {
-        push_quiet(
-            alloc, config, clock, preview, notices, position, reason, out,
-        )?;
-    }
+    object.put_muted(muted)?;
     Ok(())
 }
 
-/// Adds the line on an integration at a begin; nothing where there is something to send.
-fn push_quiet<C: TimeFormat>(
-    alloc: Global,
-    config: &Config,
-    clock: &C,
-    preview: &SharedPreview,
-    notices: &[Notice],
-    position: usize,
-    reason: &Reason,
-    out: &mut String,
-) -> Result<(), AllocError>
-    ensures { OnOk result (string_bytes out.new ≡ string_bytes out.old
-        ++ json_of_quiet config.now (C.times clock.now) preview.now notices.now position reason.now) }
-{
-    if reason.notifies() && !is_sent_nothing(notices, position) {
-        return Ok(());
-    }
-    let object = quiet_object(alloc, config, clock, preview, position, reason)?;
-    object.push_line(out)
-}
-
-#[tactic(auto, using(crate::proofs::Members::put_more), unfolding(crate::specs::Json::quiet_members))]
-fn quiet_object<C: TimeFormat>(
-    alloc: Global,
-    config: &Config,
-    clock: &C,
-    preview: &SharedPreview,
-    position: usize,
-    reason: &Reason,
-) -> Result<Object, AllocError>
-    ensures { IfOk result (λ o. members_view o.members.entries
-        ≡ put_all no_members (quiet_members config.now (C.times clock.now) preview.now position reason.now)) }
-{
-    let mut object = begun_object(alloc, config, clock, "quiet", preview)?;
-    object.put_integration(config, preview.group(), position)?;
-    put_quiet_reason(config, preview, reason, &mut object)?;
-    Ok(object)
-}
-
-/// Puts why an integration isn't notified at a begin.
+/// Puts that a group's receiver has no integrations.
 #[tactic(auto, using(crate::proofs::Members::put_more))]
-fn put_quiet_reason(
+fn put_unasked(config: &Config, group: &GroupName, object: &mut Object) -> Result<(), AllocError>
+    ensures { OnOk result (members_view object.new.members.entries
+        ≡ put_all (members_view object.old.members.entries) (unasked_members config.now group.now)) }
+{
+    object.put_receiver(config, group)?;
+    object.put_text("reason", "no integrations")?;
+    Ok(())
+}
+
+/// Puts an integration that isn't asked at a begin, and why; it can be on the edge for it.
+#[tactic(auto, using(crate::proofs::Members::put_more))]
+fn put_not_asked(
     config: &Config,
-    preview: &SharedPreview,
+    group: &GroupName,
+    position: usize,
     reason: &Reason,
+    edge: Option<Edge>,
     object: &mut Object,
 ) -> Result<(), AllocError>
-    ensures { OnOk result (members_view object.new.members.entries
-        ≡ put_all (members_view object.old.members.entries) (quiet_reason_members config.now preview.now reason.now)) }
+    ensures { OnOk result (members_view object.new.members.entries ≡ put_all (members_view object.old.members.entries)
+        (not_asked_members config.now group.now position reason.now edge)) }
 {
-    if reason.notifies() {
-        return object.put_text("reason", "all resolved, which it isn't sent");
-    }
+    object.put_integration(config, group, position)?;
     put_reason(reason, object)?;
-    put_edge(config, preview, reason, object)?;
+    put_edge(edge, object)?;
     Ok(())
 }
 
-/// Puts when the next flush begins, if a begin is on the edge for an integration.
+/// Puts when the next flush begins, if a begin is on the edge.
 #[tactic(auto, unfolding(crate::specs::Json::put_all))]
-fn put_edge(
+fn put_edge(edge: Option<Edge>, object: &mut Object) -> Result<(), AllocError>
+    ensures { OnOk result (members_view object.new.members.entries
+        ≡ put_all (members_view object.old.members.entries) (edge_members edge)) }
+{
+    match edge {
+        None => Ok(()),
+        Some(edge) => object.put_number("edge", edge.next),
+    }
+}
+
+/// Puts an integration that is asked at a begin, but has nothing to send.
+#[tactic(auto, using(crate::proofs::Members::put_more))]
+fn put_nothing_to_send(
     config: &Config,
-    preview: &SharedPreview,
-    reason: &Reason,
+    group: &GroupName,
+    position: usize,
     object: &mut Object,
 ) -> Result<(), AllocError>
     ensures { OnOk result (members_view object.new.members.entries
-        ≡ put_all (members_view object.old.members.entries) (edge_members config.now preview.now reason.now)) }
+        ≡ put_all (members_view object.old.members.entries) (nothing_to_send_members config.now group.now position)) }
 {
-    if is_on_edge(preview.time(), reason) {
-        return object.put_number("edge", next_flush(config, preview));
-    }
+    object.put_integration(config, group, position)?;
+    object.put_text("reason", "all resolved, which it isn't sent")?;
     Ok(())
-}
-
-fn begun_object<C: TimeFormat>(
-    alloc: Global,
-    config: &Config,
-    clock: &C,
-    event: &str,
-    preview: &SharedPreview,
-) -> Result<Object, AllocError>
-    ensures { IfOk result (λ o. members_view o.members.entries
-        ≡ put_all no_members (begun_members config.now (C.times clock.now) event.now preview.now)) }
-{
-    Object::new(alloc, config, clock, event, preview.time(), preview.group())
 }

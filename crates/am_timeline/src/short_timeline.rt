@@ -9,6 +9,7 @@ use crate::begun::push_begun;
 use crate::fold_list::Folds;
 use crate::frame::Frame;
 use crate::playback::Playback;
+use crate::print::Print;
 use crate::runs::{Run, begins_folded};
 use crate::timeline::push_sent_by;
 use am_terms::clock::{TimeFormat, push_number};
@@ -28,85 +29,80 @@ pub fn short_timeline_text<C: TimeFormat>(
     ensures { IfOk result (λ text. string_bytes text ≡ short_timeline_text playback.now (C.times clock.now)) }
 {
     let folds = begins_folded(alloc, playback, clock)?;
-    folded_text(alloc, playback, clock, &folds)
+    let print = Print {
+        alloc,
+        playback,
+        clock,
+    };
+    folded_text(&print, &folds)
 }
 
 /// Returns the lines on all events, with these runs.
-fn folded_text<C: TimeFormat>(
-    alloc: Global,
-    playback: &Playback,
-    clock: &C,
-    folds: &Folds,
-) -> Result<String, AllocError>
+fn folded_text<C: TimeFormat>(print: &Print<'_, '_, C>, folds: &Folds) -> Result<String, AllocError>
     ensures { IfOk result (λ text. string_bytes text
-        ≡ flat_map (event_lines_by_runs playback.now (C.times clock.now) folds.now) playback.now.events) }
+        ≡ flat_map (event_lines_by_runs print.now.playback.now (C.times print.now.clock.now) folds.now) print.now.playback.now.events) }
 {
-    let mut out = String::new(alloc);
+    let playback = print.playback;
+    let mut out = String::new(print.alloc);
     for event in playback.events {
-        push_folded_event(alloc, playback, clock, folds, event, &mut out)?;
+        push_folded_event(print, folds, event, &mut out)?;
     }
     Ok(out)
 }
 
 /// Adds the lines on an event, with these runs.
 fn push_folded_event<C: TimeFormat>(
-    alloc: Global,
-    playback: &Playback,
-    clock: &C,
+    print: &Print<'_, '_, C>,
     folds: &Folds,
     event: &Event,
     out: &mut String,
 ) -> Result<(), AllocError>
     ensures { OnOk result (string_bytes out.new
-        ≡ string_bytes out.old ++ event_lines_by_runs playback.now (C.times clock.now) folds.now event.now) }
+        ≡ string_bytes out.old ++ event_lines_by_runs print.now.playback.now (C.times print.now.clock.now) folds.now event.now) }
 {
     match event {
-        Event::Begun { begin } => {
-            push_folded_begun(alloc, playback, clock, folds, *begin as usize, out)
-        }
-        Event::Sent { .. } => push_sent_by(playback, clock, event, out),
+        Event::Begun { begin } => { push_folded_begun(print, folds, *begin as usize, out) }
+        Event::Sent { .. } => push_sent_by(print, event, out),
     }
 }
 
 /// Adds the lines on the begin at a position, with these runs.
 fn push_folded_begun<C: TimeFormat>(
-    alloc: Global,
-    playback: &Playback,
-    clock: &C,
+    print: &Print<'_, '_, C>,
     folds: &Folds,
     position: usize,
     out: &mut String,
 ) -> Result<(), AllocError>
     ensures { OnOk result (string_bytes out.new ≡ string_bytes out.old
-        ++ option_map_or (lines_by_runs playback.now (C.times clock.now) folds.now position) (slice_get playback.now.begins position) []) }
+        ++ option_map_or (lines_by_runs print.now.playback.now (C.times print.now.clock.now) folds.now position)
+        (slice_get print.now.playback.now.begins position) []) }
 {
+    let playback = print.playback;
     match playback.begins.get(position) {
         None => Ok(()),
         Some(begin) => match folds.run_at(position) {
             None => Ok(()),
-            Some(run) => push_run_lines(alloc, playback, clock, begin, &run, out),
+            Some(run) => push_run_lines(print, begin, &run, out),
         },
     }
 }
 
 /// Adds the lines of the run that a begin begins.
 fn push_run_lines<C: TimeFormat>(
-    alloc: Global,
-    playback: &Playback,
-    clock: &C,
+    print: &Print<'_, '_, C>,
     begin: &PreviewedBegin,
     run: &Run,
     out: &mut String,
 ) -> Result<(), AllocError>
     ensures { OnOk result (string_bytes out.new
-        ≡ string_bytes out.old ++ run_lines playback.now (C.times clock.now) begin.now run.now) }
+        ≡ string_bytes out.old ++ run_lines print.now.playback.now (C.times print.now.clock.now) begin.now run.now) }
 {
-    let ending = ending_of(alloc, clock, run)?;
+    let ending = ending_of(print.alloc, print.clock, run)?;
     let frame = Frame {
         time: begin.preview.time(),
         ending: ending.as_str(),
     };
-    push_begun(playback, clock, &frame, begin, out)
+    push_begun(print, &frame, begin, out)
 }
 
 /// Returns the end of a run's lines.

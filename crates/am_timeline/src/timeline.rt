@@ -11,6 +11,7 @@ use crate::frame::Frame;
 use crate::groups::push_target;
 use crate::line::{push_attempts, push_retries, push_sent_reason, push_time};
 use crate::playback::Playback;
+use crate::print::Print;
 use crate::sent::{Sent, expiry_before, sent_of};
 use am_model::config::Config;
 use am_model::notice::Notice;
@@ -31,97 +32,98 @@ pub fn timeline_text<C: TimeFormat>(
 ) -> Result<String, AllocError>
     ensures { IfOk result (λ text. string_bytes text ≡ timeline_text playback.now (C.times clock.now)) }
 {
+    let print = Print {
+        alloc,
+        playback,
+        clock,
+    };
     let mut out = String::new(alloc);
     for event in playback.events {
-        push_event(playback, clock, event, &mut out)?;
+        push_event(&print, event, &mut out)?;
     }
     Ok(out)
 }
 
 /// Adds the lines on an event.
 fn push_event<C: TimeFormat>(
-    playback: &Playback,
-    clock: &C,
+    print: &Print<'_, '_, C>,
     event: &Event,
     out: &mut String,
 ) -> Result<(), AllocError>
     ensures { OnOk result (string_bytes out.new
-        ≡ string_bytes out.old ++ event_lines playback.now (C.times clock.now) event.now) }
+        ≡ string_bytes out.old ++ event_lines print.now.playback.now (C.times print.now.clock.now) event.now) }
 {
+    let playback = print.playback;
     match event {
         Event::Begun { begin } => match playback.begins.get(*begin as usize) {
             None => Ok(()),
-            Some(begin) => push_own(playback, clock, begin, out),
+            Some(begin) => push_own(print, begin, out),
         },
-        Event::Sent { .. } => push_sent_by(playback, clock, event, out),
+        Event::Sent { .. } => push_sent_by(print, event, out),
     }
 }
 
 /// Adds the lines on a begin, each with its own time.
 fn push_own<C: TimeFormat>(
-    playback: &Playback,
-    clock: &C,
+    print: &Print<'_, '_, C>,
     begin: &PreviewedBegin,
     out: &mut String,
 ) -> Result<(), AllocError>
     ensures { OnOk result (string_bytes out.new
-        ≡ string_bytes out.old ++ own_lines playback.now (C.times clock.now) begin.now) }
+        ≡ string_bytes out.old ++ own_lines print.now.playback.now (C.times print.now.clock.now) begin.now) }
 {
     let frame = Frame {
         time: begin.preview.time(),
         ending: "\n",
     };
-    push_begun(playback, clock, &frame, begin, out)
+    push_begun(print, &frame, begin, out)
 }
 
 /// Adds the line on the notice whose sending ended by this, if there is one.
 pub(crate) fn push_sent_by<C: TimeFormat>(
-    playback: &Playback,
-    clock: &C,
+    print: &Print<'_, '_, C>,
     event: &Event,
     out: &mut String,
 ) -> Result<(), AllocError>
     ensures { OnOk result (string_bytes out.new ≡ string_bytes out.old
-        ++ option_map_or (sent_line playback.now (C.times clock.now)) (sent_of playback.now event.now) []) }
+        ++ option_map_or (sent_line print.now.playback.now (C.times print.now.clock.now)) (sent_of print.now.playback.now event.now) []) }
 {
-    match sent_of(playback, event) {
+    match sent_of(print.playback, event) {
         None => Ok(()),
-        Some(sent) => push_sent(playback, clock, &sent, out),
+        Some(sent) => push_sent(print, &sent, out),
     }
 }
 
 /// Adds the line on a notice whose sending came to its end, with the reason of its integration, if it has one.
 pub(crate) fn push_sent<C: TimeFormat>(
-    playback: &Playback,
-    clock: &C,
+    print: &Print<'_, '_, C>,
     sent: &Sent,
     out: &mut String,
 ) -> Result<(), AllocError>
     ensures { OnOk result (string_bytes out.new
-        ≡ string_bytes out.old ++ sent_line playback.now (C.times clock.now) sent.now) }
+        ≡ string_bytes out.old ++ sent_line print.now.playback.now (C.times print.now.clock.now) sent.now) }
 {
     let notice = sent.notice;
     let reasons = sent.begin.preview.reasons();
     match reasons.get(notice.integration as usize) {
         None => Ok(()),
-        Some(reason) => push_line(playback, clock, sent, reason, out),
+        Some(reason) => push_line(print, sent, reason, out),
     }
 }
 
 fn push_line<C: TimeFormat>(
-    playback: &Playback,
-    clock: &C,
+    print: &Print<'_, '_, C>,
     sent: &Sent,
     reason: &Reason,
     out: &mut String,
 ) -> Result<(), AllocError>
     ensures { OnOk result (string_bytes out.new
-        ≡ string_bytes out.old ++ line_for playback.now (C.times clock.now) sent.now reason.now) }
+        ≡ string_bytes out.old ++ line_for print.now.playback.now (C.times print.now.clock.now) sent.now reason.now) }
 {
-    push_outcome(playback.config, clock, sent, out)?;
+    push_outcome(print, sent, out)?;
     push_content(
-        clock,
-        expiry_before(playback, sent),
+        print.clock,
+        expiry_before(print.playback, sent),
         reason,
         sent.notice,
         out,
@@ -130,19 +132,18 @@ fn push_line<C: TimeFormat>(
 
 /// Adds what a notice came to.
 fn push_outcome<C: TimeFormat>(
-    config: &Config,
-    clock: &C,
+    print: &Print<'_, '_, C>,
     sent: &Sent,
     out: &mut String,
 ) -> Result<(), AllocError>
     ensures { OnOk result (string_bytes out.new
-        ≡ string_bytes out.old ++ outcome_text sent.now.outcome config.now (C.times clock.now) sent.now) }
+        ≡ string_bytes out.old ++ outcome_text sent.now.outcome print.now.playback.now.config (C.times print.now.clock.now) sent.now) }
 {
     match sent.outcome {
-        Outcome::Delivered => push_delivery(config, clock, sent, out),
-        Outcome::Refused => push_failure(config, clock, sent, " refused", out),
-        Outcome::Expired => push_failure(config, clock, sent, " expired", out),
-        Outcome::Starved => push_failure(config, clock, sent, " starved", out),
+        Outcome::Delivered => push_delivery(print.config(), print.clock, sent, out),
+        Outcome::Refused => push_failure(print, sent, " refused", out),
+        Outcome::Expired => push_failure(print, sent, " expired", out),
+        Outcome::Starved => push_failure(print, sent, " starved", out),
     }
 }
 
@@ -175,21 +176,30 @@ fn push_delivered<C: TimeFormat>(clock: &C, sent: &Sent, out: &mut String) -> Re
 
 /// Adds that a notice wasn't delivered, and what it came to.
 fn push_failure<C: TimeFormat>(
-    config: &Config,
-    clock: &C,
+    print: &Print<'_, '_, C>,
     sent: &Sent,
     word: &str,
     out: &mut String,
 ) -> Result<(), AllocError>
     ensures { OnOk result (string_bytes out.new
-        ≡ string_bytes out.old ++ failed_text config.now (C.times clock.now) sent.now word.now) }
+        ≡ string_bytes out.old ++ failed_text print.now.playback.now.config (C.times print.now.clock.now) sent.now word.now) }
 {
     let notice = sent.notice;
-    push_time(clock, sent.report.ended, "failed  ", out)?;
-    push_target(config, &notice.group, notice.integration as usize, out)?;
+    push_time(print.clock, sent.report.ended, "failed  ", out)?;
+    push_target(
+        print.config(),
+        &notice.group,
+        notice.integration as usize,
+        out,
+    )?;
     out.push_str(word)?;
-    push_attempts(clock, sent.report.attempts, sent.begin.preview.time(), out)?;
-    push_if_late(clock, sent, out)
+    push_attempts(
+        print.clock,
+        sent.report.attempts,
+        sent.begin.preview.time(),
+        out,
+    )?;
+    push_if_late(print.clock, sent, out)
 }
 
 /// Adds that a sending ended after the deadline of its flush, if it did.

@@ -7,11 +7,13 @@ ghost use Rattle.am_alerts.specs.Labels.{label_in};
 ghost use Rattle.am_model.specs.Configured.{integration_text, route_of};
 ghost use Rattle.am_timeline.specs.IntegrationName.{target_name};
 ghost use Rattle.am_timeline.specs.Json.{cause_members, char_uncontrolled, event_members, inhibited_members};
-ghost use Rattle.am_timeline.specs.Json.{integration_members, label_member, members_line, muted_alert_data, muted_data, number_at};
-ghost use Rattle.am_timeline.specs.Json.{put_all, receiver_member, set_data, sets_data, silenced_members, text_at, uncontrolled};
+ghost use Rattle.am_timeline.specs.Json.{integration_members, label_member, members_line, muted_alert_data, muted_data, muted_member};
+ghost use Rattle.am_timeline.specs.Json.{number_at, put_all, receiver_member, set_data, sets_data, silenced_members, text_at};
+ghost use Rattle.am_timeline.specs.Json.{uncontrolled};
 ghost use Rattle.am_timeline.specs.Shown.{hex_text};
 
 use crate::groups::push_integration;
+use crate::print::Print;
 use crate::shown::push_hex;
 use am_alerts::alert::Alert;
 use am_alerts::labels::Labels;
@@ -34,21 +36,19 @@ pub(super) struct Object {
 impl Object {
     /// Returns the object of an event at a time, with its group.
     pub(super) fn new<C: TimeFormat>(
-        alloc: Global,
-        config: &Config,
-        clock: &C,
+        print: &Print<'_, '_, C>,
         event: &str,
         at: u64,
         group: &GroupName,
     ) -> Result<Object, AllocError>
-        ensures { IfOk result (λ o. members_view o.members.entries
-            ≡ put_all no_members (event_members config.now (C.times clock.now) event.now at group.now)) }
+        ensures { IfOk result (λ o. members_view o.members.entries ≡ put_all no_members
+            (event_members print.now.playback.now.config (C.times print.now.clock.now) event.now at group.now)) }
     {
-        let mut object = Object::empty(alloc);
+        let mut object = Object::empty(print.alloc);
         object.put_text("event", event)?;
         object.put_number("at", at)?;
-        object.put_time(clock, at)?;
-        object.put_route(config, group)?;
+        object.put_time(print.clock, at)?;
+        object.put_route(print.config(), group)?;
         object.put_group(group)?;
         Ok(object)
     }
@@ -147,6 +147,15 @@ impl Object {
         let name = integration_name(self.alloc, config, group, position)?;
         self.put_string("integration_name", name)?;
         Ok(())
+    }
+
+    /// Puts muted alerts, each with why it is.
+    pub(super) fn put_muted(&mut self, muted: &[MutedAlert]) -> Result<(), AllocError>
+        ensures { OnOk result (members_view self.new.members.entries
+            ≡ put_all (members_view self.old.members.entries) (muted_member muted.now ∷ [])) }
+    {
+        let list = muted_list(self.alloc, muted)?;
+        self.put("muted", list)
     }
 
     /// Puts why an alert is muted.
@@ -309,7 +318,7 @@ pub(super) fn sets_of(alloc: Global, alerts: &[Alert]) -> Result<Value, AllocErr
 }
 
 /// Returns muted alerts, each with why it is.
-pub(super) fn muted_list(alloc: Global, muted: &[MutedAlert]) -> Result<Value, AllocError>
+fn muted_list(alloc: Global, muted: &[MutedAlert]) -> Result<Value, AllocError>
     ensures value { IfOk result (λ list. view list ≡ muted_data muted.now) }
     ensures no_float { IfOk result (λ list. has_float (view list) ≡ false) }
 {

@@ -64,7 +64,8 @@ fn add_expired(
         None => Ok(()),
         Some(group) => {
             let t = next_time(log.clock, &added.call);
-            add_each(alloc, config, group, t, &log.logged, index, table)
+            let flush = Flush { index, group, t };
+            add_each(alloc, config, &flush, &log.logged, table)
         }
     }
 }
@@ -79,25 +80,34 @@ fn flush_group(reply: &Reply) -> Option<&GroupName>
     }
 }
 
-/// Adds the entries of the integrations of a group's receiver that had expired at `t`.
+/// A flush that begins.
+#[derive(Drop)]
+struct Flush<'h> {
+    /// The index of its begin in the history.
+    index: usize,
+    group: &'h GroupName,
+    /// When it begins, in milliseconds.
+    t: u64,
+}
+
+/// Adds the entries of the integrations of a group's receiver that had expired when a flush of the group began.
 fn add_each(
     alloc: Global,
     config: &Config,
-    group: &GroupName,
-    t: u64,
+    flush: &Flush<'_>,
     logged: &HashMap<LogKey, LastEntry, Seed>,
-    index: usize,
     table: &mut HashMap<FlushKey, u64, Seed>,
 ) -> Result<(), AllocError>
     ensures { OnOk result ((p i : ℕ) → get same_flush_key table.new (record { index = p; integration = i })
-        ≡ option_or (if (index == p) && nat_lt i (count_integrations config.now group.now)
-        then expiry_of config.now group.now t (get same_log_key logged.now (record { group = group.now; integration = i })) else None)
+        ≡ option_or (if (flush.now.index == p) && nat_lt i (count_integrations config.now flush.now.group.now)
+        then expiry_of config.now flush.now.group.now flush.now.t
+        (get same_log_key logged.now (record { group = flush.now.group.now; integration = i })) else None)
         (get same_flush_key table.old (record { index = p; integration = i }))) }
 {
-    let count = config.integrations_of(group).len();
+    let count = config.integrations_of(flush.group).len();
     for integration in 0..count {
-        let expiry = expiry_of(alloc, config, group, integration, t, logged)?;
-        add_entry(index, integration, expiry, table)?;
+        let expiry = expiry_of(alloc, config, flush, integration, logged)?;
+        add_entry(flush.index, integration, expiry, table)?;
     }
     Ok(())
 }
@@ -119,25 +129,24 @@ fn add_entry(
     Ok(())
 }
 
-/// When the last entry of a group and an integration expired, if there is one and it had expired by `t`.
+/// When the last entry of a flush's group and an integration expired, if there is one and it had expired when the flush began.
 fn expiry_of(
     alloc: Global,
     config: &Config,
-    group: &GroupName,
+    flush: &Flush<'_>,
     integration: usize,
-    t: u64,
     logged: &HashMap<LogKey, LastEntry, Seed>,
 ) -> Result<Option<u64>, AllocError>
-    ensures { IfOk result (λ expiry. expiry
-        ≡ expiry_of config.now group.now t (get same_log_key logged.now (record { group = group.now; integration = integration }))) }
+    ensures { IfOk result (λ expiry. expiry ≡ expiry_of config.now flush.now.group.now flush.now.t
+        (get same_log_key logged.now (record { group = flush.now.group.now; integration = integration }))) }
 {
     let key = LogKey {
-        group: group.copy(alloc)?,
+        group: flush.group.copy(alloc)?,
         integration,
     };
     match logged.get(&key) {
         None => Ok(None),
-        Some(entry) => Ok(if_reached(config, group, t, *entry)),
+        Some(entry) => Ok(if_reached(config, flush.group, flush.t, *entry)),
     }
 }
 

@@ -183,15 +183,15 @@ fn add_logged(
             ..
         } => match begun.get(number) {
             None => Ok(()),
-            Some(flush) => log_finish(
-                alloc,
-                flush.begin,
-                *number,
-                outcomes.as_slice(),
-                noted,
-                time,
-                logged,
-            ),
+            Some(flush) => {
+                let finish = Finish {
+                    number: *number,
+                    outcomes: outcomes.as_slice(),
+                    noted,
+                    time,
+                };
+                log_finish(alloc, flush.begin, &finish, logged)
+            }
         },
         Call::Note {
             number,
@@ -267,78 +267,87 @@ fn add_entry(
     Ok(())
 }
 
-/// Logs the successes of a flush that is finished with these outcomes at this time.
+/// Logs the successes of a flush by its finish.
 fn log_finish(
     alloc: Global,
     flush: &Record,
-    number: u64,
-    outcomes: &[(u32, Outcome)],
-    noted: &HashSet<NoteKey, Seed>,
-    time: u64,
+    finish: &Finish<'_>,
     logged: &mut HashMap<LogKey, LastEntry, Seed>,
 ) -> Result<(), AllocError>
     ensures { OnOk result ((name : named.GroupName) (i : ℕ)
         → get same_log_key logged.new (record { group = name; integration = i })
-        ≡ (if finish_logs (λ k. contains same_note_key noted.now (record { number = number; integration = k })) outcomes.now name i
-        flush.now then Some (entries.Logged time) else get same_log_key logged.old (record { group = name; integration = i }))) }
+        ≡ (if finish_logs (λ k. contains same_note_key finish.now.noted.now (record { number = finish.now.number; integration = k }))
+        finish.now.outcomes.now name i flush.now
+        then Some (entries.Logged finish.now.time)
+        else get same_log_key logged.old (record { group = name; integration = i }))) }
 {
     match &flush.reply {
-        Reply::Flush { group, opened } => log_notices(
-            alloc,
-            group,
-            opened.get().notices.as_slice(),
-            number,
-            outcomes,
-            noted,
-            time,
-            logged,
-        ),
+        Reply::Flush { group, opened } => {
+            log_notices(
+                alloc,
+                group,
+                opened.get().notices.as_slice(),
+                finish,
+                logged,
+            )
+        }
         _ => Ok(()),
     }
 }
 
-/// Logs the successes of these notices of a flush that is finished with these outcomes at this time.
+/// Logs the successes of these notices of a flush by its finish.
 fn log_notices(
     alloc: Global,
     group: &GroupName,
     notices: &[Notice],
-    number: u64,
-    outcomes: &[(u32, Outcome)],
-    noted: &HashSet<NoteKey, Seed>,
-    time: u64,
+    finish: &Finish<'_>,
     logged: &mut HashMap<LogKey, LastEntry, Seed>,
 ) -> Result<(), AllocError>
     ensures { OnOk result ((name : named.GroupName) (i : ℕ)
         → get same_log_key logged.new (record { group = name; integration = i })
         ≡ (if same_name name group.now
-        && is_logged (λ k. contains same_note_key noted.now (record { number = number; integration = k })) outcomes.now i notices.now
-        then Some (entries.Logged time) else get same_log_key logged.old (record { group = name; integration = i }))) }
+        && is_logged (λ k. contains same_note_key finish.now.noted.now (record { number = finish.now.number; integration = k }))
+        finish.now.outcomes.now i notices.now
+        then Some (entries.Logged finish.now.time)
+        else get same_log_key logged.old (record { group = name; integration = i }))) }
 {
     for notice in notices {
-        if is_new_success(noted, number, outcomes, notice) {
-            let entry = LastEntry::Logged(time);
+        if finish.is_new_success(notice) {
+            let entry = LastEntry::Logged(finish.time);
             add_entry(alloc, group, notice.integration as usize, entry, logged)?;
         }
     }
     Ok(())
 }
 
-/// Whether the integration of a notice succeeded, and that wasn't noted.
-fn is_new_success(
-    noted: &HashSet<NoteKey, Seed>,
+/// The finish of a flush.
+#[derive(Drop)]
+struct Finish<'f> {
+    /// The flush's number.
     number: u64,
-    outcomes: &[(u32, Outcome)],
-    notice: &Notice,
-) -> bool
-    ensures { result ≡ (has_success (λ k. contains same_note_key noted.now (record { number = number; integration = k })) outcomes.now
-        notice.now && not (contains same_note_key noted.now (record { number = number; integration = notice.now.integration }))) }
-{
-    let key = NoteKey {
-        number,
-        integration: notice.integration,
-    };
-    !noted.contains(&key)
-        && (notice.nothing() || is_delivered(outcome_of(outcomes, notice.integration)))
+    outcomes: &'f [(u32, Outcome)],
+    /// What was noted before.
+    noted: &'f HashSet<NoteKey, Seed>,
+    /// In milliseconds.
+    time: u64,
+}
+
+impl<'f> Finish<'f> {
+    /// Whether the integration of a notice succeeded, and that wasn't noted.
+    fn is_new_success(&self, notice: &Notice) -> bool
+        ensures { result
+            ≡ (has_success (λ k. contains same_note_key self.now.noted.now (record { number = self.now.number; integration = k }))
+            self.now.outcomes.now notice.now
+            && not (contains same_note_key self.now.noted.now
+            (record { number = self.now.number; integration = notice.now.integration }))) }
+    {
+        let key = NoteKey {
+            number: self.number,
+            integration: notice.integration,
+        };
+        !self.noted.contains(&key)
+            && (notice.nothing() || is_delivered(outcome_of(self.outcomes, notice.integration)))
+    }
 }
 
 fn is_delivered(outcome: Option<Outcome>) -> bool

@@ -7,4 +7,4 @@ use Rattle.am_timeline.proofs.short_timeline.folded_text.Given as goal
 abbrev pub invariant-loop-event : goal.invariant-loop-event
 invariant-loop-event g l =
     string_bytes l.out
-    ≡ flat_map (event_lines_by_runs l.playback (g.C.TimeFormat.times l.clock) l.folds) (take l.event-index l.playback.events)
+    ≡ flat_map (event_lines_by_runs l.print.playback.now (g.C.TimeFormat.times l.print.clock.now) l.folds) (take l.event-index l.print.playback.now.events)

@@ -11,6 +11,6 @@ use Rattle.am_timeline.proofs.logbook.entries.add_each.Given as goal
 abbrev pub invariant-loop-integration : goal.invariant-loop-integration
 invariant-loop-integration l =
     (p i : ℕ) → get same_flush_key l.table (record { index = p; integration = i })
-    ≡ option_or (if (l.index == p) && nat_lt i l.integration
-    then expiry_of l.config l.group l.t (get same_log_key l.logged (record { group = l.group; integration = i })) else None)
+    ≡ option_or (if (l.flush.index == p) && nat_lt i l.integration
+    then expiry_of l.config l.flush.group.now l.flush.t (get same_log_key l.logged (record { group = l.flush.group.now; integration = i })) else None)
     (get same_flush_key l.fn.table (record { index = p; integration = i }))

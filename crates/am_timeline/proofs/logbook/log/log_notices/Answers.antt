@@ -13,15 +13,15 @@ use Rattle.am_timeline.proofs.logbook.log.log_notices.Goals.{then-is_new_success
 pub loop-notice-preserved : goal.loop-notice-preserved
 loop-notice-preserved c =
     λ name i.
-    let noted : ℕ → Bool = λ k. contains same_note_key c.args.noted.now (record { number = c.args.number; integration = k }) in
-    let outcomes = c.args.outcomes.now in
+    let noted : ℕ → Bool = λ k. contains same_note_key c.args.finish.now.noted.now (record { number = c.args.finish.now.number; integration = k }) in
+    let outcomes = c.args.finish.now.outcomes.now in
     let notices = c.args.notices.now in
     let j = c.loop-notice.notice-index in
     let n = c.notice-item.result in
     let named = same_name name c.args.group.now in
     let old = get same_log_key c.args.logged.now (record { group = name; integration = i }) in
     let so_far : Option LastEntry = get same_log_key c.loop-notice.logged (record { group = name; integration = i }) in
-    let entry : Option LastEntry = Some (Logged c.args.time) in
+    let entry : Option LastEntry = Some (Logged c.args.finish.now.time) in
     let inside : j < length notices = omega (arith, c.loop-notice-test.true) in
     elim c.if-is_new_success.branch [
       | then-is_new_success+in_ok-add_entry w ↦

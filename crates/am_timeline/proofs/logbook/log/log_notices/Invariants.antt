@@ -12,6 +12,6 @@ abbrev pub invariant-loop-notice : goal.invariant-loop-notice
 invariant-loop-notice l =
     (name : GroupName) (i : ℕ) → get same_log_key l.logged (record { group = name; integration = i })
     ≡ (if same_name name l.group
-    && is_logged (λ k. contains same_note_key l.noted (record { number = l.number; integration = k })) l.outcomes i
+    && is_logged (λ k. contains same_note_key l.finish.noted.now (record { number = l.finish.number; integration = k })) l.finish.outcomes.now i
     (take l.notice-index l.notices)
-    then Some (Logged l.time) else get same_log_key l.fn.logged (record { group = name; integration = i }))
+    then Some (Logged l.finish.time) else get same_log_key l.fn.logged (record { group = name; integration = i }))

@@ -12,12 +12,12 @@ use Rattle.am_timeline.specs.declared.runs.Run.{Run}
 use Rattle.am_timeline.specs.Runs.{FlushData, Fold, HasLines, IsRising, flush_by, flushes_by, folds_of, kept_of, kept_run, number_with, runs_begun, runs_with, starts_from, starts_with}
 use Rattle.am_timeline.proofs.Folds.{HasLines-of, IfSome-if, Moves, before_more, complete, counts-step, drop_map-at, groups-step, groups_with, inside-held, inside-kept, kept_run-if, known-step, last_lines, lines-step, runs-done, runs-step, starts-done, starts-step}
 use Rattle.am_timeline.proofs.Starts.{starts-length, starts-rising}
-use Rattle.am_timeline.proofs.runs.folded.Goals as goal
+use Rattle.am_timeline.proofs.runs.Folding.folded.Goals as goal
 
 pub add-requires : goal.add-requires
 add-requires g c =
     let index = c.loop-index.index in
-    let begins = c.args.playback.now.begins in
+    let begins = c.args.self.now.print.playback.now.begins in
     let table = c.loop-index.table in
     let runs = c.loop-index.found.runs.items in
     let group = c.index-begins-index.result.preview.group in
@@ -35,10 +35,10 @@ add-requires g c =
 pub loop-index-preserved : goal.loop-index-preserved
 loop-index-preserved g c =
     let index = c.loop-index.index in
-    let playback = c.args.playback.now in
+    let playback = c.args.self.now.print.playback.now in
     let begins = playback.begins in
-    let times = g.C.TimeFormat.times c.args.clock.now in
-    let f = flush_by c.args.all playback times in
+    let times = g.C.TimeFormat.times c.args.self.now.print.clock.now in
+    let f = flush_by c.args.self.now.all playback times in
     let flushes = map f begins in
     let table = c.loop-index.table in
     let runs = c.loop-index.found.runs.items in
@@ -69,9 +69,9 @@ loop-index-preserved g c =
             lines-step old new here before (number_with here.lines (length runs) last) was.held moves name
             ∙ ap (λ (l : List FlushData). last_lines name l) (sym back);
         lines = λ name.
-            IfSome-if (HasLines c.args.all playback times) (same_name here.group name) kept (get same_name table name) _
+            IfSome-if (HasLines c.args.self.now.all playback times) (same_name here.group name) kept (get same_name table name) _
             (c.in_ok-add.ensures.table name)
-            (HasLines-of c.args.all playback times index b (number_with here.lines (length runs) last) inside is)
+            (HasLines-of c.args.self.now.all playback times index b (number_with here.lines (length runs) last) inside is)
             (was.lines name);
         few = subst (λ (l : List Run). All (λ (r : Run). r.count ≤ index + 1) l) (sym c.in_ok-add.ensures.runs)
             (counts-step here.time index here.lines last runs was.few (inside-held last groups (length runs) here.group was.sized (was.known here.group)));
@@ -90,8 +90,8 @@ loop-index-preserved g c =
 
 pub loop-index-init : goal.loop-index-init
 loop-index-init g c =
-    let times = g.C.TimeFormat.times c.args.clock.now in
-    let flushes = flushes_by c.args.all c.args.playback.now times in
+    let times = g.C.TimeFormat.times c.args.self.now.print.clock.now in
+    let flushes = flushes_by c.args.self.now.all c.args.self.now.print.playback.now times in
     let table = c.with_hasher-table.result in
     let none : (name : GroupName) → get same_name table name ≡ None = λ name. search rules in (
       [],
@@ -99,7 +99,7 @@ loop-index-init g c =
         sized = sym (ap length c.new-2.ensures.items);
         known = λ name. subst (λ (o : Option (ℕ × (List ℕ × ℕ))). IfSome (kept_run o) (λ n. slice_get {X = GroupName} [] n.1 ≡ Some name)) (sym (none name)) tt;
         held = λ name. ap (λ (o : Option (ℕ × (List ℕ × ℕ))). option_map (λ (n : List ℕ × ℕ). n.0) (kept_run o)) (none name);
-        lines = λ name. subst (λ (o : Option (ℕ × (List ℕ × ℕ))). IfSome o (HasLines c.args.all c.args.playback.now times)) (sym (none name)) tt;
+        lines = λ name. subst (λ (o : Option (ℕ × (List ℕ × ℕ))). IfSome o (HasLines c.args.self.now.all c.args.self.now.print.playback.now times)) (sym (none name)) tt;
         few = subst (λ (l : List Run). All (λ (r : Run). r.count ≤ 0) l) (sym c.new-2.ensures.items) (All-nil (λ (r : Run). r.count ≤ 0));
         runs = refl;
         starts = ap (λ (l : List ℕ). l ++ starts_from 0 (folds_of [] flushes)) c.new.ensures.items;
@@ -120,8 +120,8 @@ ended f begins table groups before index starts runs folds past same starts_so_f
 
 pub new-requires-3-clause-rising : goal.new-requires-3-clause-rising
 new-requires-3-clause-rising g c =
-    let begins = c.args.playback.now.begins in
-    let f = flush_by c.args.all c.args.playback.now (g.C.TimeFormat.times c.args.clock.now) in
+    let begins = c.args.self.now.print.playback.now.begins in
+    let f = flush_by c.args.self.now.all c.args.self.now.print.playback.now (g.C.TimeFormat.times c.args.self.now.print.clock.now) in
     let was = c.loop-index.invariant.1 in
     let folds = folds_of [] (map f begins) in
     let all : length c.begins-begins.result.now ≡ length begins = ap length c.begins-begins.ensures in
@@ -131,8 +131,8 @@ new-requires-3-clause-rising g c =
 
 pub new-requires-3-clause-same : goal.new-requires-3-clause-same
 new-requires-3-clause-same g c =
-    let begins = c.args.playback.now.begins in
-    let f = flush_by c.args.all c.args.playback.now (g.C.TimeFormat.times c.args.clock.now) in
+    let begins = c.args.self.now.print.playback.now.begins in
+    let f = flush_by c.args.self.now.all c.args.self.now.print.playback.now (g.C.TimeFormat.times c.args.self.now.print.clock.now) in
     let was = c.loop-index.invariant.1 in
     let folds = folds_of [] (map f begins) in
     let all : length c.begins-begins.result.now ≡ length begins = ap length c.begins-begins.ensures in
@@ -142,8 +142,8 @@ new-requires-3-clause-same g c =
 
 pub returns : goal.returns
 returns g c =
-    let begins = c.args.playback.now.begins in
-    let f = flush_by c.args.all c.args.playback.now (g.C.TimeFormat.times c.args.clock.now) in
+    let begins = c.args.self.now.print.playback.now.begins in
+    let f = flush_by c.args.self.now.all c.args.self.now.print.playback.now (g.C.TimeFormat.times c.args.self.now.print.clock.now) in
     let was = c.loop-index.invariant.1 in
     let folds = folds_of [] (map f begins) in
     let all : length c.begins-begins.result.now ≡ length begins = ap length c.begins-begins.ensures in

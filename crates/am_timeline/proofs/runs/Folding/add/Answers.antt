@@ -5,7 +5,7 @@ use Rattle.std.proofs.lemmas.Result.{on_ok_weaker}
 use Rattle.am_model.specs.State.{same_name}
 use Rattle.am_model.specs.declared.group.GroupName.{GroupName}
 use Rattle.am_timeline.specs.Runs.{HasLines, kept_of, kept_run, lines_by}
-use Rattle.am_timeline.proofs.runs.add.Goals as goal
+use Rattle.am_timeline.proofs.runs.Folding.add.Goals as goal
 
 pub add_after-requires-clause-inside : goal.add_after-requires-clause-inside
 add_after-requires-clause-inside g c =
@@ -19,13 +19,13 @@ add_after-requires-clause-lines g c =
     let table = c.args.table.now in
     let found : get same_name table c.args.begin.now.preview.group ≡ Some c.in-Some.last.now =
     ap (λ (n : GroupName). get same_name table n) (sym c.group.ensures) ∙ sym c.in-Some.ensures.value in
-    subst (λ (o : Option (ℕ × (List ℕ × ℕ))). IfSome o (HasLines c.args.all c.args.playback.now (g.C.TimeFormat.times c.args.clock.now))) found c.requires.lines
+    subst (λ (o : Option (ℕ × (List ℕ × ℕ))). IfSome o (HasLines c.args.self.now.all c.args.self.now.print.playback.now (g.C.TimeFormat.times c.args.self.now.print.clock.now))) found c.requires.lines
 
 pub returns-in-Some-clause-table : goal.returns-in-Some-clause-table
 returns-in-Some-clause-table g c =
     let table = c.args.table.now in
     let group = c.args.begin.now.preview.group in
-    let lines = lines_by c.args.all c.args.playback.now (g.C.TimeFormat.times c.args.clock.now) c.args.begin.now in
+    let lines = lines_by c.args.self.now.all c.args.self.now.print.playback.now (g.C.TimeFormat.times c.args.self.now.print.clock.now) c.args.begin.now in
     let size = length c.args.found.now.runs.items in
     let new = c.add_after.new.last in
     let found : get same_name table group ≡ Some c.in-Some.last.now =

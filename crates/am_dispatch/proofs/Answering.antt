@@ -15,6 +15,7 @@ use Rattle.am_lines.specs.declared.request.Request.TheVariants.{Open, TakeHistor
 use Rattle.am_lines.specs.declared.lines.LineRead.{LineRead}
 use Rattle.am_lines.specs.declared.opening.Opening.{Opening}
 use Rattle.am_lines.specs.Lines.{IsOneLine, IsRead}
+use Rattle.am_config.specs.declared.hours.Hours.{Hours}
 use Rattle.am_lines.specs.Opening.{HasClocked, IsTheirOpening}
 use Rattle.am_lines.specs.Request.{IsCallOf, IsRequestIn}
 use Rattle.am_dispatch.specs.Refusal.{IsCauseOfUnopened}
@@ -38,13 +39,13 @@ opened_text (Ok made) items session read kept requested opening is is_request op
 opened_text (Err f) items session read kept requested opening is is_request opened = tt
 
 -- a configuration of Alertmanager has no fault, with clocks or without
-of_theirs : (o : Option Data) (opening : Opening) → MatchOption o ⊥ (λ v. IsTheirOpening v opening) → config_fault opening.config ≡ None
-of_theirs None opening is = absurd is
-of_theirs (Some v) opening is = is.sound
+of_theirs : (hours : Option Hours) (o : Option Data) (opening : Opening) → MatchOption o ⊥ (λ v. IsTheirOpening hours v opening) → config_fault opening.config ≡ None
+of_theirs hours None opening is = absurd is
+of_theirs hours (Some v) opening is = is.sound
 
 of_clocked : (o : Option Members) (opening : Opening) → MatchOption o ⊥ (λ ms. HasClocked Strict ms opening) → config_fault opening.config ≡ None
 of_clocked None opening is = absurd is
-of_clocked (Some ms) opening is = of_theirs (get_member (codes "alertmanager") ms) opening is.config
+of_clocked (Some ms) opening is = of_theirs (Some is.hours) (get_member (codes "alertmanager") ms) opening is.config
 
 -- a line's configuration has no fault
 faultless : (name : CallName) (value : Data) (opening : Opening) → IsCallOf Strict name value (Open opening) → config_fault opening.config ≡ None

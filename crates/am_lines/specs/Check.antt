@@ -31,7 +31,7 @@ abbrev pub DecodesToPart : Mode → Data → LinePart → Type 0
 DecodesToPart mode value (part.Matchers x) = HasOne (codes "matchers") (λ v. AreMatchersOf mode v x.items) value
 DecodesToPart mode value (part.Labels x) = HasOne (codes "labels") (λ v. DecodesToLabels mode v x) value
 DecodesToPart mode value (part.Config x) = HasOne (codes "config") (λ v. IsOwnOpening mode v x) value
-DecodesToPart mode value (part.Alertmanager x) = HasOne (codes "alertmanager") (λ v. IsTheirOpening v x) value
+DecodesToPart mode value (part.Alertmanager x) = HasOne (codes "alertmanager") (λ v. IsTheirOpening None v x) value
 DecodesToPart mode value (part.Open x) = HasOne (codes "open") (λ v. IsClockedOpening mode v x) value
 
 -- whether no matcher of a part needs a regex. A configuration of Alertmanager can be refused for other things too

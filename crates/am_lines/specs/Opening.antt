@@ -1,5 +1,5 @@
 -- Opening: the configuration of a new board in a line.
-use Rattle.std.specs.Prelude.{◌≡◌, List, [], ◌∷◌, ℕ, None, IsTrue, codes}
+use Rattle.std.specs.Prelude.{◌≡◌, List, [], ◌∷◌, ℕ, Option, Some, None, IsTrue, codes}
 use Rattle.serde_json.specs.Data.{Data, Members}
 use Rattle.am_cli.specs.Configured.{DecodesToConfig}
 use Rattle.am_cli.specs.Decoding.{Has, IsObject}
@@ -7,7 +7,7 @@ use Rattle.am_cli.specs.Read.{has_only}
 use Rattle.am_cli.specs.declared.reader.Mode.{Mode}
 use Rattle.am_config.specs.IgnoredSettings.{nothing}
 use Rattle.am_config.specs.Receivers.{ReceiversAre}
-use Rattle.am_config.specs.Routes.{RoutesAre}
+use Rattle.am_config.specs.Routes.{TimedRoutesAre}
 use Rattle.am_config.specs.Rules.{RulesAre}
 use Rattle.am_config.specs.declared.hours.Hours.{Hours}
 use Rattle.am_model.specs.Config.{config_fault, greatest_limits}
@@ -20,11 +20,12 @@ pub record IsOwnOpening (mode : Mode) (value : Data) (opening : Opening) : Type 
   pub ignored : opening.ignored ≡ nothing
   pub sound : config_fault opening.config ≡ None
 
--- a configuration of Alertmanager: its routes, receivers and inhibition rules. Not stated: the names of routes, and when they are muted
-pub record IsTheirOpening (value : Data) (opening : Opening) : Type 0 where
+-- a configuration of Alertmanager: its routes, which these clocks mute, its receivers and inhibition rules. Not stated: the names of
+-- routes
+pub record IsTheirOpening (hours : Option Hours) (value : Data) (opening : Opening) : Type 0 where
   pub sound : config_fault opening.config ≡ None
   pub limits : opening.config.limits ≡ greatest_limits
-  pub routes : RoutesAre value opening.config.routes
+  pub routes : TimedRoutesAre hours value opening.config.routes
   pub receivers : ReceiversAre value opening.config.receivers
   pub rules : RulesAre value opening.config.rules
 
@@ -37,7 +38,7 @@ pub record HasClocked (mode : Mode) (members : Members) (opening : Opening) : Ty
   pub only : IsTrue (has_only mode clocked_names members)
   pub hours : Hours
   pub clocks : HasHours members hours
-  pub config : Has IsTheirOpening (codes "alertmanager") members opening
+  pub config : Has (IsTheirOpening (Some hours)) (codes "alertmanager") members opening
 
 abbrev pub IsClockedOpening : Mode → Data → Opening → Type 0
 IsClockedOpening mode value opening = IsObject (HasClocked mode) value opening

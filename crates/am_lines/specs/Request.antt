@@ -185,7 +185,7 @@ DecodesToLoading mode value loading = IsObject (HasLoading mode) value loading
 -- the value of a call has the arguments of the request
 abbrev pub IsCallOf : Mode → CallName → Data → Request → Type 0
 IsCallOf mode call.Config value (request.Open x) = IsOwnOpening mode value x
-IsCallOf mode call.Alertmanager value (request.Open x) = IsTheirOpening value x
+IsCallOf mode call.Alertmanager value (request.Open x) = IsTheirOpening None value x
 IsCallOf mode call.Open value (request.Open x) = IsClockedOpening mode value x
 IsCallOf mode call.Insert value (request.Insert x) = DecodesToInsertion mode value x
 IsCallOf mode call.Inserts value (request.Inserts xs) = IsList (DecodesToListed mode) value xs.items

@@ -1,5 +1,5 @@
 //! `Opening`: the configuration of a new board, and how it is read.
-ghost use Rattle.std.specs.Prelude.{◌≡◌, IfErr, IfOk, IsTrue, None};
+ghost use Rattle.std.specs.Prelude.{◌≡◌, IfErr, IfOk, IsTrue, None, option_copied};
 ghost use Rattle.serde_json.specs.View.{view};
 ghost use Rattle.am_cli.specs.Configured.{DecodesToConfig, config_compares_texts};
 ghost use Rattle.am_cli.specs.Read.{Excludes};
@@ -59,7 +59,7 @@ pub(crate) fn read_theirs(
     value: &Reader<'_, '_>,
     hours: Option<&Hours>,
 ) -> Result<Opening, InputFault>
-    ensures { IfOk result (IsTheirOpening (view value.now.value)) }
+    ensures { IfOk result (IsTheirOpening (option_copied hours.entry) (view value.now.value)) }
 {
     match read_alertmanager(value, hours, Checking::NamesAlone) {
         Ok(read) => {

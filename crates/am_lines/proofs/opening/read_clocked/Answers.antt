@@ -1,4 +1,4 @@
-use Rattle.std.proofs.Common.{codes, sym}
+use Rattle.std.proofs.Common.{Some, codes, sym}
 use Rattle.serde_json.specs.Find.{get_member}
 use Rattle.serde_json.specs.View.{members_view, view}
 use Rattle.am_cli.proofs.Decoding.{as_decoded, decoded_by}
@@ -14,7 +14,7 @@ returns c =
       only = sym c.in_ok-only.ensures.known;
       hours = c.in_ok-hours.hours;
       clocks = c.in_ok-hours.ensures;
-      config = decoded_by IsTheirOpening (get_member (codes "alertmanager") members) (view c.in_ok-config.config.value) opening c.in_ok-config.ensures.value
+      config = decoded_by (IsTheirOpening (Some c.in_ok-hours.hours)) (get_member (codes "alertmanager") members) (view c.in_ok-config.config.value) opening c.in_ok-config.ensures.value
           c.in_ok-opening.ensures;
     } in
     as_decoded HasClocked c.args.value.now.mode o.mode members (view c.args.value.now.value) opening c.in_ok-call.ensures.members c.in_ok-call.ensures.mode has

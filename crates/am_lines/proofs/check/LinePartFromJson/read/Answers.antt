@@ -1,4 +1,4 @@
-use Rattle.std.proofs.Common.{◌∙◌, ap, codes, refl}
+use Rattle.std.proofs.Common.{◌∙◌, None, ap, codes, refl}
 use Rattle.serde_json.specs.Data.{Data}
 use Rattle.serde_json.specs.View.{members_view, view}
 use Rattle.am_cli.proofs.Decoding.{handed_on}
@@ -35,7 +35,7 @@ returns-in_ok-read_theirs-in-alertmanager-clause-decoded c =
     let name = c.in_ok-name.name.now in
     let there = view c.in_ok-name.value.now in
     let object = one_object value (members_view c.in_ok-check.check.members) name there c.in_ok-check.ensures.members c.in_ok-name.ensures.one in
-    has_one (λ (m : Mode) (d : Data). IsTheirOpening d c.in_ok-read_theirs-in-alertmanager.field-0) mode mode value there (view c.member-part.result.value)
+    has_one (λ (m : Mode) (d : Data). IsTheirOpening None d c.in_ok-read_theirs-in-alertmanager.field-0) mode mode value there (view c.member-part.result.value)
     (codes "alertmanager") name object c.in-alertmanager.is refl (ap view c.member-part.ensures.value) c.in_ok-read_theirs-in-alertmanager.ensures
 
 pub returns-in_ok-read_clocked-in-open-clause-decoded : goal.returns-in_ok-read_clocked-in-open-clause-decoded

@@ -1,8 +1,7 @@
 //! `am-rehearse check`: says what configurations hold, or all that is wrong in them.
 use crate::config::configured;
-use crate::faults::accept;
+use crate::faults::{accept, accept_alone};
 use crate::folders::add_files;
-use crate::given::given_to;
 use crate::lint::Warnings;
 use crate::once::accept_inputs;
 use crate::reload_files::read_reload_files;
@@ -14,7 +13,6 @@ use am_alerts::route::Routes;
 use am_command::exit_status::ExitStatus;
 use am_console::console::{Console, Document, shown};
 use am_input::configured::{Configured, read_file};
-use am_input::faults::ReceiversOf;
 use am_input::form::{Form, alertmanager_in, form_of, has_configuration};
 use am_input::input::Overrides;
 use am_model::config::Config;
@@ -130,10 +128,10 @@ fn check_file<R: Files + Eprint + AllocGlobal>(
         return check_under(rt, console, &document, config, lines);
     }
     if has_configuration(&document.value) {
-        accept(rt, console, &document, ReceiversOf::Own, NOTHING)?;
+        drop(accept(rt, console, &document, None, NOTHING)?);
         return summarize(rt, console, &document, lines);
     }
-    accept(rt, console, &document, ReceiversOf::Given(None), NOTHING)?;
+    accept_alone(rt, console, &document, NOTHING)?;
     let file = shown(path);
     let added = match writeln!(lines, "{file}: accepted; a story without a configuration") {
         Ok(()) => push_of_story(rt.alloc(), &document, None, lines),
@@ -181,16 +179,19 @@ fn check_under<R: Files + Eprint + AllocGlobal>(
     config: &Document<'_>,
     lines: &mut String,
 ) -> Result<(), ExitStatus> {
-    let configured = given_to(rt, console, story, config, NOTHING)?;
-    let receivers = ReceiversOf::Given(Some(&configured));
-    accept(rt, console, story, receivers, NOTHING)?;
+    let input = accept(rt, console, story, Some(config), NOTHING)?;
     let file = shown(story.path);
     let config = shown(config.path);
     let added = match writeln!(lines, "{file}: accepted; a story under {config}") {
-        Ok(()) => push_of_story(rt.alloc(), story, Some(&configured.config.routes), lines),
+        Ok(()) => push_of_story(
+            rt.alloc(),
+            story,
+            Some(&input.rehearsal.config.routes),
+            lines,
+        ),
         Err(refused) => Err(refused),
     };
-    drop(configured);
+    drop(input);
     match added {
         Ok(()) => Ok(()),
         Err(_) => Err(console.complain_of_memory(rt)),

@@ -1,4 +1,7 @@
 //! The files of folders that a command line names.
+ghost use Rattle.std.specs.Prelude.{◌≡◌, ◌+◌, ◌<◌, IfErr, IsTrue, OnOk, vec_len};
+ghost use Rattle.am_console.specs.Complaints.{is_complaint};
+
 use am_command::exit_status::ExitStatus;
 use am_command::request::STANDARD_INPUT;
 use am_console::console::Console;
@@ -14,7 +17,10 @@ pub fn add_files<R: Files + Eprint + AllocGlobal + Clone + Drop>(
     console: &Console,
     path: &str,
     files: &mut Vec<String>,
-) -> Result<(), ExitStatus> {
+) -> Result<(), ExitStatus>
+    ensures adds { OnOk result (vec_len files.old < vec_len files.new) }
+    ensures complains { IfErr result (λ status. IsTrue (is_complaint status)) }
+{
     if path == STANDARD_INPUT || !is_folder(rt, path) {
         return match add_file(rt.alloc(), path, files) {
             Ok(()) => Ok(()),
@@ -62,7 +68,9 @@ fn add_folder<R: Files + AllocGlobal + Clone + Drop>(
     Ok(())
 }
 
-fn add_file(alloc: Global, path: &str, files: &mut Vec<String>) -> Result<(), AllocError> {
+fn add_file(alloc: Global, path: &str, files: &mut Vec<String>) -> Result<(), AllocError>
+    ensures { OnOk result (vec_len files.new ≡ vec_len files.old + 1) }
+{
     files.push(String::from_str(alloc, path)?)?;
     Ok(())
 }

@@ -1,4 +1,7 @@
 //! Configurations that are given to a story, whose clocks they have.
+ghost use Rattle.std.specs.Prelude.{IfErr, IsTrue};
+ghost use Rattle.am_console.specs.Complaints.{is_rejection};
+
 use crate::system_zones::SystemZones;
 use am_command::exit_status::ExitStatus;
 use am_console::console::{Console, Document};
@@ -13,7 +16,9 @@ pub fn given_to<R: Files + Eprint + AllocGlobal>(
     story: &Document<'_>,
     config: &Document<'_>,
     overrides: Overrides,
-) -> Result<Configured, ExitStatus> {
+) -> Result<Configured, ExitStatus>
+    ensures { IfErr result (λ status. IsTrue (is_rejection status)) }
+{
     let mut files = SystemZones::new(rt);
     let until = overrides.until;
     match configured_for(rt.alloc(), &story.value, &config.value, until, &mut files) {

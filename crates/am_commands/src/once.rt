@@ -1,9 +1,13 @@
 //! Standard input among the files of a command line.
+ghost use Rattle.std.specs.Prelude.{◌≡◌, IfErr};
+
 use am_command::exit_status::ExitStatus;
 use am_command::request::STANDARD_INPUT;
 
 /// Refuses standard input as two of these files, since it can be read once. The error is the status.
-pub fn accept_inputs<R: Eprint>(rt: &R, files: &[&str]) -> Result<(), ExitStatus> {
+pub fn accept_inputs<R: Eprint>(rt: &R, files: &[&str]) -> Result<(), ExitStatus>
+    ensures { IfErr result (λ status. status ≡ ExitStatus.Rejected) }
+{
     let mut is_taken = false;
     for file in files {
         if *file == STANDARD_INPUT {

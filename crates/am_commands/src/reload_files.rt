@@ -1,4 +1,7 @@
 //! The files that the reloads of a story name. The configurations in them are put into the story.
+ghost use Rattle.std.specs.Prelude.{◌≡◌, IfErr, IsTrue};
+ghost use Rattle.am_console.specs.Complaints.{is_complaint, is_rejection};
+
 use crate::given::given_to;
 use crate::wrapped::read_configuration;
 use am_command::exit_status::ExitStatus;
@@ -26,7 +29,10 @@ pub fn read_reload_files<R: Files + Eprint + AllocGlobal>(
     console: &mut Console,
     story: &mut Document<'_>,
     overrides: Overrides,
-) -> Result<(), ExitStatus> {
+) -> Result<(), ExitStatus>
+    ensures complains { IfErr result (λ status. IsTrue (is_complaint status)) }
+    ensures silent { console.new.output ≡ console.old.output }
+{
     let reloads = reloads_with_files(rt, console, story)?;
     for reload in &reloads {
         read_reload_file(rt, console, story, reload, overrides)?;
@@ -39,7 +45,9 @@ fn reloads_with_files<R: Eprint + AllocGlobal>(
     rt: &R,
     console: &Console,
     story: &Document<'_>,
-) -> Result<Vec<ReloadFile>, ExitStatus> {
+) -> Result<Vec<ReloadFile>, ExitStatus>
+    ensures { IfErr result (λ status. IsTrue (is_rejection status)) }
+{
     let mut reloads = Vec::new(rt.alloc());
     let Some(member) = story.value.get("reload") else {
         return Ok(reloads);
@@ -65,7 +73,9 @@ fn add_reload<R: Eprint + AllocGlobal>(
     reload: &Value,
     pointer: &str,
     reloads: &mut Vec<ReloadFile>,
-) -> Result<(), ExitStatus> {
+) -> Result<(), ExitStatus>
+    ensures { IfErr result (λ status. IsTrue (is_rejection status)) }
+{
     let Some(file) = reload.get("file") else {
         return Ok(());
     };
@@ -124,7 +134,10 @@ fn read_reload_file<R: Files + Eprint + AllocGlobal>(
     story: &mut Document<'_>,
     reload: &ReloadFile,
     overrides: Overrides,
-) -> Result<(), ExitStatus> {
+) -> Result<(), ExitStatus>
+    ensures complains { IfErr result (λ status. IsTrue (is_complaint status)) }
+    ensures silent { console.new.output ≡ console.old.output }
+{
     let mut config = read_configuration(rt, console, reload.path.as_str())?;
     drop(given_to(rt, console, story, &config, overrides)?);
     let Some((name, value)) = configuration_in(&mut config.value) else {

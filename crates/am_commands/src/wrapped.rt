@@ -1,5 +1,8 @@
 //! Configurations that are in files of other programs: in a Secret or a ConfigMap of Kubernetes, in the values of a Helm chart, or in the
 //! file of a Mimir tenant. `read_configuration` takes them out.
+ghost use Rattle.std.specs.Prelude.{◌≡◌, IfErr, IsTrue};
+ghost use Rattle.am_console.specs.Complaints.{is_complaint, is_rejection};
+
 use am_command::exit_status::ExitStatus;
 use am_command::explain::FileShape;
 use am_command::request::FaultFormat;
@@ -32,7 +35,10 @@ pub fn read_configuration<'p, R: Files + Eprint + AllocGlobal>(
     rt: &R,
     console: &mut Console,
     path: &'p str,
-) -> Result<Document<'p>, ExitStatus> {
+) -> Result<Document<'p>, ExitStatus>
+    ensures complains { IfErr result (λ status. IsTrue (is_complaint status)) }
+    ensures silent { console.new.output ≡ console.old.output }
+{
     let document = console.read(rt, path)?;
     let taken = match wrapped_in(&document.value) {
         None => None,
@@ -121,7 +127,9 @@ fn taken_out<R: Eprint + AllocGlobal>(
     console: &Console,
     document: &Document<'_>,
     wrapped: Wrapped<'_>,
-) -> Result<Option<(Vec<u8>, Value)>, ExitStatus> {
+) -> Result<Option<(Vec<u8>, Value)>, ExitStatus>
+    ensures { IfErr result (λ status. IsTrue (is_rejection status)) }
+{
     let Ok(inner) = inner_text(rt.alloc(), wrapped) else {
         return Err(console.complain_of_memory(rt));
     };

@@ -1,5 +1,5 @@
 -- Source: what is read from a source, and why nothing is.
-use Rattle.std.specs.Prelude.{◌≡◌, ℕ, ◌+◌, ◌++◌, List}
+use Rattle.std.specs.Prelude.{◌≡◌, ℕ, ◌+◌, ◌++◌, List, codes}
 use Rattle.serde_json.specs.Data.{Data}
 use Rattle.am_cli.specs.declared.transfer.ReadFault.{ReadFault}
 use Rattle.am_cli.specs.declared.transfer.ReadFault.TheVariants as read
@@ -25,6 +25,11 @@ fault_of_document document.NoMemory = source.NoMemory
 pub record IsReadFrom (given_before given text : List ℕ) (value : Data) : Type 0 where
   pub given_is : given ≡ given_before ++ text
   pub read_is : IsReadAs text value
+
+-- a file is read as a text with this value. Standard input, whose path is `-`, gave that text
+pub record IsReadAt (path given_before given text : List ℕ) (value : Data) : Type 0 where
+  pub read_is : IsReadAs text value
+  pub given_is : path ≡ codes "-" → given ≡ given_before ++ text
 
 -- what it gave is a text to its end, which is no JSON
 pub record IsNotRead (given_before given : List ℕ) (ended_before ended : ℕ) : Type 0 where

@@ -1,4 +1,9 @@
 //! What a command reads from and prints to.
+ghost use Rattle.std.specs.Prelude.{◌≡◌, ◌≢◌, ◌<◌, ◌++◌, ◌↔◌, IfErr, IfOk, IsTrue};
+ghost use Rattle.serde_json.specs.View.{view};
+ghost use Rattle.am_console.specs.Complaints.{is_complaint, is_rejection};
+ghost use Rattle.am_console.specs.Source.{IsReadAt};
+
 use crate::bounds::{bounds, wrong_of};
 use crate::config_words::explain_config;
 use crate::dispatcher_change_words::explain_dispatcher_change;
@@ -9,7 +14,7 @@ use crate::setting_words::explain_setting;
 use crate::source::SourceText;
 use crate::story_words::explain_story;
 use crate::time_words::explain_times;
-use am_cli::device::StandardInput;
+use am_cli::device::{Sink, Source, StandardInput};
 use am_cli::fault::{FaultKind, InputFault};
 use am_cli::faults::{Fault, Faults, Refusal};
 use am_cli::transfer::write_all;
@@ -62,7 +67,13 @@ pub fn shown(path: &str) -> &str {
 
 impl Console {
     /// Writes a text to the standard output, and returns the status.
-    pub fn print<R: Eprint>(&mut self, rt: &R, text: &str) -> ExitStatus {
+    pub fn print<R: Eprint>(&mut self, rt: &R, text: &str) -> ExitStatus
+        ensures done { result ≡ ExitStatus.Done → ⟦<PaintedOutput as Sink>⟧.taken self.new.output
+            ≡ ⟦<PaintedOutput as Sink>⟧.taken self.old.output ++ text.now }
+        ensures unwritable { (result ≡ ExitStatus.Unwritable) ↔ (⟦<PaintedOutput as Sink>⟧.failed self.old.output
+            < ⟦<PaintedOutput as Sink>⟧.failed self.new.output) }
+        ensures only { result ≢ ExitStatus.Done → result ≡ ExitStatus.Unwritable }
+    {
         if write_all(&mut self.output, text.as_bytes()).is_ok() {
             return ExitStatus::Done;
         }
@@ -75,7 +86,12 @@ impl Console {
         &mut self,
         rt: &R,
         path: &'p str,
-    ) -> Result<Document<'p>, ExitStatus> {
+    ) -> Result<Document<'p>, ExitStatus>
+        ensures read { IfOk result (λ document. IsReadAt path.now (⟦<StandardInput as Source>⟧.given self.old.input)
+            (⟦<StandardInput as Source>⟧.given self.new.input) document.text.items (view document.value)) }
+        ensures complains { IfErr result (λ status. IsTrue (is_complaint status)) }
+        ensures silent { self.new.output ≡ self.old.output }
+    {
         match read(rt, &mut self.input, path) {
             Ok(SourceText { text, value }) => Ok(Document {
                 path,
@@ -94,7 +110,9 @@ impl Console {
         rt: &R,
         path: &str,
         fault: FileFault,
-    ) -> ExitStatus {
+    ) -> ExitStatus
+        ensures { IsTrue (is_complaint result) }
+    {
         if fault == FileFault::NoMemory {
             return self.complain_of_memory(rt);
         }
@@ -110,7 +128,9 @@ impl Console {
         rt: &R,
         path: &str,
         fault: DocumentFault,
-    ) -> ExitStatus {
+    ) -> ExitStatus
+        ensures { IsTrue (is_rejection result) }
+    {
         let location = location_of(fault);
         let Ok(message) = message_of(rt, fault) else {
             return self.complain_of_memory(rt);
@@ -127,7 +147,9 @@ impl Console {
         rt: &R,
         document: &Document<'_>,
         faults: &Faults,
-    ) -> ExitStatus {
+    ) -> ExitStatus
+        ensures { IsTrue (is_rejection result) }
+    {
         match foreign_words(rt.alloc(), &document.value) {
             Ok(None) => {}
             Ok(Some(words)) => return self.complain_in_words(rt, document, "", words.as_str()),
@@ -165,7 +187,9 @@ impl Console {
         rt: &R,
         document: &Document<'_>,
         refusal: Refusal,
-    ) -> ExitStatus {
+    ) -> ExitStatus
+        ensures { IsTrue (is_rejection result) }
+    {
         match refusal {
             Refusal::All(faults) => self.complain_of_faults(rt, document, &faults),
             Refusal::One(InputFault::NoMemory) => self.complain_of_memory(rt),
@@ -186,7 +210,9 @@ impl Console {
         document: &Document<'_>,
         pointer: &str,
         fault_kind: FaultKind,
-    ) -> ExitStatus {
+    ) -> ExitStatus
+        ensures { IsTrue (is_rejection result) }
+    {
         if pointer == "/config" {
             match foreign_words(rt.alloc(), &document.value) {
                 Ok(None) => {}
@@ -207,7 +233,9 @@ impl Console {
         document: &Document<'_>,
         pointer: &str,
         words: &str,
-    ) -> ExitStatus {
+    ) -> ExitStatus
+        ensures { IsTrue (is_rejection result) }
+    {
         let kind = FaultKind::BadValue;
         let said = match location_in(rt.alloc(), document, pointer, kind) {
             Err(refused) => Err(refused),
@@ -223,7 +251,9 @@ impl Console {
     }
 
     /// Complains that there was no memory, and returns the status.
-    pub fn complain_of_memory<R: Eprint>(&self, rt: &R) -> ExitStatus {
+    pub fn complain_of_memory<R: Eprint>(&self, rt: &R) -> ExitStatus
+        ensures { result ≡ ExitStatus.NoMemory }
+    {
         let _ = eprintln!(rt; "am-rehearse: no memory");
         ExitStatus::NoMemory
     }

@@ -1,5 +1,10 @@
 //! Files that are read with their values, and the output in colors.
-ghost use Rattle.std.specs.Prelude.{◌≡◌, ◌≤◌, length, IfOk};
+ghost use Rattle.std.specs.Prelude.{◌≡◌, ◌≤◌, ◌+◌, ◌++◌, ◌==◌, false, length, IfOk, IsTrue, if◌then◌else◌};
+ghost use Rattle.std.specs.Result.{result_unwrap_or};
+ghost use Rattle.serde_json.specs.View.{view};
+ghost use Rattle.am_cli.specs.Bytes.{moved};
+ghost use Rattle.am_console.specs.Complaints.{is_complaint};
+ghost use Rattle.am_console.specs.Source.{IsReadAt};
 
 use crate::source::{SourceFault, SourceText, read_source};
 use am_cli::device::{DeviceFault, Sink, Source, StandardInput, StandardOutput};
@@ -21,7 +26,7 @@ pub struct FileSource<F: Read + Drop> {
     io_trace: IoTrace,
 }
 
-/// The standard output, perhaps with colors.
+/// The standard output, perhaps with colors. Without them, contracts see what the standard output itself took.
 #[derive(Drop)]
 pub struct PaintedOutput {
     alloc: Global,
@@ -54,7 +59,9 @@ impl FileFault {
     }
 
     /// Returns the status with which the program ends on the fault.
-    pub fn status(self) -> ExitStatus {
+    pub fn status(self) -> ExitStatus
+        ensures { IsTrue (is_complaint result) }
+    {
         match self {
             FileFault::NoMemory => ExitStatus::NoMemory,
             _ => ExitStatus::Unreadable,
@@ -107,7 +114,10 @@ pub fn read<R: Files + AllocGlobal>(
     rt: &R,
     input: &mut StandardInput,
     path: &str,
-) -> Result<SourceText, Unread> {
+) -> Result<SourceText, Unread>
+    ensures { IfOk result (λ source_text. IsReadAt path.now (⟦<StandardInput as Source>⟧.given input.old)
+        (⟦<StandardInput as Source>⟧.given input.new) source_text.text.items (view source_text.value)) }
+{
     if path == STANDARD_INPUT {
         return Ok(read_source(rt.alloc(), input)?);
     }
@@ -157,6 +167,13 @@ impl PaintedOutput {
     fn pass(&mut self, bytes: &[u8]) -> Result<usize, DeviceFault>
         ensures count { IfOk result (λ count. count ≤ length bytes.now) }
         ensures trace { self.new.io_trace ≡ self.old.io_trace }
+        ensures colors { self.new.is_colored ≡ self.old.is_colored }
+        ensures reads { self.old.is_colored ≡ false → ⟦<StandardOutput as Sink>⟧.reads self.new.output
+            ≡ ⟦<StandardOutput as Sink>⟧.reads self.old.output + 1 }
+        ensures fails { self.old.is_colored ≡ false → ⟦<StandardOutput as Sink>⟧.failed self.new.output
+            ≡ ⟦<StandardOutput as Sink>⟧.failed self.old.output + (if result_unwrap_or result 0 == 0 then 1 else 0) }
+        ensures takes { self.old.is_colored ≡ false → ⟦<StandardOutput as Sink>⟧.taken self.new.output
+            ≡ ⟦<StandardOutput as Sink>⟧.taken self.old.output ++ moved result bytes.now }
     {
         if !self.is_colored {
             return self.output.write(bytes);
@@ -174,13 +191,15 @@ impl PaintedOutput {
     }
 }
 
-/// It takes the bytes without their colors.
+/// It takes the bytes without their colors: where it paints, those that it was given to paint; else those that the standard output took.
 impl Sink for PaintedOutput {
-    ghost reads = { λ o. o.io_trace.reads };
+    ghost use Rattle.std.specs.Prelude.{if◌then◌else◌};
 
-    ghost failed = { λ o. o.io_trace.failed };
+    ghost reads = { λ o. if o.is_colored then o.io_trace.reads else ⟦<StandardOutput as Sink>⟧.reads o.output };
 
-    ghost taken = { λ o. o.io_trace.moved };
+    ghost failed = { λ o. if o.is_colored then o.io_trace.failed else ⟦<StandardOutput as Sink>⟧.failed o.output };
+
+    ghost taken = { λ o. if o.is_colored then o.io_trace.moved else ⟦<StandardOutput as Sink>⟧.taken o.output };
 
     fn write(&mut self, bytes: &[u8]) -> Result<usize, DeviceFault> {
         match self.pass(bytes) {

@@ -1,4 +1,8 @@
 //! Matchers and patterns, and what is wrong with one, in words.
+ghost use Rattle.std.specs.Prelude.{◌≡◌, ◌≢◌, IfErr, IfOk, IsErr};
+ghost use Rattle.am_alerts.specs.declared.matcher.MatcherFault.{MatcherFault};
+ghost use Rattle.am_console.specs.MatcherWords.{IsMatcherOf, IsNoMatcher};
+
 use am_alerts::limits::MAX_VALUE_BYTES;
 use am_alerts::matcher::{Matcher, MatcherFault, MatcherParts, Operator};
 use am_alerts::text::Text;
@@ -32,7 +36,10 @@ const WRITE_BACKSLASH: &str = "write \\\\ for a backslash";
 const END_QUOTATION: &str = "end \\Q with \\E";
 
 /// Returns the matcher that a text writes.
-pub fn matcher_of(alloc: Global, text: &str) -> Result<Matcher, MatcherFault> {
+pub fn matcher_of(alloc: Global, text: &str) -> Result<Matcher, MatcherFault>
+    ensures written { IfOk result (IsMatcherOf text.now) }
+    ensures refused { IfErr result (λ fault. fault ≢ MatcherFault.NoMemory → IsNoMatcher text.now) }
+{
     match parts_of_text(alloc, text) {
         Ok(Some(parts)) => translated_matcher(alloc, parts),
         Ok(None) => Err(MatcherFault::BadName),
@@ -41,7 +48,9 @@ pub fn matcher_of(alloc: Global, text: &str) -> Result<Matcher, MatcherFault> {
 }
 
 /// Returns what is wrong with a text that a matcher isn't made of, in words.
-pub fn words_for(alloc: Global, text: &str, fault: MatcherFault) -> Result<String, AllocError> {
+pub fn words_for(alloc: Global, text: &str, fault: MatcherFault) -> Result<String, AllocError>
+    ensures { fault ≡ MatcherFault.NoMemory → IsErr result }
+{
     match fault {
         MatcherFault::NoMemory => Err(AllocError),
         MatcherFault::BadName => format!(in alloc;

@@ -18,10 +18,12 @@ use Rattle.am_input.specs.declared.input.Changes.{Changes}
 use Rattle.am_model.specs.Config.{config_fault}
 use Rattle.am_model.specs.declared.config.Config.{Config}
 
--- the fields that only a story has
-abbrev pub story_names : List (List ℕ)
-story_names =
-    codes "config" ∷ codes "alertmanager" ∷ codes "until" ∷ codes "alerts" ∷ codes "expect" ∷ codes "outages" ∷ []
+-- the names of the members of a story: no configuration has one of them
+abbrev pub member_names : List (List ℕ)
+member_names =
+    codes "config" ∷ codes "alertmanager" ∷ codes "reload" ∷ codes "restart" ∷ codes "start" ∷ codes "zones" ∷ codes "until"
+    ∷ codes "alerts" ∷ codes "silences" ∷ codes "maintain" ∷ codes "remove_empty_groups" ∷ codes "outages" ∷ codes "expect"
+    ∷ codes "output" ∷ []
 
 -- the fields that only a configuration of our own has
 abbrev pub own_names : List (List ℕ)
@@ -34,7 +36,7 @@ has_one_of names value = list_any (λ name. is_some (get name value)) names
 -- what a file is, by the fields that it has
 abbrev pub form_in : Data → Form
 form_in value =
-    if has_one_of story_names value then Story
+    if has_one_of member_names value then Story
     else (if is_some (pointer (codes "/receivers/0/integrations") value) || has_one_of own_names value then Own else Alertmanager)
 
 -- a configuration that was read from Alertmanager's has no fault, and its routes, receivers and rules. Not stated: the names of routes, and

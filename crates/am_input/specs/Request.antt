@@ -14,7 +14,7 @@ use Rattle.am_cli.specs.declared.reader.Mode.TheVariants.{Strict}
 use Rattle.am_terms.specs.declared.expectation.Expectation.{Expectation}
 use Rattle.am_terms.specs.UtcDates.{IsReadFrom, StartData, dated}
 use Rattle.am_terms.specs.TimeFormatData.{TimeFormatData, counted}
-use Rattle.am_input.specs.Configured.{IsConfigFor, file_in}
+use Rattle.am_input.specs.Configured.{IsConfigFor, file_in, member_names}
 use Rattle.am_input.specs.DispatcherChanges.{AreDispatcherChangesIn, AreDispatcherChangesWithoutRegexes}
 use Rattle.am_plans.specs.Configs.{configs_of}
 use Rattle.am_plans.specs.Decoding.{DecodesToOutage, have_targets}
@@ -69,13 +69,6 @@ maintain_in (Some member) = interval_in member
 abbrev pub ticks_in : Option Data → Option ℕ
 ticks_in None = Some REMOVE_EMPTY_GROUPS
 ticks_in (Some member) = interval_in member
-
--- the names of the members of a story
-abbrev pub member_names : List (List ℕ)
-member_names =
-    codes "config" ∷ codes "alertmanager" ∷ codes "reload" ∷ codes "restart" ∷ codes "start" ∷ codes "zones" ∷ codes "until"
-    ∷ codes "alerts" ∷ codes "silences" ∷ codes "maintain" ∷ codes "remove_empty_groups" ∷ codes "outages" ∷ codes "expect"
-    ∷ codes "output" ∷ []
 
 -- these members, each of a known name, with what the command line says in place of some, ask for this output, give this start and have
 -- these expectations, of a rehearsal that has the configuration, the actions, the outages and the upkeep that they say, and ends when

@@ -5,6 +5,7 @@ ghost use Rattle.serde_json.specs.Find.{get, pointer};
 ghost use Rattle.serde_json.specs.View.{view};
 ghost use Rattle.am_input.specs.Configured.{form_in};
 
+use crate::input::MEMBERS;
 use serde_json::Value;
 
 /// What a file is.
@@ -18,16 +19,6 @@ pub enum Form {
     Alertmanager,
 }
 
-/// The fields that only a story has.
-const OF_STORIES: [&str; 6] = [
-    "config",
-    "alertmanager",
-    "until",
-    "alerts",
-    "expect",
-    "outages",
-];
-
 /// The fields that only a configuration of our own has.
 const OF_OUR_OWN: [&str; 4] = ["children", "inhibit", "limits", "retention"];
 
@@ -35,7 +26,7 @@ const OF_OUR_OWN: [&str; 4] = ["children", "inhibit", "limits", "retention"];
 pub fn form_of(value: &Value) -> Form
     ensures { result ≡ form_in (view value.now) }
 {
-    if has_one_of(value, &OF_STORIES) {
+    if has_one_of(value, &MEMBERS) {
         return Form::Story;
     }
     if has_integrations(value) || has_one_of(value, &OF_OUR_OWN) {

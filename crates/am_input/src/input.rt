@@ -14,7 +14,7 @@ ghost use Rattle.serde_json.specs.View.{members_view, view};
 ghost use Rattle.am_terms.specs.declared.rehearsal.TheConstants.{MAX_UNTIL};
 ghost use Rattle.am_cli.specs.Decoding.{HasOr, IsList};
 ghost use Rattle.am_cli.specs.Read.{Excludes, has_only};
-ghost use Rattle.am_input.specs.Configured.{IsConfigFor, file_in};
+ghost use Rattle.am_input.specs.Configured.{IsConfigFor, file_in, member_names};
 ghost use Rattle.am_input.specs.DispatcherChanges.{AreDispatcherChangesIn};
 ghost use Rattle.am_plans.specs.Configs.{configs_of};
 ghost use Rattle.am_plans.specs.Decoding.{DecodesToOutage, have_targets};
@@ -25,7 +25,7 @@ ghost use Rattle.am_terms.specs.declared.rehearsal.Rehearsal.{Rehearsal};
 ghost use Rattle.am_input.specs.declared.input.Requested.{Requested};
 ghost use Rattle.am_input.specs.declared.input.Input.{Input};
 ghost use Rattle.am_input.specs.Request.{DecodesToStart, IsRequestIn, IsWithoutRegexes, IsRequestWithoutRegexes};
-ghost use Rattle.am_input.specs.Request.{RefusesAll, Requests, end_for, maintain_in, member_names, output_for, ticks_in};
+ghost use Rattle.am_input.specs.Request.{RefusesAll, Requests, end_for, maintain_in, output_for, ticks_in};
 
 use crate::configured::{Configured, read_configured};
 use crate::dispatcher_changes::{HandedOver, both, either, read_dispatcher_changes};

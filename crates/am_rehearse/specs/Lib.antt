@@ -1,3 +1,7 @@
+-- what the command line of `play` asks for
+pub mod Asked
+-- how the play of a story ends
+pub mod Ended
 -- how a rehearsal ends without its output, or with an expectation that isn't met
 pub mod Faults
 -- the line between what two dispatchers did

@@ -8,18 +8,14 @@ use am_cli::faults::Refusal;
 use am_command::exit_status::ExitStatus;
 use am_command::request::CompareRequest;
 use am_commands::faults::accept;
-use am_commands::given::given_to;
 use am_commands::ignored::say_ignored;
 use am_commands::once::accept_inputs;
 use am_commands::reload_files::read_reload_files;
-use am_commands::system_zones::SystemZones;
 use am_commands::wrapped::read_configuration;
 use am_config::dropped::IgnoredSettings;
 use am_console::console::{Console, Document};
 use am_console::progress::Progress;
-use am_input::faults::ReceiversOf;
-use am_input::input::{Changes, Input, Overrides, read_input};
-use am_input::zone_files::ZoneFiles;
+use am_input::input::{Input, Overrides};
 use am_rehearsal::playing::PlayedPart;
 use am_seed::Seed;
 use am_terms::clock::{Elapsed, TimeFormat, push_column};
@@ -118,61 +114,11 @@ fn played_under<R: Files + Eprint + AllocGlobal + Clock>(
     overrides: Overrides,
 ) -> Result<PlayedStory, ExitStatus> {
     let config = read_configuration(rt, console, path)?;
-    accept_under(rt, console, story, &config, overrides)?;
-    let changes = Changes {
-        config: Some(&config.value),
-        overrides,
-    };
-    played_with(rt, seed, console, story, changes)
-}
-
-/// Plays the story that these changes are made to, and complains if it is refused. The error is the status.
-fn played_with<R: Files + Eprint + AllocGlobal + Clock>(
-    rt: &R,
-    seed: Seed,
-    console: &Console,
-    story: &Document<'_>,
-    changes: Changes<'_>,
-) -> Result<PlayedStory, ExitStatus> {
-    let mut files = SystemZones::new(rt);
+    let input = accept(rt, console, story, Some(&config), overrides)?;
     let mut watch = Progress::begin(rt, console.is_terminal);
-    match played(rt.alloc(), seed, story, changes, &mut files, &mut watch) {
+    match play_input(rt.alloc(), seed, input, &mut watch) {
         Ok(played) => Ok(played),
-        Err(refusal) => Err(console.complain_of_refusal(rt, story, refusal)),
-    }
-}
-
-/// Complains of the faults of a configuration, and of those of a story under it. The error is the status.
-fn accept_under<R: Files + Eprint + AllocGlobal>(
-    rt: &R,
-    console: &Console,
-    story: &Document<'_>,
-    config: &Document<'_>,
-    overrides: Overrides,
-) -> Result<(), ExitStatus> {
-    let configured = given_to(rt, console, story, config, overrides)?;
-    accept(
-        rt,
-        console,
-        story,
-        ReceiversOf::Given(Some(&configured)),
-        overrides,
-    )
-}
-
-/// Plays a story that these changes are made to.
-fn played<Z: ZoneFiles, W: Watch>(
-    alloc: Global,
-    seed: Seed,
-    story: &Document<'_>,
-    changes: Changes<'_>,
-    files: &mut Z,
-    watch: &mut W,
-) -> Result<PlayedStory, Refusal> {
-    let input = read_input(alloc, &story.value, changes, files)?;
-    match play_input(alloc, seed, input, watch) {
-        Ok(played) => Ok(played),
-        Err(fault) => Err(Refusal::One(fault)),
+        Err(fault) => Err(console.complain_of_refusal(rt, story, Refusal::One(fault))),
     }
 }
 

@@ -34,11 +34,13 @@ pub enum RehearseFault {
 impl RehearseFault {
     ghost use Rattle.std.specs.Prelude.{◌≡◌};
     ghost use Rattle.am_command.specs.ExitStatus.{code_of};
+    ghost use Rattle.am_rehearse.specs.Ended.{FaultEndsWith};
     ghost use Rattle.am_rehearse.specs.Faults.{status_of};
 
     /// The status with which the program ends on this fault.
     pub fn status(&self) -> ExitStatus
-        ensures { code_of result ≡ status_of self.now }
+        ensures code { code_of result ≡ status_of self.now }
+        ensures ends { FaultEndsWith self.now result }
     {
         match self {
             RehearseFault::Refused { .. } | RehearseFault::AllRefused { .. } => {

@@ -6,6 +6,7 @@
 //! `play` and `compare` draw a seed for their hashes.
 #![tactic(auto)]
 
+mod asked;
 mod compare;
 mod complaints;
 mod fault;

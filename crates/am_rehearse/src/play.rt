@@ -1,14 +1,23 @@
 //! `am-rehearse play`: simulates stories.
+ghost use Rattle.std.specs.Prelude.{◌≡◌, ◌≢◌, ◌⊎◌, ◌<◌, ◌↔◌, false, true, length, IfErr, IfOk, IsTrue, OnOk};
+ghost use Rattle.serde_json.specs.View.{view};
+ghost use Rattle.am_console.specs.Complaints.{is_rejection};
+ghost use Rattle.am_rehearse.specs.Ended.{EndsWith, IsHeaded, IsPageOfSeveral, PlaysAll, PlaysEach, PlaysFile, PlaysStory, PlaysUnder};
+ghost use Rattle.am_rehearse.specs.Ended.{RejectsStory, is_stop};
+ghost use Rattle.am_rehearse.specs.Faults.{Refuses, status_of};
+ghost use Rattle.am_rehearse.specs.Printed.{WritesOutput};
+
 use crate::complaints::{complain_of_fault, point_at_unmet};
 use crate::fault::RehearseFault;
 use crate::output_options::OutputOptions;
 use crate::overheard::Overheard;
-use crate::play_options::{options_of, output_of, until_of};
+use crate::play_options::{options_of, overrides_of};
 use crate::run::{Judgement, Report, play_value};
 use crate::story_files::story_files;
 use crate::suites::Suites;
 use crate::tally::Tally;
 use crate::unknown::refuse_unknown;
+use am_cli::device::Sink;
 use am_command::exit_status::ExitStatus;
 use am_command::request::PlayRequest;
 use am_commands::ignored::say_ignored;
@@ -16,8 +25,9 @@ use am_commands::reload_files::read_reload_files;
 use am_commands::system_zones::SystemZones;
 use am_commands::wrapped::read_configuration;
 use am_console::console::{Console, Document, shown};
+use am_console::files::PaintedOutput;
 use am_console::progress::Progress;
-use am_input::input::{Changes, Overrides};
+use am_input::input::Changes;
 use am_seed::Seed;
 use am_yaml::document::read_document;
 use serde_json::Value;
@@ -27,35 +37,34 @@ use std::time::Clock;
 
 /// A story that is simulated, and what the command line says of all.
 #[derive(Clone, Copy)]
-pub(crate) struct Run<'r> {
-    request: &'r PlayRequest<'r>,
+pub struct Run<'r> {
+    pub request: &'r PlayRequest<'r>,
     /// What the hashes start from.
-    seed: Seed,
-    path: &'r str,
+    pub seed: Seed,
+    pub path: &'r str,
     /// Whether it is the only story.
-    is_alone: bool,
+    pub is_alone: bool,
     /// The configuration that the command line names.
-    pub(crate) config: Option<&'r Document<'r>>,
-    pub(crate) overrides: Overrides,
-}
-
-impl<'r> Run<'r> {
+    pub config: Option<&'r Document<'r>>,
     /// What takes the place of a story's own.
-    fn changes(self) -> Changes<'r> {
-        Changes {
-            config: self.config.map(|document| &document.value),
-            overrides: self.overrides,
-        }
-    }
+    pub changes: Changes<'r>,
 }
 
 /// Simulates stories, and returns the status: of several the least that isn't 0. Hashes start from this seed.
+///
+/// It is `Done` only if the output that is asked for of each story was written, one behind the other, and each rehearsal met each
+/// expectation. It is `Unmet` only if they were written so, and one expectation isn't met.
 pub fn play<R: Files + Eprint + AllocGlobal + Clock + Clone + Drop>(
     rt: &R,
     seed: Seed,
     console: &mut Console,
     request: &PlayRequest<'_>,
-) -> ExitStatus {
+) -> ExitStatus
+    ensures done { result ≡ ExitStatus.Done → PlaysAll request.now true
+        (⟦<PaintedOutput as Sink>⟧.taken console.old.output) (⟦<PaintedOutput as Sink>⟧.taken console.new.output) }
+    ensures unmet { result ≡ ExitStatus.Unmet → PlaysAll request.now false
+        (⟦<PaintedOutput as Sink>⟧.taken console.old.output) (⟦<PaintedOutput as Sink>⟧.taken console.new.output) }
+{
     match try_play(rt, seed, console, request) {
         Ok(status) | Err(status) => status,
     }
@@ -66,11 +75,14 @@ fn try_play<R: Files + Eprint + AllocGlobal + Clock + Clone + Drop>(
     seed: Seed,
     console: &mut Console,
     request: &PlayRequest<'_>,
-) -> Result<ExitStatus, ExitStatus> {
-    let overrides = Overrides {
-        output: output_of(rt, request)?,
-        until: until_of(rt, request.until)?,
-    };
+) -> Result<ExitStatus, ExitStatus>
+    ensures done { IfOk result (λ status. status ≡ ExitStatus.Done → PlaysAll request.now true
+        (⟦<PaintedOutput as Sink>⟧.taken console.old.output) (⟦<PaintedOutput as Sink>⟧.taken console.new.output)) }
+    ensures unmet { IfOk result (λ status. status ≡ ExitStatus.Unmet → PlaysAll request.now false
+        (⟦<PaintedOutput as Sink>⟧.taken console.old.output) (⟦<PaintedOutput as Sink>⟧.taken console.new.output)) }
+    ensures stops { IfErr result (λ status. IsTrue (is_stop status)) }
+{
+    let overrides = overrides_of(rt, request)?;
     let paths = story_files(rt, console, request)?;
     let run = Run {
         request,
@@ -78,7 +90,10 @@ fn try_play<R: Files + Eprint + AllocGlobal + Clock + Clone + Drop>(
         path: "",
         is_alone: paths.len() == 1,
         config: None,
-        overrides,
+        changes: Changes {
+            config: None,
+            overrides,
+        },
     };
     play_under(rt, console, run, paths.as_slice())
 }
@@ -89,13 +104,26 @@ fn play_under<R: Files + Eprint + AllocGlobal + Clock>(
     console: &mut Console,
     run: Run<'_>,
     paths: &[String],
-) -> Result<ExitStatus, ExitStatus> {
+) -> Result<ExitStatus, ExitStatus>
+    requires { run.changes.config ≡ None }
+    ensures done { IfOk result (λ status. status ≡ ExitStatus.Done → PlaysUnder run.entry.request.now run.entry.changes.overrides
+        run.entry.is_alone true (length paths.now) (⟦<PaintedOutput as Sink>⟧.taken console.old.output)
+        (⟦<PaintedOutput as Sink>⟧.taken console.new.output)) }
+    ensures unmet { IfOk result (λ status. status ≡ ExitStatus.Unmet → PlaysUnder run.entry.request.now run.entry.changes.overrides
+        run.entry.is_alone false (length paths.now) (⟦<PaintedOutput as Sink>⟧.taken console.old.output)
+        (⟦<PaintedOutput as Sink>⟧.taken console.new.output)) }
+    ensures stops { IfErr result (λ status. IsTrue (is_stop status)) }
+{
     let Some(path) = run.request.config else {
         return play_each(rt, console, run, paths);
     };
     let config = read_configuration(rt, console, path)?;
     let run = Run {
         config: Some(&config),
+        changes: Changes {
+            config: Some(&config.value),
+            overrides: run.changes.overrides,
+        },
         ..run
     };
     play_each(rt, console, run, paths)
@@ -107,7 +135,15 @@ fn play_each<R: Files + Eprint + AllocGlobal + Clock>(
     console: &mut Console,
     run: Run<'_>,
     paths: &[String],
-) -> Result<ExitStatus, ExitStatus> {
+) -> Result<ExitStatus, ExitStatus>
+    ensures done { IfOk result (λ status. status ≡ ExitStatus.Done → PlaysEach run.entry.request.now run.entry.changes run.entry.is_alone true
+        (length paths.now) (⟦<PaintedOutput as Sink>⟧.taken console.old.output)
+        (⟦<PaintedOutput as Sink>⟧.taken console.new.output)) }
+    ensures unmet { IfOk result (λ status. status ≡ ExitStatus.Unmet → PlaysEach run.entry.request.now run.entry.changes run.entry.is_alone false
+        (length paths.now) (⟦<PaintedOutput as Sink>⟧.taken console.old.output)
+        (⟦<PaintedOutput as Sink>⟧.taken console.new.output)) }
+    ensures stops { IfErr result (λ status. IsTrue (is_stop status)) }
+{
     let mut suites = Suites::new(rt.alloc());
     let mut tally = Tally::none();
     for path in paths {
@@ -130,7 +166,11 @@ fn say_name<R: Files + Eprint + AllocGlobal>(
     rt: &R,
     console: &mut Console,
     run: Run<'_>,
-) -> Result<(), ExitStatus> {
+) -> Result<(), ExitStatus>
+    ensures named { OnOk result (IsHeaded run.entry.is_alone
+        (⟦<PaintedOutput as Sink>⟧.taken console.old.output) (⟦<PaintedOutput as Sink>⟧.taken console.new.output)) }
+    ensures stops { IfErr result (λ status. IsTrue (is_stop status)) }
+{
     if run.is_alone || run.request.output == Some("json") {
         return Ok(());
     }
@@ -149,7 +189,14 @@ fn play_one<R: Files + Eprint + AllocGlobal + Clock>(
     console: &mut Console,
     run: Run<'_>,
     suites: &mut Suites,
-) -> Result<ExitStatus, ExitStatus> {
+) -> Result<ExitStatus, ExitStatus>
+    ensures done { IfOk result (λ status. status ≡ ExitStatus.Done → PlaysFile run.entry.request.now run.entry.changes true
+        (⟦<PaintedOutput as Sink>⟧.taken console.old.output) (⟦<PaintedOutput as Sink>⟧.taken console.new.output)) }
+    ensures unmet { IfOk result (λ status. status ≡ ExitStatus.Unmet → PlaysFile run.entry.request.now run.entry.changes false
+        (⟦<PaintedOutput as Sink>⟧.taken console.old.output) (⟦<PaintedOutput as Sink>⟧.taken console.new.output)) }
+    ensures only { IfOk result (λ status. status ≢ ExitStatus.Differs) }
+    ensures stops { IfErr result (λ status. IsTrue (is_stop status)) }
+{
     let heard = Overheard::new(rt);
     match play_file(&heard, console, run, suites) {
         ExitStatus::Rejected => {
@@ -173,7 +220,9 @@ fn add_error<R: Eprint + AllocGlobal>(
     path: &str,
     heard: &Overheard<'_, R>,
     suites: &mut Suites,
-) -> Result<(), ExitStatus> {
+) -> Result<(), ExitStatus>
+    ensures { IfErr result (λ status. status ≡ ExitStatus.NoMemory) }
+{
     let added = match heard.lines() {
         Ok(lines) => suites.add_error(path, lines.as_str()),
         Err(refused) => Err(refused),
@@ -190,30 +239,50 @@ fn play_file<R: Files + Eprint + AllocGlobal + Clock>(
     console: &mut Console,
     run: Run<'_>,
     suites: &mut Suites,
-) -> ExitStatus {
+) -> ExitStatus
+    ensures done { result ≡ ExitStatus.Done → PlaysFile run.entry.request.now run.entry.changes true
+        (⟦<PaintedOutput as Sink>⟧.taken console.old.output) (⟦<PaintedOutput as Sink>⟧.taken console.new.output) }
+    ensures unmet { result ≡ ExitStatus.Unmet → PlaysFile run.entry.request.now run.entry.changes false
+        (⟦<PaintedOutput as Sink>⟧.taken console.old.output) (⟦<PaintedOutput as Sink>⟧.taken console.new.output) }
+{
     let mut story = match console.read(rt, run.path) {
         Ok(story) => story,
         Err(status) => return status,
     };
-    match read_reload_files(rt, console, &mut story, run.overrides) {
+    match read_reload_files(rt, console, &mut story, run.changes.overrides) {
         Ok(()) => play_story(rt, console, run, &mut story, suites),
         Err(status) => status,
     }
 }
 
 /// Simulates the story of a document, prints what is wanted of it, and returns its status.
-fn play_story<R: Files + Eprint + AllocGlobal + Clock>(
+///
+/// It is `Done` only if the output that is asked for was written once and whole, and the rehearsal met each expectation; `Unmet` only if
+/// the output was written so, and one isn't met. It is `Rejected` only for a cause (`RejectsStory`), and then nothing was written. It is
+/// `Unwritable` exactly if a write failed. `NoMemory` can come after the output was written.
+pub fn play_story<R: Files + Eprint + AllocGlobal + Clock>(
     rt: &R,
     console: &mut Console,
     run: Run<'_>,
     story: &mut Document<'_>,
     suites: &mut Suites,
-) -> ExitStatus {
+) -> ExitStatus
+    ensures done { result ≡ ExitStatus.Done → PlaysStory run.entry.request.now run.entry.changes true (view story.old.value)
+        (⟦<PaintedOutput as Sink>⟧.taken console.old.output) (⟦<PaintedOutput as Sink>⟧.taken console.new.output) }
+    ensures unmet { result ≡ ExitStatus.Unmet → PlaysStory run.entry.request.now run.entry.changes false (view story.old.value)
+        (⟦<PaintedOutput as Sink>⟧.taken console.old.output) (⟦<PaintedOutput as Sink>⟧.taken console.new.output) }
+    ensures rejected { result ≡ ExitStatus.Rejected → RejectsStory run.entry.request.now run.entry.is_alone run.entry.changes
+        (view story.old.value) }
+    ensures silent { result ≡ ExitStatus.Rejected → console.new.output ≡ console.old.output }
+    ensures unwritable { (result ≡ ExitStatus.Unwritable) ↔ (⟦<PaintedOutput as Sink>⟧.failed console.old.output
+        < ⟦<PaintedOutput as Sink>⟧.failed console.new.output) }
+    ensures only { (result ≢ ExitStatus.Unreadable) × (result ≢ ExitStatus.Differs) }
+{
     if let Err(status) = refuse_page(rt, console, run, story) {
         return status;
     }
     let selection = &run.request.selection;
-    if let Err(status) = refuse_unknown(rt, console, selection, story, run.changes()) {
+    if let Err(status) = refuse_unknown(rt, console, selection, story, run.changes) {
         return status;
     }
     let options = match options_of(rt, run.seed, console, run.request, run.path) {
@@ -234,8 +303,19 @@ fn play_document<R: Files + Eprint + AllocGlobal + Clock>(
     story: &mut Document<'_>,
     options: &OutputOptions,
     report: &mut Report,
-) -> Result<(), RehearseFault> {
-    let changes = run.changes();
+) -> Result<(), RehearseFault>
+    ensures unwritable { (result ≡ Err RehearseFault.Unwritable)
+        ↔ (⟦<PaintedOutput as Sink>⟧.failed console.old.output < ⟦<PaintedOutput as Sink>⟧.failed console.new.output) }
+    ensures unwritten { IfErr result (λ fault.
+        fault ≢ RehearseFault.Unwritable → fault ≢ RehearseFault.Unmet → console.new.output ≡ console.old.output) }
+    ensures met { OnOk result (WritesOutput run.entry.changes options.now true (view story.old.value)
+        (⟦<PaintedOutput as Sink>⟧.taken console.old.output) (⟦<PaintedOutput as Sink>⟧.taken console.new.output)) }
+    ensures unmet { IfErr result (λ fault. fault ≡ RehearseFault.Unmet →
+        WritesOutput run.entry.changes options.now false (view story.old.value)
+        (⟦<PaintedOutput as Sink>⟧.taken console.old.output) (⟦<PaintedOutput as Sink>⟧.taken console.new.output)) }
+    ensures refused { IfErr result (λ fault. status_of fault ≡ 2 → Refuses run.entry.changes (view story.old.value) fault) }
+{
+    let changes = run.changes;
     let mut files = SystemZones::new(rt);
     let mut watch = Progress::begin(rt, console.is_terminal);
     let ended = play_value(
@@ -262,9 +342,12 @@ fn refuse_page<R: Eprint + AllocGlobal>(
     console: &Console,
     run: Run<'_>,
     story: &Document<'_>,
-) -> Result<(), ExitStatus> {
+) -> Result<(), ExitStatus>
+    ensures complains { IfErr result (λ status. IsTrue (is_rejection status)) }
+    ensures refused { IfErr result (λ _. IsPageOfSeveral run.entry.is_alone run.entry.changes (view story.now.value)) }
+{
     let output = story.value.get("output").and_then(Value::as_str);
-    if run.is_alone || run.overrides.output.is_some() || output != Some("html") {
+    if run.is_alone || run.changes.overrides.output.is_some() || output != Some("html") {
         return Ok(());
     }
     let words = "a page is for one story; play this one alone, or give --output";
@@ -280,17 +363,21 @@ fn conclude<R: Files + Eprint + AllocGlobal>(
     judgement: &Judgement,
     ended: Result<(), RehearseFault>,
     suites: &mut Suites,
-) -> ExitStatus {
-    let status = match ended {
-        Ok(()) => ExitStatus::Done,
-        Err(RehearseFault::Unmet) => ExitStatus::Unmet,
-        Err(fault) => return complain_of_fault(rt, console, run, story, fault),
-    };
-    say_found(rt, judgement);
-    if status == ExitStatus::Unmet {
-        point_at_unmet(rt, console, story, judgement.unmet.as_slice());
+) -> ExitStatus
+    ensures { EndsWith ended result }
+{
+    match ended {
+        Ok(()) => {
+            say_found(rt, judgement);
+            add_suite(rt, console, story, judgement, ExitStatus::Done, suites)
+        }
+        Err(RehearseFault::Unmet) => {
+            say_found(rt, judgement);
+            point_at_unmet(rt, console, story, judgement.unmet.as_slice());
+            add_suite(rt, console, story, judgement, ExitStatus::Unmet, suites)
+        }
+        Err(fault) => complain_of_fault(rt, console, run, story, fault),
     }
-    add_suite(rt, console, story, judgement, status, suites)
 }
 
 /// Says that the command line names what no flush is of, if it does.
@@ -310,7 +397,9 @@ fn add_suite<R: Eprint + AllocGlobal>(
     judgement: &Judgement,
     status: ExitStatus,
     suites: &mut Suites,
-) -> ExitStatus {
+) -> ExitStatus
+    ensures { (result ≡ status) ⊎ (result ≡ ExitStatus.NoMemory) }
+{
     let Some(suite) = &judgement.junit else {
         return status;
     };
@@ -326,7 +415,9 @@ fn write_junit<R: Files + Eprint + AllocGlobal>(
     console: &Console,
     file: Option<&str>,
     suites: &Suites,
-) -> Result<(), ExitStatus> {
+) -> Result<(), ExitStatus>
+    ensures stops { IfErr result (λ status. IsTrue (is_stop status)) }
+{
     let Some(path) = file else {
         return Ok(());
     };

@@ -1,4 +1,7 @@
 //! The files of the stories that a command line names: files, and those of folders.
+ghost use Rattle.std.specs.Prelude.{◌<◌, IfErr, IfOk, IsTrue, vec_len};
+ghost use Rattle.am_console.specs.Complaints.{is_complaint, is_rejection};
+
 use am_command::exit_status::ExitStatus;
 use am_command::request::PlayRequest;
 use am_commands::folders::add_files;
@@ -12,7 +15,10 @@ pub(crate) fn story_files<R: Files + Eprint + AllocGlobal + Clone + Drop>(
     rt: &R,
     console: &Console,
     request: &PlayRequest<'_>,
-) -> Result<Vec<String>, ExitStatus> {
+) -> Result<Vec<String>, ExitStatus>
+    ensures some { IfOk result (λ files. 0 < vec_len files) }
+    ensures complains { IfErr result (λ status. IsTrue (is_complaint status)) }
+{
     accept_all(rt, console, request)?;
     let mut files = Vec::new(rt.alloc());
     add_files(rt, console, request.story, &mut files)?;
@@ -31,7 +37,9 @@ fn accept_all<R: Eprint + AllocGlobal>(
     rt: &R,
     console: &Console,
     request: &PlayRequest<'_>,
-) -> Result<(), ExitStatus> {
+) -> Result<(), ExitStatus>
+    ensures { IfErr result (λ status. IsTrue (is_rejection status)) }
+{
     let mut inputs = Vec::new(rt.alloc());
     let config = request.config.unwrap_or("");
     if inputs.push(request.story).is_err() || inputs.push(config).is_err() {

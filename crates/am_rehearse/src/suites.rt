@@ -16,7 +16,7 @@ const CASE: &str = "<testcase classname=\"expect\"";
 
 /// A report in the making: a suite for each story.
 #[derive(Drop)]
-pub(crate) struct Suites {
+pub struct Suites {
     alloc: Global,
     text: String,
 }

@@ -1,4 +1,7 @@
 //! `Tally`: what became of several stories.
+ghost use Rattle.std.specs.Prelude.{◌≡◌};
+ghost use Rattle.am_rehearse.specs.Ended.{joined_status};
+
 use am_command::exit_status::ExitStatus;
 
 /// What became of the stories so far.
@@ -15,7 +18,9 @@ pub(crate) struct Tally {
 
 impl Tally {
     /// Returns the tally of no story.
-    pub(crate) fn none() -> Tally {
+    pub(crate) fn none() -> Tally
+        ensures { result.status ≡ ExitStatus.Done }
+    {
         Tally {
             stories: 0,
             unmet: 0,
@@ -25,7 +30,9 @@ impl Tally {
     }
 
     /// Counts a story that ended with a status.
-    pub(crate) fn add(&mut self, status: ExitStatus) {
+    pub(crate) fn add(&mut self, status: ExitStatus)
+        ensures { self.new.status ≡ joined_status self.old.status status }
+    {
         self.stories = self.stories.saturating_add(1);
         match status {
             ExitStatus::Done => return,
@@ -38,7 +45,9 @@ impl Tally {
     }
 
     /// Returns the status of all: the least that isn't `Done`, if there is one.
-    pub(crate) fn status(self) -> ExitStatus {
+    pub(crate) fn status(self) -> ExitStatus
+        ensures { result ≡ self.status }
+    {
         self.status
     }
 

@@ -1,4 +1,14 @@
 //! Names on the command line that no configuration of a story has.
+ghost use Rattle.std.specs.Prelude.{◌≡◌, IfErr, IfOk, IsSome, IsTrue};
+ghost use Rattle.std.specs.List.{list_any};
+ghost use Rattle.std.specs.Str.{bytes_eq};
+ghost use Rattle.serde_json.specs.View.{view};
+ghost use Rattle.am_console.specs.Complaints.{is_rejection};
+ghost use Rattle.am_model.specs.Config.{has_receiver};
+ghost use Rattle.am_plans.specs.Configs.{configs_of};
+ghost use Rattle.am_rehearse.specs.Ended.{LacksName, NamesUnknown, has_route, some_has_receiver, some_has_route};
+
+use am_alerts::route::Child;
 use am_command::exit_status::ExitStatus;
 use am_command::request::Selection;
 use am_command::spelling::Nearest;
@@ -6,6 +16,7 @@ use am_commands::system_zones::SystemZones;
 use am_console::console::{Console, Document};
 use am_input::input::{Changes, Input, read_input};
 use am_model::config::Config;
+use am_terms::dispatcher_change::DispatcherChange;
 use std::alloc::{AllocError, Global};
 use std::rt::Files;
 
@@ -17,7 +28,11 @@ pub(crate) fn refuse_unknown<R: Files + Eprint + AllocGlobal>(
     selection: &Selection<'_>,
     story: &Document<'_>,
     changes: Changes<'_>,
-) -> Result<(), ExitStatus> {
+) -> Result<(), ExitStatus>
+    ensures complains { IfErr result (λ status. IsTrue (is_rejection status)) }
+    ensures refused { IfErr result (λ status. status ≡ ExitStatus.Rejected
+        → NamesUnknown selection.now changes.entry (view story.now.value)) }
+{
     if selection.receiver.is_none() && selection.group.is_none() {
         return Ok(());
     }
@@ -40,17 +55,22 @@ fn words_on_unknown(
     alloc: Global,
     selection: &Selection<'_>,
     input: &Input,
-) -> Result<Option<String>, AllocError> {
+) -> Result<Option<String>, AllocError>
+    ensures { IfOk result (λ words. IsSome words
+        → LacksName selection.now (configs_of input.now.rehearsal.config input.now.dispatcher_changes.items)) }
+{
     let configs = configs_of(alloc, input)?;
     let configs = configs.as_slice();
+    let own = &input.rehearsal.config;
+    let later = input.dispatcher_changes.as_slice();
     if let Some(name) = selection.receiver {
-        if !configs.iter().any(|config| config.receivers.has(name)) {
+        if !some_has_receiver(own, later, name) {
             let meant = nearest_receiver(alloc, configs, name)?;
             return Ok(Some(words(alloc, "--receiver: receiver", name, meant)?));
         }
     }
     if let Some(name) = selection.group {
-        if !configs.iter().any(|config| has_route(config, name)) {
+        if !some_has_route(own, later, name) {
             let meant = nearest_route(alloc, configs, name)?;
             return Ok(Some(words(alloc, "--group: route", name, meant)?));
         }
@@ -68,14 +88,46 @@ fn configs_of(alloc: Global, input: &Input) -> Result<Vec<&Config>, AllocError> 
     Ok(configs)
 }
 
+/// Returns whether a story's own configuration, or one of its reloads, has a receiver of this name.
+fn some_has_receiver(own: &Config, later: &[DispatcherChange], name: &str) -> bool
+    ensures { result ≡ some_has_receiver (configs_of own.now later.now) name.now }
+{
+    own.receivers.has(name) || later_has_receiver(later, name)
+}
+
+fn later_has_receiver(later: &[DispatcherChange], name: &str) -> bool
+    ensures { result ≡ list_any (λ change. has_receiver change.config.receivers name.now) later.now }
+{
+    later.iter().any(|change| change.config.receivers.has(name))
+}
+
+/// Returns whether a story's own configuration, or one of its reloads, has a route of this name.
+fn some_has_route(own: &Config, later: &[DispatcherChange], name: &str) -> bool
+    ensures { result ≡ some_has_route (configs_of own.now later.now) name.now }
+{
+    has_route(own, name) || later_has_route(later, name)
+}
+
+fn later_has_route(later: &[DispatcherChange], name: &str) -> bool
+    ensures { result ≡ list_any (λ change. has_route change.config name.now) later.now }
+{
+    later.iter().any(|change| has_route(&change.config, name))
+}
+
 /// Returns whether a configuration has a route of this name.
-fn has_route(config: &Config, name: &str) -> bool {
+fn has_route(config: &Config, name: &str) -> bool
+    ensures { result ≡ has_route config.now name.now }
+{
     let routes = &config.routes;
-    routes.root().name.as_str() == name
-        || routes
-            .children()
-            .iter()
-            .any(|child| child.route.name.as_str() == name)
+    routes.root().name.as_str() == name || is_child(routes.children(), name)
+}
+
+fn is_child(children: &[Child], name: &str) -> bool
+    ensures { result ≡ list_any (λ child. bytes_eq child.route.name name.now) children.now }
+{
+    children
+        .iter()
+        .any(|child| child.route.name.as_str() == name)
 }
 
 /// Returns the receiver whose name is nearest to this one, if one is near.

@@ -1,9 +1,11 @@
-// Does the work of am_bench with the packages of Alertmanager 0.25 itself, and prints for each step how many
-// nanoseconds of a processor it took for each alert:
+// Does a step of am_bench with the packages of Alertmanager 0.25 itself, after those that it needs alone, and prints how
+// many nanoseconds of a processor it took for each alert:
 //
-//	bench flushes ALERTS GROUPS
-//	bench silences ALERTS GROUPS SILENCES
-//	bench inhibition SOURCES TARGETS
+//	bench new|again ALERTS GROUPS            inserts into the dispatcher
+//	bench new-put|again-put ALERTS GROUPS    the same through the provider
+//	bench first|quiet ALERTS GROUPS [SILENCES]
+//	bench silenced ALERTS GROUPS SILENCES    silences are set
+//	bench inhibited SOURCES TARGETS
 //
 // One thread runs it, its garbage collection too. Alerts are built before a step, and garbage is collected.
 package main
@@ -121,12 +123,12 @@ func used() time.Duration {
 	return time.Duration(usage.Utime.Nano() + usage.Stime.Nano())
 }
 
-// Times a step on so many alerts.
-func timed(step string, count int, run func()) {
+// Times what is done with so many alerts.
+func timed(count int, run func()) {
 	runtime.GC()
 	start := used()
 	run()
-	fmt.Printf("%s\t%d\n", step, (used()-start).Nanoseconds()/int64(count))
+	fmt.Println((used() - start).Nanoseconds() / int64(count))
 }
 
 func (p *peer) insert(alerts []*types.Alert) {
@@ -145,32 +147,48 @@ func (p *peer) put(alerts []*types.Alert) {
 	}
 }
 
-func (p *peer) flush(step string, count, wanted int) {
+// Flushes all groups, which sends so many alerts.
+func (p *peer) flush(wanted int) {
 	p.told = 0
-	timed(step, count, func() { p.dispatch.Flush(time.Now()) })
+	p.dispatch.Flush(time.Now())
 	if p.told != wanted {
-		panic(fmt.Sprintf("%s: %d alerts told, %d wanted", step, p.told, wanted))
+		panic(fmt.Sprintf("%d alerts told, %d wanted", p.told, wanted))
 	}
 }
 
-func flushes(count, groups int) {
-	bare := newPeer(nil)
+// Inserts alerts by these calls; once more, if it is the same again that counts.
+func inserts(count, groups int, isAgain bool, insert func([]*types.Alert)) {
+	if isAgain {
+		insert(spread(count, groups))
+	}
 	alerts := spread(count, groups)
-	timed("new insert", count, func() { bare.insert(alerts) })
-	alerts = spread(count, groups)
-	timed("the same again", count, func() { bare.insert(alerts) })
-	p := newPeer(nil)
-	alerts = spread(count, groups)
-	timed("new insert, provider", count, func() { p.put(alerts) })
-	alerts = spread(count, groups)
-	timed("the same again, provider", count, func() { p.put(alerts) })
-	p.flush("first flush", count, count)
-	p.flush("quiet flush", count, 0)
+	timed(count, func() { insert(alerts) })
 }
 
-func silences(count, groups, silences int) {
+func flushes(step string, count, groups, silences int) {
 	p := newPeer(nil)
-	set := make([]*silencepb.Silence, silences)
+	muted := (count + 10) / 11
+	if silences < muted {
+		muted = silences
+	}
+	set := buildSilences(silences)
+	if step == "silenced" {
+		timed(silences, func() { p.silence(set) })
+		return
+	}
+	p.silence(set)
+	p.put(spread(count, groups))
+	if step == "first" {
+		timed(count, func() { p.flush(count - muted) })
+		return
+	}
+	p.flush(count - muted)
+	timed(count, func() { p.flush(0) })
+}
+
+// Silences of every eleventh alert.
+func buildSilences(count int) []*silencepb.Silence {
+	set := make([]*silencepb.Silence, count)
 	for number := range set {
 		host := fmt.Sprintf("host-%05d:9100", number*11)
 		set[number] = &silencepb.Silence{
@@ -178,18 +196,13 @@ func silences(count, groups, silences int) {
 			Matchers: []*silencepb.Matcher{{Name: "instance", Pattern: host}},
 		}
 	}
-	timed("new silences", silences, func() {
-		for _, it := range set {
-			must(p.silences.Set(it))
-		}
-	})
-	p.put(spread(count, groups))
-	muted := (count + 10) / 11
-	if silences < muted {
-		muted = silences
+	return set
+}
+
+func (p *peer) silence(set []*silencepb.Silence) {
+	for _, it := range set {
+		must(p.silences.Set(it))
 	}
-	p.flush("first flush, silences", count, count-muted)
-	p.flush("quiet flush, silences", count, 0)
 }
 
 func inhibition(sources, targets int) {
@@ -213,23 +226,26 @@ func inhibition(sources, targets int) {
 		}
 	}
 	p.insert(alerts)
-	p.flush("inhibited flush", targets, 0)
+	timed(targets, func() { p.flush(0) })
 }
 
 func main() {
 	runtime.GOMAXPROCS(1)
-	sizes := make([]int, 0, 3)
-	for _, word := range os.Args[2:] {
-		sizes = append(sizes, must(strconv.Atoi(word)))
+	sizes := make([]int, 3)
+	for i, word := range os.Args[2:] {
+		sizes[i] = must(strconv.Atoi(word))
 	}
-	switch os.Args[1] {
-	case "flushes":
-		flushes(sizes[0], sizes[1])
-	case "silences":
-		silences(sizes[0], sizes[1], sizes[2])
-	case "inhibition":
-		inhibition(sizes[0], sizes[1])
+	step, count, groups := os.Args[1], sizes[0], sizes[1]
+	switch step {
+	case "new", "again":
+		inserts(count, groups, step == "again", newPeer(nil).insert)
+	case "new-put", "again-put":
+		inserts(count, groups, step == "again-put", newPeer(nil).put)
+	case "first", "quiet", "silenced":
+		flushes(step, count, groups, sizes[2])
+	case "inhibited":
+		inhibition(count, groups)
 	default:
-		panic("no such piece")
+		panic("no such step")
 	}
 }

@@ -3,7 +3,7 @@ use crate::requests::values;
 use crate::words::{BenchError, both};
 use am_alerts::alert::Alert;
 use am_alerts::labels::{LabelFault, Labels};
-use am_alerts::matcher::{Matcher, Operator};
+use am_alerts::matcher::Matcher;
 use am_alerts::text::Text;
 use am_mute::silence::Silence;
 use std::alloc::{AllocError, Global};
@@ -15,10 +15,6 @@ pub const CRITICAL: &str = "critical";
 /// The severity of any other alert.
 pub const WARNING: &str = "warning";
 
-/// What long values begin with: 88 bytes.
-pub const WIDE: &str =
-    "/var/lib/containers/eu-west-1/production/platform-monitoring/prometheus-operator-agents/";
-
 /// From each alert to the next in another order: a prime. So each alert comes once, unless their
 /// number is a multiple of it.
 pub const STRIDE: usize = 104_729;
@@ -28,8 +24,6 @@ pub const STRIDE: usize = 104_729;
 pub struct Load {
     pub alerts: usize,
     pub groups: usize,
-    /// What values begin with. Where it is empty, a label set has six labels, and else eight.
-    pub begin: &'static str,
 }
 
 impl Load {
@@ -53,7 +47,6 @@ impl Load {
                 number,
                 instance: number,
                 severity: WARNING,
-                begin: self.begin,
             };
             alerts.push(sample.build(alloc, ends)?)?;
         }
@@ -70,8 +63,6 @@ pub struct Sample {
     pub number: usize,
     pub instance: usize,
     pub severity: &'static str,
-    /// What the values of an instance and a job begin with, and of two more labels, if it isn't empty.
-    pub begin: &'static str,
 }
 
 impl Sample {
@@ -82,19 +73,14 @@ impl Sample {
     }
 
     fn labels(&self, alloc: Global) -> Result<Labels, BenchError> {
-        let begin = self.begin;
-        let names = both(
-            alertname(alloc, self.group),
-            instance(alloc, begin, self.instance),
-        );
-        let ((alertname, instance), job) = both(names, job(alloc, begin, self.number))?;
+        let names = both(alertname(alloc, self.group), instance(alloc, self.instance));
+        let ((alertname, instance), job) = both(names, job(alloc, self.number))?;
         let labels = labels(
             alloc,
             alertname.as_str(),
             instance.as_str(),
             job.as_str(),
             self.severity,
-            begin,
         );
         drop(job);
         drop(instance);
@@ -103,22 +89,19 @@ impl Sample {
     }
 }
 
-/// Six labels, four of which are given, and two more of a value that isn't empty.
+/// Six labels, four of which are given.
 fn labels<'a>(
     alloc: Global,
     alertname: &'a str,
     instance: &'a str,
     job: &'a str,
     severity: &'a str,
-    more: &'a str,
 ) -> Result<Labels, BenchError> {
     let pairs = [
         ("alertname", alertname),
         ("cluster", "eu-west-1"),
         ("instance", instance),
         ("job", job),
-        ("path", more),
-        ("pod", more),
         ("severity", severity),
         ("team", "platform"),
     ];
@@ -135,23 +118,18 @@ pub fn alertname(alloc: Global, number: usize) -> Result<String, BenchError> {
 }
 
 /// The label value of an instance.
-fn instance(alloc: Global, begin: &str, number: usize) -> Result<String, BenchError> {
-    Ok(format!(in alloc; "{begin}host-{number:05}:9100")?)
+fn instance(alloc: Global, number: usize) -> Result<String, BenchError> {
+    Ok(format!(in alloc; "host-{number:05}:9100")?)
 }
 
 /// The label value of a job.
-fn job(alloc: Global, begin: &str, number: usize) -> Result<String, BenchError> {
-    Ok(format!(in alloc; "{begin}exporter-{number:05}")?)
+fn job(alloc: Global, number: usize) -> Result<String, BenchError> {
+    Ok(format!(in alloc; "exporter-{number:05}")?)
 }
 
 /// Matches the label sets in which this label has this value, in a list.
 pub fn matchers(alloc: Global, name: &str, value: &str) -> Result<Vec<Matcher>, BenchError> {
     Ok(values::matchers(alloc, name, value)?)
-}
-
-/// Matches the label sets in which a pattern matches this label, in a list.
-pub fn patterns(alloc: Global, name: &str, pattern: &str) -> Result<Vec<Matcher>, BenchError> {
-    Ok(values::matchers_by(alloc, name, Operator::Like, pattern)?)
 }
 
 /// The text of a name or a value.
@@ -168,7 +146,7 @@ pub fn listed<T: Drop>(alloc: Global, value: T) -> Result<Vec<T>, AllocError> {
 
 /// The silence of this id, which mutes an instance up to a time.
 pub fn silence(alloc: Global, id: u64, number: usize, end: u64) -> Result<Silence, BenchError> {
-    let value = instance(alloc, "", number)?;
+    let value = instance(alloc, number)?;
     let matchers = matchers(alloc, "instance", value.as_str());
     drop(value);
     Silence::new(id, matchers?, 0, end).map_err(|_| BenchError::BadLine)

@@ -1,5 +1,5 @@
 //! The configuration of a board.
-use crate::alerts::{CRITICAL, WARNING, listed, matchers, patterns, text};
+use crate::alerts::{CRITICAL, WARNING, listed, matchers, text};
 use crate::words::{BenchError, both};
 use am_alerts::matcher::Matcher;
 use am_alerts::route::{Child, GroupBy, Route, Routes};
@@ -47,13 +47,6 @@ pub fn fanned(alloc: Global) -> Result<Config, BenchError> {
     let children = fan(alloc)?;
     let (routes, receivers) = both(routes(alloc, children), receivers(alloc))?;
     Ok(config(routes, receivers, Vec::new(alloc)))
-}
-
-/// The same as `plain`, with so many rules of which both sides have a pattern.
-pub fn patterned(alloc: Global, rules: usize) -> Result<Config, BenchError> {
-    let rules = pattern_rules(alloc, rules)?;
-    let (routes, receivers) = both(routes(alloc, Vec::new(alloc)), receivers(alloc))?;
-    Ok(config(routes, receivers, rules))
 }
 
 /// The root with these children.
@@ -161,17 +154,6 @@ fn rule(alloc: Global) -> Result<InhibitRule, BenchError> {
     let source = matchers(alloc, "severity", CRITICAL);
     let matchers = both(source, matchers(alloc, "severity", WARNING));
     rule_of(alloc, matchers)
-}
-
-/// Rules of which both sides have a pattern.
-fn pattern_rules(alloc: Global, count: usize) -> Result<Vec<InhibitRule>, BenchError> {
-    let mut rules = Vec::new(alloc);
-    for _ in 0..count {
-        let source = patterns(alloc, "severity", "critical|page");
-        let matchers = both(source, patterns(alloc, "severity", "warning|info"));
-        rules.push(rule_of(alloc, matchers)?)?;
-    }
-    Ok(rules)
 }
 
 /// The rule by which alerts that match one list inhibit those of their cluster and instance that match

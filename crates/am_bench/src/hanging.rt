@@ -61,7 +61,6 @@ fn run_steps(
     let load = Load {
         alerts: groups,
         groups,
-        begin: "",
     };
     let new = load.build(alloc, 0..groups, 1, None)?;
     insert(rt, alloc, desk, "new inserts", 0, new)?;
@@ -80,7 +79,7 @@ pub fn begin(
     now: u64,
     count: usize,
 ) -> Result<(), BenchError> {
-    let watch = Watch::start(rt);
+    let watch = Watch::of(rt, "begins");
     desk.begin_many(alloc, now, count, tickets)?;
     watch.stop(rt, "begins", count);
     print_begun(rt, tickets.len())

@@ -49,7 +49,6 @@ fn build_sources(alloc: Global, count: usize) -> Result<Vec<Alert>, BenchError> 
             number,
             instance: number,
             severity: CRITICAL,
-            begin: "",
         };
         alerts.push(sample.build(alloc, None)?)?;
     }
@@ -66,7 +65,6 @@ fn build_targets(alloc: Global, count: usize, sources: usize) -> Result<Vec<Aler
             number,
             instance: sources.saturating_sub(back),
             severity: WARNING,
-            begin: "",
         };
         alerts.push(sample.build(alloc, None)?)?;
     }

@@ -166,7 +166,7 @@ fn run<N: Name + Send + Sync, R: Print + Eprint + Clock + CpuClock + Threads + W
     for lane in lanes.iter_mut() {
         lane.now = now;
     }
-    let watch = Watch::start(rt);
+    let watch = Watch::of(rt, step);
     run_concurrently(rt, alloc, desk, lanes);
     watch.stop(rt, step, alerts);
     print_lanes(rt, lanes, step)

@@ -7,14 +7,10 @@
 //!   `take_history`; a first flush of all groups, and a quiet one; one alert gets an end, is flushed and
 //!   forgotten, while all others stay; inserts of the same alerts with an end, in that other order; a
 //!   flush by which all of them leave; a maintenance that drops all groups and rows, and a forgetting of
-//!   all alerts.
+//!   all alerts. A word more names a row (`row`): its step, after those that it needs alone.
 //! - `longest ALERTS GROUPS`: the same, with each insert, begin and finish timed, and the longest reported.
-//! - `wide ALERTS GROUPS`: the same with eight labels, of which four have values of some 100 bytes.
 //! - `routes ALERTS GROUPS`: the same where each alert goes to 16 routes, so many groups of each.
-//! - `patterns ALERTS GROUPS RULES`: the same with so many inhibition rules. Both sides of each have a
-//!   pattern, and there is no source.
-//! - `storm ALERTS GROUPS ROUNDS`: new inserts; the same alerts again in so many rounds; a
-//!   `take_history`; as many rounds, and a `take_history`.
+//! - `floor ALERTS GROUPS`: inserts and flushes as in `flushes`, of an array in place of a board (`floor`).
 //! - `desk ALERTS GROUPS THREADS`: new inserts, the same in another order, a first flush and a quiet one,
 //!   through a desk (`lanes`) by so many threads at once, 16 at most. Here the wall's clock counts.
 //! - `inhibition SOURCES TARGETS`: a flush of groups of 16 targets; for each target there is one
@@ -22,7 +18,7 @@
 //!   before that, and so on.
 //! - `silences ALERTS GROUPS SILENCES`: a first flush of all groups after the silences were set, a
 //!   quiet one, and one after one of the silences was changed. Every eleventh alert has a silence
-//!   that mutes it, as long as there are silences.
+//!   that mutes it, as long as there are silences. A word more names a row.
 //! - `open FLUSHES GROUPS`: so many groups get a flush that stays open, and all groups are due again.
 //!   Then half of the other groups are flushed in batches of 100: begins, a `next_due` for each, and a note
 //!   and a finish for each of as many of the open flushes, the oldest. Then the other half, and the
@@ -35,13 +31,15 @@
 //!
 //! Alerts are built before the calls that are timed. Each piece has a board of its own. A label set
 //! has six labels, and a group is of one alertname and cluster. Inserts and begins are a millisecond
-//! apart. What the calls came to is written to the standard output, the same at each run. Times go to the
-//! standard error: for each insert, for each alert of the flushed groups, and for all.
+//! apart. What the calls came to is written to the standard output, the same at each run. The standard
+//! error says when a step begins, and what it took: for each insert, for each alert of the flushed
+//! groups, and for all.
 #![tactic(auto)]
 
 mod alerts;
 mod config;
 mod desk;
+mod floor;
 mod flushes;
 mod hanging;
 mod inhibition;
@@ -49,8 +47,8 @@ mod lanes;
 mod piece;
 mod receivers;
 mod requests;
+mod row;
 mod silences;
-mod storm;
 mod tally;
 mod watch;
 mod words;

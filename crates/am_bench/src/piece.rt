@@ -1,14 +1,15 @@
 //! Pieces: which one a line asks for, and the steps that they have in common.
-use crate::alerts::{Load, WIDE};
-use crate::config::{INTERVAL, fanned, patterned, plain};
+use crate::alerts::Load;
+use crate::config::{INTERVAL, fanned, plain};
 use crate::desk::Desk;
+use crate::floor::run_floor;
 use crate::flushes::run_flushes;
 use crate::hanging::run_hanging;
 use crate::inhibition::run_inhibition;
 use crate::lanes::run_lanes;
 use crate::receivers::run_receivers;
+use crate::row::Row;
 use crate::silences::run_silences;
-use crate::storm::run_storm;
 use crate::tally::Tally;
 use crate::watch::Watch;
 use crate::words::{BenchError, Words};
@@ -45,43 +46,52 @@ pub fn run_line<R: Print + Eprint + Clock + CpuClock + Threads + Wait + Sync>(
     let load = Load {
         alerts: first,
         groups: second,
-        begin: "",
     };
     print_line(rt, line)?;
     match name {
-        "storm" => run_storm(rt, alloc, load, words.size()?),
         "desk" => run_lanes(rt, alloc, load, words.size()?),
         "inhibition" => run_inhibition(rt, alloc, first, second),
         "open" => run_hanging(rt, alloc, first, second),
         "receivers" => run_receivers(rt, alloc, first, second),
-        "silences" => run_silences(rt, alloc, load, words.size()?),
-        _ => run_kind(rt, alloc, name, load, &mut words),
+        "silences" => {
+            let silences = words.size()?;
+            run_silences(rt, alloc, load, silences, Row::of(words.word())?)
+        }
+        _ => run_kind(rt, alloc, name, load, Row::of(words.word())?),
     }
 }
 
-/// Runs the steps of `flushes` on a board and alerts of some kind.
+/// Runs the steps of `flushes` on a board of some kind, or on a floor.
 fn run_kind(
     rt: &(impl Print + Eprint + Clock + CpuClock),
     alloc: Global,
     name: &str,
     load: Load,
-    words: &mut Words<'_>,
+    row: Row,
 ) -> Result<(), BenchError> {
     match name {
-        "flushes" => run_flushes(rt, alloc, plain(alloc)?, false, load),
-        "longest" => run_flushes(rt, alloc, plain(alloc)?, true, load),
-        "wide" => run_flushes(
+        "flushes" => run_flushes(
             rt,
             alloc,
-            plain(alloc)?,
-            false,
-            Load {
-                begin: WIDE,
-                ..load
-            },
+            Desk::open(alloc, plain(alloc)?, false)?,
+            load,
+            row,
         ),
-        "routes" => run_flushes(rt, alloc, fanned(alloc)?, false, load),
-        "patterns" => run_flushes(rt, alloc, patterned(alloc, words.size()?)?, false, load),
+        "longest" => run_flushes(
+            rt,
+            alloc,
+            Desk::open(alloc, plain(alloc)?, true)?,
+            load,
+            row,
+        ),
+        "routes" => run_flushes(
+            rt,
+            alloc,
+            Desk::open(alloc, fanned(alloc)?, false)?,
+            load,
+            row,
+        ),
+        "floor" => run_floor(rt, alloc, load, row),
         _ => Err(BenchError::BadLine),
     }
 }
@@ -103,14 +113,19 @@ pub fn insert(
     alerts: Vec<Alert>,
 ) -> Result<(), BenchError> {
     let count = alerts.len();
-    let watch = Watch::start(rt);
+    let watch = Watch::of(rt, step);
     let made = desk.insert_all(rt, alloc, now, alerts)?;
     watch.stop(rt, step, count);
     desk.calls.print(rt, "insert");
     print_made(rt, step, count, made)
 }
 
-fn print_made(rt: &impl Print, step: &str, count: usize, made: usize) -> Result<(), BenchError> {
+pub fn print_made(
+    rt: &impl Print,
+    step: &str,
+    count: usize,
+    made: usize,
+) -> Result<(), BenchError> {
     println!(rt; "{step}: accepted {count}, groups made {made}")?;
     Ok(())
 }
@@ -124,7 +139,7 @@ pub fn flush(
     now: u64,
     alerts: usize,
 ) -> Result<Tally, BenchError> {
-    let watch = Watch::start(rt);
+    let watch = Watch::of(rt, step);
     let tally = desk.flush_all(rt, alloc, now)?;
     watch.stop(rt, step, alerts);
     desk.calls.print(rt, "begin");
@@ -133,7 +148,7 @@ pub fn flush(
     Ok(tally)
 }
 
-fn print_tally(rt: &impl Print, step: &str, tally: &Tally) -> Result<(), BenchError> {
+pub fn print_tally(rt: &impl Print, step: &str, tally: &Tally) -> Result<(), BenchError> {
     println!(rt; "{step}: {tally}")?;
     Ok(())
 }

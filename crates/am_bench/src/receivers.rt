@@ -36,7 +36,7 @@ pub fn run_receivers(
     routes: usize,
 ) -> Result<(), BenchError> {
     let parts = Parts::build(alloc, receivers, routes)?;
-    let watch = Watch::start(rt);
+    let watch = Watch::of(rt, "opening");
     let opened = parts.open(alloc);
     watch.stop(rt, "opening", 1);
     let mut desk = opened?;
@@ -57,7 +57,6 @@ fn run_steps(
     let load = Load {
         alerts: routes,
         groups: routes,
-        begin: "",
     };
     let count = routes.min(ALERTS);
     let new = load.build(alloc, 0..count, STRIDE, None)?;

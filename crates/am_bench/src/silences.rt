@@ -3,6 +3,7 @@ use crate::alerts::{Load, STRIDE, listed, silence};
 use crate::config::plain;
 use crate::desk::Desk;
 use crate::piece::{FIRST, SECOND, THIRD, flush, insert, print_muted};
+use crate::row::Row;
 use crate::watch::Watch;
 use crate::words::BenchError;
 use am_mute::silence::Silence;
@@ -13,20 +14,25 @@ use std::time::CpuClock;
 /// One alert of so many has a silence.
 const STEP: usize = 11;
 
-/// Runs the piece on so many silences.
+/// Runs the piece on so many silences: all its steps, or those of a row.
 pub fn run_silences(
     rt: &(impl Print + Eprint + Clock + CpuClock),
     alloc: Global,
     load: Load,
     silences: usize,
+    row: Row,
 ) -> Result<(), BenchError> {
     let mut desk = Desk::open(alloc, plain(alloc)?, false)?;
-    let ran = run_steps(rt, alloc, &mut desk, &load, silences);
+    let ran = match set_and_insert(rt, alloc, &mut desk, &load, silences) {
+        Ok(()) => flush_thrice(rt, alloc, &mut desk, load.alerts, row),
+        Err(error) => Err(error),
+    };
     drop(desk);
     ran
 }
 
-fn run_steps(
+/// Sets the silences, and inserts alerts.
+fn set_and_insert(
     rt: &(impl Print + Eprint + Clock + CpuClock),
     alloc: Global,
     desk: &mut Desk,
@@ -36,22 +42,27 @@ fn run_steps(
     let set = build_silences(alloc, silences)?;
     mute(rt, alloc, desk, "new silences", set)?;
     let new = load.build(alloc, 0..load.alerts, STRIDE, None)?;
-    insert(rt, alloc, desk, "new inserts", 0, new)?;
-    flush_thrice(rt, alloc, desk, load.alerts)
+    insert(rt, alloc, desk, "new inserts", 0, new)
 }
 
-/// Flushes all groups under the new silences, under the same, and under one that was changed.
+/// Flushes all groups under the new silences, then under the same, and under one that was changed, as
+/// the row wants it.
 fn flush_thrice(
     rt: &(impl Print + Eprint + Clock + CpuClock),
     alloc: Global,
     desk: &mut Desk,
     alerts: usize,
+    row: Row,
 ) -> Result<(), BenchError> {
     let tally = flush(rt, alloc, desk, "first flush", FIRST, alerts)?;
     print_muted(rt, alerts, &tally)?;
-    flush(rt, alloc, desk, "unchanged flush", SECOND, alerts)?;
-    mute(rt, alloc, desk, "a changed silence", build_changed(alloc)?)?;
-    flush(rt, alloc, desk, "changed flush", THIRD, alerts)?;
+    if matches!(row, Row::All | Row::Quiet) {
+        flush(rt, alloc, desk, "unchanged flush", SECOND, alerts)?;
+    }
+    if matches!(row, Row::All | Row::One) {
+        mute(rt, alloc, desk, "a changed silence", build_changed(alloc)?)?;
+        flush(rt, alloc, desk, "changed flush", THIRD, alerts)?;
+    }
     Ok(())
 }
 
@@ -64,7 +75,7 @@ fn mute(
     silences: Vec<Silence>,
 ) -> Result<(), BenchError> {
     let count = silences.len();
-    let watch = Watch::start(rt);
+    let watch = Watch::of(rt, step);
     let replaced = desk.silence_all(alloc, 0, silences)?;
     watch.stop(rt, step, count);
     print_replaced(rt, step, count, replaced)

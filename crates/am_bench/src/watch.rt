@@ -18,7 +18,13 @@ pub struct Watch {
 }
 
 impl Watch {
-    /// Starts to time a step.
+    /// Says that a step begins, and starts to time it.
+    pub fn of(rt: &(impl Eprint + Clock + CpuClock), step: &str) -> Watch {
+        let _ = eprintln!(rt; "{step} begins");
+        Watch::start(rt)
+    }
+
+    /// Starts to time a step, or a part of one.
     pub fn start(clock: &(impl Clock + CpuClock)) -> Watch {
         Watch {
             started: look(clock),
@@ -116,10 +122,12 @@ impl Longest {
         }
     }
 
-    /// Notes how long a call took that began at this time.
+    /// Notes how long a call took that began at this time. Without one no clock is read.
     pub fn stop(&mut self, clock: &impl CpuClock, started: Option<Duration>) {
-        if let (Some(started), Ok(ended)) = (started, clock.thread_cpu_time()) {
-            self.time = self.time.max(ended.saturating_sub(started));
+        if let Some(started) = started {
+            if let Ok(ended) = clock.thread_cpu_time() {
+                self.time = self.time.max(ended.saturating_sub(started));
+            }
         }
     }
 

@@ -57,16 +57,7 @@ pub fn row(
 
 /// Matches the label sets in which this label has this value, in a list.
 pub fn matchers(alloc: Global, name: &str, value: &str) -> Result<Vec<Matcher>, AllocError> {
-    matchers_by(alloc, name, Operator::Equal, value)
-}
-
-/// Matches the label sets in which this label and value pass this operator, in a list.
-pub fn matchers_by(
-    alloc: Global,
-    name: &str,
-    op: Operator,
-    value: &str,
-) -> Result<Vec<Matcher>, AllocError> {
+    let op = Operator::Equal;
     let (name, value) = both(Text::new(alloc, name), Text::new(alloc, value))?;
     match Matcher::new(alloc, MatcherParts { name, op, value }) {
         Ok(matcher) => listed(alloc, matcher),

@@ -21,7 +21,7 @@ from lib.program import ROOT
 from lib.report import Programs, Report
 
 # Where Python is: folders of modules, and programs. The example in examples/live, except replay, is left out.
-PYTHON = (".ci/lib", ".ci/checks", ".ci/gate", "tools/programs.py", "tools/completions.py", "examples/pager.py")
+PYTHON = (".ci/lib", ".ci/checks", ".ci/gate", "tools/programs.py", "tools/completions.py", "tools/timed.py", "examples/pager.py")
 SCRIPTS = ("rehearse", ".ci/first-answer", "tools/am-dispatch", "tools/am-run", "tools/amtool", "tools/measure", "tools/package",
            "tools/peer-bench", "tools/picture", "examples/live/replay")
 # Where programs for a shell are.

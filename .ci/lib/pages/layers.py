@@ -1,7 +1,7 @@
 """The crates: docs/crates.md is made of crates.txt and of the heads of the crates' sources.
 
-It has what each crate is, by the first sentence of its `//!`, those that use the fewest others first. The diagram has an arrow from a
-crate to each crate of this repository that it uses, unless it also uses it through another one.
+It has what each crate is, by the first sentence of its `//!`, in the sections and the order of crates.txt, where a section begins with
+`## TITLE`. The diagram has an arrow from a crate to each crate of this repository that it uses, unless it also uses it through another one.
 """
 import re
 
@@ -13,13 +13,17 @@ MADE = "<!-- Made of crates.txt and the heads of the crates by `.ci/checks/pages
 HEAD = """
 # Crates
 
-For contributors: what each crate is, those that use the fewest others first, and who uses whom. [architecture.md](architecture.md) says how
-they work together.
+For contributors: what each crate is, and who uses whom. [architecture.md](architecture.md) says how they work together.
+"""
+SECTION = """
+## {title}
 
 | Crate | What it is |
 |---|---|
 """
 DIAGRAM = """
+## Who uses whom
+
 An arrow that follows from others isn't drawn:
 
 """
@@ -38,9 +42,10 @@ def below(name: str, uses: Uses) -> set[str]:
     return {it for used in uses[name] for it in {used} | below(used, uses)}
 
 
-def in_layers(uses: Uses) -> list[str]:
-    """The crates, each behind those that it uses."""
-    return sorted(uses, key=lambda name: (len(below(name, uses)), name))
+def sections_of(text: str) -> dict[str, list[str]]:
+    """The crates of each section of crates.txt."""
+    parts = re.split(r"^## (.+)\n", text, flags=re.MULTILINE)
+    return {title: re.findall(r"^\w+(?=[ :])", part, re.MULTILINE) for title, part in zip(parts[1::2], parts[2::2])}
 
 
 def diagram(uses: Uses) -> str:
@@ -66,13 +71,17 @@ def head_of(name: str) -> str:
 def check(write: bool) -> bool:
     """Checks the page, or makes it."""
     uses: Uses = {"a": {"b", "c"}, "b": {"c"}, "c": set()}
-    assert diagram(uses) == "```mermaid\nflowchart TD\n    a --> b\n    b --> c\n```" and in_layers(uses) == ["c", "b", "a"]
+    assert diagram(uses) == "```mermaid\nflowchart TD\n    a --> b\n    b --> c\n```"
+    assert sections_of("# x: y\n\n## A\na: b\nb staticlib:\n\n## B\nc:\n") == {"A": ["a", "b"], "B": ["c"]}
     assert first_sentence("#![a]\n//! One `x.y`\n//! two. Three.\n//!\n//! Four.\n") == "One `x.y` two."
-    uses = uses_of((ROOT / "crates.txt").read_text())
-    says = {name: head_of(name) for name in in_layers(uses)}
+    text = (ROOT / "crates.txt").read_text()
+    uses, sections = uses_of(text), sections_of(text)
+    says = {name: head_of(name) for name in uses}
     faults = [f"crates/{name}: no sentence in `//!` at its head" for name, said in says.items() if not said]
+    faults += [f"crates.txt: {name} is in no section" for name in sorted({*uses}.difference(*sections.values()))]
     faults += [f"crates.txt: no line for {it.name}" for it in sorted(CRATES.iterdir()) if (it / "src").exists() and it.name not in uses]
-    made = MADE + HEAD + "".join(f"| `{name}` | {said} |\n" for name, said in says.items()) + DIAGRAM + diagram(uses) + "\n"
+    tables = [SECTION.format(title=title) + "".join(f"| `{it}` | {says[it]} |\n" for it in names) for title, names in sections.items()]
+    made = MADE + HEAD + "".join(tables) + DIAGRAM + diagram(uses) + "\n"
     if write:
         PAGE.write_text(made)
     elif not PAGE.exists() or PAGE.read_text() != made:

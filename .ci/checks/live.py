@@ -7,12 +7,14 @@
 - `boards`: what goes over to another board, and what goes by time.
 - `real`: one story runs in real time over HTTP, with reloads and a restart; and configurations that can't be followed are
   rejected.
+- `hostile`: no request ends it, and none holds up another one for more than seconds; nor does a full disk.
 """
 import contextlib
 import copy
 import http.server
 import json
 import os
+import resource
 import signal
 import socket
 import subprocess
@@ -388,7 +390,107 @@ def real(told: Report, programs: Programs) -> None:
     told.case("a configuration that can't be followed is rejected, with what is wrong", lambda: rejects_configs(program))
 
 
-PARTS = {"stories": stories, "histories": histories, "boards": boards, "real": real}
+# Hostile requests.
+
+ALERTS, SILENCES = "/api/v2/alerts", "/api/v2/silences"
+FAR = "9999-12-31T23:59:59-14:00"
+# Patterns at which Python's own engine never comes to an end, and some that nobody accepts.
+ENDLESS = ["(" * 9 + "a?" + "){100}" * 9, "(" * 9 + "a?" + ")+" * 9 + "b", "a{999999999999}", "(" * 5000, "(", "\\pX", "x" * 1_000_000]
+
+
+def alert(**fields: Json) -> list[Json]:
+    """A request with one alert."""
+    return [{"labels": {"alertname": "A"}} | fields]
+
+
+def silence(pattern: Json) -> Json:
+    """A silence of a day by this pattern."""
+    times = {"startsAt": live_format.time_text(int(time.time() * 1000)), "endsAt": FAR}
+    return {"matchers": [{"name": "a", "value": pattern, "isRegex": True}], "createdBy": "me", "comment": "c"} | times
+
+
+# The path, the body and the status of a request. What is bytes is sent as it is.
+HOSTILE: list[tuple[str, Json, int]] = [
+    (ALERTS, b'[{"labels":{"alertname":"\\ud800"}}]', 400), (ALERTS, b'[{"labels":{"\\udfff":"A"}}]', 400),
+    (ALERTS, b'[{"labels":{"alertname":"A"},"annotations":{"summary":"\\ud800"}}]', 400),
+    (ALERTS, alert(labels={"alertname": "Far"}, startsAt=FAR, endsAt=FAR), 200),
+    (ALERTS, alert(labels={"alertname": "Old"}, startsAt="0001-01-01T00:00:00+14:00"), 200),
+    (ALERTS, alert(labels={"alertname": "Year"}, endsAt="10000-01-01T00:00:00Z"), 400),
+    (ALERTS, b"[" * 100_000, 400), (ALERTS, [None], 400), (ALERTS, [{}] * 100_000, 400), (ALERTS, None, 400), (ALERTS, alert(labels=5), 400),
+    (ALERTS, alert(labels={"a": "x" * 1_000_000}), 400), (ALERTS, alert(labels={"a": "x" * 2_000_000}), 400), (ALERTS, alert(labels={f"a{i}": "x" for i in range(5000)}), 400),
+    (ALERTS, b'[{"labels":{"alertname":"A"},"generatorURL":' + b"[" * 900 + b"]" * 900 + b"}]", 400),
+    (ALERTS, b'[{"labels":{"alertname":"A"},"startsAt":' + b"9" * 5000 + b"}]", 400), (ALERTS, b"\xff\xfe\x00", 400),
+    (SILENCES, None, 400), (SILENCES, [5], 400), (SILENCES, silence(None), 400), (SILENCES, silence(".*"), 400),
+    *((SILENCES, silence(it), 400) for it in ENDLESS[2:]), (SILENCES, silence("a+"), 200),
+    ("//[", None, 404), ("/%ff", None, 404), (ALERTS + "?filter=%ff", None, 400),
+]
+# Heads of requests, which have no body that fits.
+HEADS = ["Content-Length: -1", "Content-Length: x", f"Content-Length: {10**12}", "Content-Length: " + "9" * 5000]
+
+
+def asked(process: Process, text: bytes) -> bytes:
+    """The first line of the answer to a request as it is."""
+    with socket.create_connection(("127.0.0.1", process.port), timeout=60) as link:
+        link.sendall(text)
+        return link.makefile("rb").readline()
+
+
+def is_up(process: Process, what: object) -> None:
+    """It answers within seconds."""
+    began = time.monotonic()
+    is_same((what, process.ask("GET", "/-/ready")[0], process.child.poll()), (what, 200, None))
+    is_same((what, time.monotonic() - began < 10), (what, True))
+
+
+def meets_hostile_requests(process: Process) -> None:
+    """Each request gets its status, and the next one is answered."""
+    for path, body, status in HOSTILE:
+        what = f"{path[:60]} {str(body)[:60]}"
+        is_same((what, process.ask("POST", path, body)[0]), (what, status))
+        is_up(process, what)
+    for pattern in ENDLESS[:2]:
+        # (the board accepts them: it has no such engine)
+        is_same(process.ask("POST", SILENCES, silence(pattern))[0] in (200, 400), True, pattern)
+        is_up(process, pattern)
+    for head in HEADS:
+        line = asked(process, f"POST {ALERTS} HTTP/1.1\r\nHost: x\r\n{head}\r\n\r\n".encode())
+        is_same((head[:40], line.split()[1:2]), (head[:40], [b"400"]))
+    with contextlib.ExitStack() as stack:
+        for _ in range(300):
+            link = stack.enter_context(socket.create_connection(("127.0.0.1", process.port), timeout=60))
+            link.sendall(f"POST {ALERTS} HTTP/1.1\r\nContent-Length: 9\r\n\r\n[".encode())
+        is_up(process, "300 requests that don't end")
+    is_same([process.ask("GET", it)[0] for it in (ALERTS, SILENCES)], [200, 200])
+
+
+def survives(program: Program) -> None:
+    """Hostile requests, and then a full disk: a page goes out all the same, and what was kept is the history of a run."""
+    config, server = copy.deepcopy(CONFIG), http.server.ThreadingHTTPServer(("127.0.0.1", 0), Hook)
+    server.daemon_threads = True
+    threading.Thread(target=server.serve_forever, daemon=True).start()
+    config["receivers"][0]["webhook_configs"][0]["url"] = f"http://127.0.0.1:{server.server_port}/"
+    before = len(Hook.bodies)
+    with tempfile.TemporaryDirectory() as folder, Process(program, Path(folder), config) as process:
+        process.wait()
+        meets_hostile_requests(process)
+        resource.prlimit(process.child.pid, resource.RLIMIT_FSIZE, (0, resource.RLIM_INFINITY))
+        is_same(process.ask("POST", "/-/reload"), (200, None))
+        is_same(process.ask("POST", ALERTS, [{"labels": {"alertname": "Full"}}]), (200, None))
+        until(lambda: {"alertname": "Full"} in [it["groupLabels"] for it in Hook.bodies[before:]])
+        resource.prlimit(process.child.pid, resource.RLIMIT_FSIZE, (resource.RLIM_INFINITY, resource.RLIM_INFINITY))
+        status, said = process.end()
+        is_same((status, "the history isn't written" in said, "Traceback" in said), (0, True, False), said)
+        status, said = replay(program, (Path(folder) / "data/history.jsonl").read_text())
+        is_same(status, 0, said)
+    server.shutdown()
+
+
+def hostile(told: Report, programs: Programs) -> None:
+    """live.py as a process."""
+    told.case("hostile requests and a full disk end nothing, and a page goes out", lambda: survives(programs["am_dispatch"]))
+
+
+PARTS = {"stories": stories, "histories": histories, "boards": boards, "real": real, "hostile": hostile}
 
 if __name__ == "__main__":
     os.environ["PYTHONDONTWRITEBYTECODE"] = "1"

@@ -4,8 +4,8 @@
     examples/live/live.py --config.file alertmanager.yml [--web.listen-address HOST:PORT] [--storage.path FOLDER]
 
 The board decides who is notified, and when. This program has what the board leaves out: HTTP, the clock, the ids of silences,
-annotations, the merging of alerts that overlap, attempts and their waits. It knows webhooks alone, and has no filters. Don't open it to
-others than your own machine: a hostile request can end it.
+annotations, the merging of alerts that overlap, attempts and their waits. It knows webhooks alone, and has no filters. It asks nobody for
+a password: don't open it to others than your own machine. No request ends it, and none holds up another one for more than a second.
 
 1. It sleeps until `next_due` or a request. Then it calls `begin` until nothing is due.
 2. Each notification is sent in a thread. An answer 2xx is `delivered`. After 5xx, or without an answer, it tries again, with the waits of
@@ -19,21 +19,16 @@ of the log needs the receiver's name, a webhook at its position, and an alert of
 rows' alerts into the new board, asks it for `groups`, and opens it anew.
 """
 import argparse
-import contextlib
-import heapq
-import http.client
 import http.server
 import itertools
 import json
 import os
+import re
 import signal
-import socket
 import sys
 import threading
 import time
-import urllib.error
 import urllib.parse
-import urllib.request
 import uuid
 from pathlib import Path
 
@@ -43,17 +38,19 @@ sys.path.append(str(Path(__file__).resolve().parents[2] / "tools"))
 import programs
 from live_board import Board, BoardError
 from live_carry import groups_of, kept, taken_over
+from live_clock import RealClock
 from live_format import (Config, Refused, can_update, fingerprint, label_key, matcher_lists, merged, message, read_alert, read_config,
                          read_silence, time_text)
 
 # In milliseconds: between two removals of empty groups; between two maintenances; between two cleanings of alerts; how long a silence is
 # shown after its end; the first wait after an attempt; the longest.
 TICK, MAINTAIN, CLEAN, SHOWN, FIRST_WAIT, LONGEST_WAIT = 30_000, 900_000, 1_800_000, 120 * 3_600_000, 500, 60_000
-# How many calls the board keeps before its history is taken.
-KEPT = 10_000
+# How many calls the board keeps before its history is taken, and how many bytes of it wait for a full disk. How many bytes and how many
+# alerts a request can have, so nobody waits long for it; how many seconds a client may take for a part of it; how many faults are told.
+KEPT, UNWRITTEN, BODY, ALERTS, PATIENCE, TOLD = 10_000, 64 << 20, 4 << 20, 10_000, 60, 10
 # The kinds of errors that say what is wrong with a request, and those that say that a limit is reached.
-WRONG = {"length", "missing", "kind", "value", "unknown", "unsupported"}
-LIMITS = {"TooManyNames", "TooManyGroups", "TooManySilences", "TooManyOpen"}
+WRONG = {"json", "length", "missing", "kind", "value", "unknown", "unsupported"}
+LIMITS = {"TooManyNames", "TooManyGroups", "TooManySilences", "TooManyOpen", "memory"}
 
 
 class Sending:
@@ -72,6 +69,18 @@ def silence_line(silence, now):
     return {"now": now, "id": silence["number"], "starts": silence["starts"], "ends": silence["ends"], "matchers": matcher_lists(silence)}
 
 
+def append(path, text):
+    """Adds a text to a file, whole or not at all."""
+    with open(path, "ab", buffering=0) as file:
+        end = file.tell()
+        try:
+            while text:
+                text = text[file.write(text):]
+        except OSError:
+            file.truncate(end)
+            raise
+
+
 class Live:
     """The board, and what it leaves out. `clock` has the time, calls back, and posts; nothing else here waits.
 
@@ -79,7 +88,7 @@ class Live:
 
     def __init__(self, config, program, clock, folder=None, external="http://localhost:9093", say=print):
         self.program, self.clock, self.folder, self.external, self.say = program, clock, folder, external, say
-        self.alerts, self.silences, self.silence_number, self.sendings, self.lost = {}, {}, 0, set(), []
+        self.alerts, self.silences, self.silence_number, self.sendings, self.lost, self.unwritten, self.trial = {}, {}, 0, set(), [], b"", None
         rows = self.load()
         board = Board(program, config.data)
         self.put(board, config, self.hand_over(board, config, rows))
@@ -107,18 +116,25 @@ class Live:
     # Alerts.
 
     def post_alerts(self, posted):
-        """Inserts those of these alerts that are valid, and says what is wrong with the others."""
-        faults = []
+        """Inserts those of these alerts that are valid and for which the board has a place, and says what is wrong with the others."""
+        if len(posted) > ALERTS:
+            raise Refused(f"{len(posted)} alerts in a request, and there can be {ALERTS}")
+        faults, status = [], 400
         try:
             for alert in posted:
                 try:
                     self.insert(read_alert(alert, self.clock.now(), self.config.timeout))
                 except Refused as error:
                     faults.append(str(error))
+                except BoardError as error:
+                    if error.kind not in LIMITS:
+                        raise
+                    faults.append(str(error))
+                    status = 503
         finally:
             self.wake()
         if faults:
-            raise Refused("; ".join(faults))
+            raise Refused("; ".join(faults[:TOLD]), status)
 
     def insert(self, alert):
         old = self.alerts.get(label_key(alert["labels"]))
@@ -148,6 +164,7 @@ class Live:
                 raise Refused(f"silence {posted['id']} not found", 404)
         if silence["ends"] < now:
             raise Refused("failed to create silence: end time can't be in the past")
+        self.try_silence(silence)
         if old and can_update(old, silence, now):
             self.put_silence(silence | {"id": old["id"], "number": old["number"]})
             return old["id"]
@@ -157,6 +174,30 @@ class Live:
         if old:
             self.expire(old["id"])
         return silence["id"]
+
+    def try_silence(self, silence):
+        """Refuses a silence whose matchers all match the empty text, or that the board would reject, by a board without alerts: there it
+        must not mute a label set that has none of its labels. (Python's own patterns are others, and some take forever.)"""
+        names = {it["name"] for it in silence["matchers"]}
+        free = next(it for it in (f"free_{n}" for n in itertools.count()) if it not in names)
+        try:
+            if self.trial is None or self.trial.kept >= KEPT:
+                self.close_trial()
+                self.trial = Board(self.program, {"route": {"receiver": "none"}, "receivers": [{"name": "none"}]})
+            self.trial.call("silence", {"now": 0, "id": 0, "starts": 0, "ends": 1, "matchers": matcher_lists(silence)})
+            muted = self.trial.call("status", {"now": 0, "labels": {free: "x"}})[1]["muted"]
+        except (BoardError, OSError) as error:
+            if getattr(error, "kind", "") not in WRONG:
+                self.close_trial()
+                raise Refused(str(error), 503) from None
+            raise Refused(str(error)) from None
+        if muted:
+            raise Refused("failed to create silence: at least one matcher must not match the empty string")
+
+    def close_trial(self):
+        if self.trial is not None:
+            self.trial.close()
+            self.trial = None
 
     def put_silence(self, silence):
         now = self.clock.now()
@@ -337,18 +378,28 @@ class Live:
         return self.keep(line)
 
     def keep(self, line):
-        """Adds a line to the file of the history."""
+        """Adds a line to the file of the history. A full disk stops no page: what isn't written waits for the next line."""
         if self.folder:
-            self.folder.mkdir(parents=True, exist_ok=True)
-            with open(self.folder / "history.jsonl", "ab") as file:
-                file.write(line)
+            self.unwritten += line
+            try:
+                self.folder.mkdir(parents=True, exist_ok=True)
+                append(self.folder / "history.jsonl", self.unwritten)
+                self.unwritten = b""
+            except OSError as error:
+                self.say(f"live: the history isn't written: {error}")
+                if len(self.unwritten) > UNWRITTEN:
+                    self.say(f"live: {len(self.unwritten)} bytes of it are lost")
+                    self.unwritten = b""
 
     def save(self):
-        """Writes the log and the silences. The file is whole at any time."""
+        """Writes the log and the silences. The file is whole at any time. A full disk is said, and the next maintenance tries again."""
         if self.folder:
             saved = {"rows": self.rows(), "silences": [*self.silences.values()], "silence_number": self.silence_number}
-            (self.folder / "saved.new").write_text(json.dumps(saved), encoding="utf-8")
-            os.replace(self.folder / "saved.new", self.folder / "saved.json")
+            try:
+                (self.folder / "saved.new").write_text(json.dumps(saved), encoding="utf-8")
+                os.replace(self.folder / "saved.new", self.folder / "saved.json")
+            except OSError as error:
+                self.say(f"live: log and silences aren't saved: {error}")
 
     def load(self):
         """Reads the silences of the last run, and returns the rows of its log."""
@@ -363,104 +414,24 @@ class Live:
         self.save()
         self.take_history()
         self.board.close()
+        self.close_trial()
 
 
-class Post(urllib.request.HTTPHandler, urllib.request.HTTPSHandler):
-    """Posts once, and can be cut off."""
+class Server(http.server.ThreadingHTTPServer):
+    """A thread for each connection. Many can come at once."""
 
-    def __init__(self):
-        super().__init__()
-        self.connection, self.is_cut = None, False
+    request_queue_size = 1024
+    daemon_threads = True
 
-    def http_open(self, request):
-        return self.do_open(lambda host, **more: self.begin(http.client.HTTPConnection(host, **more)), request)
-
-    def https_open(self, request):
-        return self.do_open(lambda host, **more: self.begin(http.client.HTTPSConnection(host, **more)), request)
-
-    def begin(self, connection):
-        self.connection = connection
-        if self.is_cut:
-            raise OSError("cut off")
-        return connection
-
-    def status(self, url, body, seconds):
-        """Posts, and returns the status of the answer, or none where there was none in time."""
-        try:
-            request = urllib.request.Request(url, body, {"Content-Type": "application/json", "User-Agent": "fentdolmen-live"})
-            with urllib.request.build_opener(urllib.request.ProxyHandler({}), self).open(request, timeout=seconds) as answer:
-                return answer.status
-        except urllib.error.HTTPError as error:
-            error.close()
-            return error.code
-        except (OSError, http.client.HTTPException):
-            return None
-
-    def cut(self):
-        """Closes the connection. (One that is still being made ends at its timeout.)"""
-        self.is_cut, made = True, self.connection and self.connection.sock
-        if made:
-            with contextlib.suppress(OSError):
-                made.shutdown(socket.SHUT_RDWR)
-
-
-class RealClock:
-    """The real time in milliseconds since 1970, which never goes back. Whoever uses what it calls has the lock."""
-
-    def __init__(self):
-        self.changed, self.timers, self.order, self.failure, self.ended = threading.Condition(threading.RLock()), [], itertools.count(), None, False
-        self.origin = time.time_ns() // 1_000_000 - time.monotonic_ns() // 1_000_000
-
-    def now(self):
-        return self.origin + time.monotonic_ns() // 1_000_000
-
-    def at(self, moment, action):
-        """Has the action called at this time."""
-        with self.changed:
-            heapq.heappush(self.timers, (moment, next(self.order), action))
-            self.changed.notify_all()
-
-    def post(self, url, body, seconds, done):
-        """Posts in a thread, and hands the status to `done`, or none where there was no answer in time. Returns what cuts it off."""
-        post = Post()
-
-        def run():
-            status = post.status(url, body, seconds)
-            with self.changed:
-                if not self.ended:
-                    self.guard(lambda: done(status))
-        threading.Thread(target=run, daemon=True).start()
-        return post.cut
-
-    def guard(self, action):
-        """Calls it. If the board or a file fails, the program ends: what is known here would no longer be true of the board."""
-        try:
-            action()
-        except (BoardError, OSError) as error:
-            self.end(error)
-
-    def end(self, failure=None):
-        with self.changed:
-            self.failure, self.ended = self.failure or failure, True
-            self.changed.notify_all()
-
-    def run(self):
-        """Calls each action at its time, until the end."""
-        with self.changed:
-            while not self.ended:
-                wait = self.timers[0][0] - self.now() if self.timers else 3_600_000
-                if wait > 0:
-                    self.changed.wait(wait / 1000)
-                else:
-                    action = heapq.heappop(self.timers)[2]
-                    self.guard(action)
+    def handle_error(self, request, client_address):
+        """A client that goes away isn't a fault."""
 
 
 class Handler(http.server.BaseHTTPRequestHandler):
     """The API, for one request."""
 
     live = clock = read = None
-    protocol_version = "HTTP/1.1"
+    protocol_version, timeout = "HTTP/1.1", PATIENCE
 
     def log_message(self, *_):
         """Logs nothing of requests that are answered."""
@@ -475,21 +446,31 @@ class Handler(http.server.BaseHTTPRequestHandler):
 
     def serve(self):
         """Finds the call of the method and the path, makes it under the lock, and answers."""
-        text = self.rfile.read(int(self.headers.get("Content-Length") or 0))
         try:
-            body = json.loads(text) if text else None
-        except ValueError as error:
-            return self.answer(400, f"the body isn't JSON: {error}")
+            body, asked = self.read_body(), urllib.parse.urlsplit(self.path)
+        except (ValueError, RecursionError) as error:
+            self.close_connection = True
+            return self.answer(400, f"this isn't a request with JSON: {error}")
         with self.clock.changed:
             try:
-                status, value = 200, self.respond(self.command, urllib.parse.urlsplit(self.path), body)
+                status, value = 200, self.respond(self.command, asked, body)
             except Refused as error:
                 status, value = error.status, str(error)
-            except (BoardError, OSError) as error:
+            except BoardError as error:
                 status, value = 503, str(error)
-                if getattr(error, "kind", "") not in LIMITS:
+                if error.kind not in LIMITS:
                     self.clock.end(error)
         return self.answer(status, value)
+
+    def read_body(self):
+        """The value of the body. Half of a surrogate pair is no text: neither the board nor a webhook could be told of it."""
+        length = self.headers.get("Content-Length") or "0"
+        if not re.fullmatch("[0-9]{1,9}", length) or int(length) > BODY:
+            raise ValueError(f"a body has a Content-Length of {BODY} bytes at most, not {length[:20]}")
+        text = self.rfile.read(int(length))
+        body = json.loads(text) if text else None
+        json.dumps(body, ensure_ascii=False).encode()
+        return body
 
     do_GET = do_POST = do_DELETE = serve
 
@@ -546,7 +527,7 @@ def main():
     read = lambda: Config(read_config(asked.config))
     host, _, port = asked.address.rpartition(":")
     try:
-        server = http.server.ThreadingHTTPServer((host, int(port)), Handler)
+        server = Server((host, int(port)), Handler)
     except (OSError, ValueError) as error:
         sys.exit(f"live: {asked.address}: {error}")
     try:
@@ -555,7 +536,6 @@ def main():
     except (OSError, ValueError, BoardError, Refused) as error:
         sys.exit(f"live: {asked.config}: {error}")
     Handler.live, Handler.clock, Handler.read = live, clock, staticmethod(read)
-    server.daemon_threads = True
     for it in (signal.SIGTERM, signal.SIGINT):
         on_signal(it, clock.end)
     on_signal(signal.SIGHUP, reload, live, clock, read)

@@ -12,6 +12,11 @@ import programs
 UNITS = {"ms": 1, "s": 1000, "m": 60_000, "h": 3_600_000, "d": 86_400_000, "w": 604_800_000, "y": 31_536_000_000}
 NEVER = "0001-01-01T00:00:00Z"
 EPOCH = datetime(1970, 1, 1, tzinfo=timezone.utc)
+# How many labels and how many matchers there can be, and how long a name or a value: the board rejects more, but it would read all of it
+# first.
+LABELS, MATCHERS, LENGTH = 64, 128, 16_384
+# The last time that has a text, in milliseconds.
+LAST = (datetime(9999, 12, 31, 23, 59, 59, 999_000, timezone.utc) - EPOCH) // timedelta(milliseconds=1)
 
 
 class Refused(Exception):
@@ -88,7 +93,7 @@ def read_time(text):
         found = datetime.fromisoformat(text)
     except (TypeError, ValueError):
         raise Refused(f"{text!r} isn't a time such as 2026-11-27T08:00:00Z") from None
-    return max(0, (found.replace(tzinfo=found.tzinfo or timezone.utc) - EPOCH) // timedelta(milliseconds=1))
+    return min(max(0, (found.replace(tzinfo=found.tzinfo or timezone.utc) - EPOCH) // timedelta(milliseconds=1)), LAST)
 
 
 def time_text(moment):
@@ -180,7 +185,10 @@ def read_alert(posted, now, timeout):
         raise Refused("an alert is an object")
     starts, ends = read_time(posted.get("startsAt")), read_time(posted.get("endsAt"))
     alert = {"labels": {name: value for name, value in texts(posted, "labels").items() if value != ""}, "timeout": ends is None, "updated": now,
-             "annotations": texts(posted, "annotations"), "url": str(posted.get("generatorURL") or "")}
+             "annotations": texts(posted, "annotations"), "url": posted.get("generatorURL") or ""}
+    if not isinstance(alert["url"], str):
+        raise Refused("generatorURL of an alert is a text")
+    refuse_large("labels", LABELS, alert["labels"].items())
     # (an alert with an end alone starts there, as Alertmanager has it)
     alert["starts"] = starts if starts is not None else now if ends is None else ends
     alert["ends"] = now + timeout if ends is None else ends
@@ -213,29 +221,31 @@ def matcher_lists(silence):
     return [[it["name"], operators[it["isEqual"], it["isRegex"]], it["value"]] for it in silence["matchers"]]
 
 
+def refuse_large(what, most, pairs):
+    if len(pairs) > most or any(len(it) > LENGTH for pair in pairs for it in pair):
+        raise Refused(f"there can be {most} {what}, and a name or a value has at most {LENGTH} bytes")
+
+
+def text(value):
+    if not isinstance(value, str):
+        raise TypeError(f"{type(value).__name__} in place of a text")
+    return value
+
+
 def read_silence(posted):
     try:
-        matchers = [{"name": str(it["name"]), "value": str(it["value"]), "isRegex": bool(it["isRegex"]), "isEqual": it.get("isEqual") is not False}
+        matchers = [{"name": text(it["name"]), "value": text(it["value"]), "isRegex": bool(it["isRegex"]), "isEqual": it.get("isEqual") is not False}
                     for it in posted["matchers"]]
         silence = {"matchers": matchers, "starts": read_time(posted["startsAt"]), "ends": read_time(posted["endsAt"]),
-                   "createdBy": str(posted["createdBy"]), "comment": str(posted["comment"])}
+                   "createdBy": text(posted["createdBy"]), "comment": text(posted["comment"])}
     except (KeyError, TypeError) as error:
         raise Refused(f"a silence has matchers, startsAt, endsAt, createdBy and comment, a matcher name, value and isRegex: {error}") from None
+    refuse_large("matchers", MATCHERS, [(it["name"], it["value"]) for it in matchers])
     if not matchers or silence["starts"] is None or silence["ends"] is None:
         raise Refused("a silence needs a matcher, a start and an end")
-    if all(it["isEqual"] == takes_nothing(it) for it in matchers):
-        raise Refused("failed to create silence: at least one matcher must not match the empty string")
     if silence["starts"] > silence["ends"]:
         raise Refused("failed to create silence: start time must be before end time")
     return silence
-
-
-def takes_nothing(matcher):
-    """Whether the value of a matcher, or its pattern, fits the empty text. The board checks patterns, with a syntax of its own."""
-    try:
-        return matcher["value"] == "" if not matcher["isRegex"] else bool(re.fullmatch(matcher["value"], ""))
-    except re.error:
-        return False
 
 
 def can_update(old, new, now):

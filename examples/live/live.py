@@ -27,7 +27,6 @@ import re
 import signal
 import sys
 import threading
-import time
 import urllib.parse
 import uuid
 from pathlib import Path

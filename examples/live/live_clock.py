@@ -55,7 +55,8 @@ class RealClock:
     """The real time in milliseconds since 1970, which never goes back. Whoever uses what it calls has the lock."""
 
     def __init__(self):
-        self.changed, self.timers, self.order, self.failure, self.ended = threading.Condition(threading.RLock()), [], itertools.count(), None, False
+        self.changed, self.timers, self.order = threading.Condition(threading.RLock()), [], itertools.count()
+        self.failure, self.ended = None, False
         self.origin = time.time_ns() // 1_000_000 - time.monotonic_ns() // 1_000_000
 
     def now(self):

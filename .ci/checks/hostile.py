@@ -185,15 +185,18 @@ def restarted(count: int) -> Json:
 
 
 def opened(count: int) -> Json:
-    """Lines: so many groups, whose flushes stay open until all are due again, and as many calls of each kind meanwhile. Then the
-    flushes are finished, the newest first, and all groups are flushed once more."""
-    late, numbers = {"now": 10_000_000}, range(1, count + 1)
+    """Lines: so many groups, whose flushes stay open until all are due again, and as many calls of each kind meanwhile. Every second
+    notice succeeds, and is noted then. Later the flushes are finished, the newest first, and all groups are flushed once more."""
+    late, numbers = {"now": 100_000_000}, range(1, count + 1)
     inserts = [{"insert": {"now": 0, "labels": {"alertname": f"A{number}"}}} for number in numbers]
     begins = [{"begin": {"now": 30_000}} for _ in numbers]
+    outcomes = ["refused", "delivered"]
+    reports = [{"report": {"ticket": number, "integration": 0, "outcome": outcomes[number % 2]}} for number in numbers]
+    notes = [{"note": {"now": 30_000, "ticket": number, "integration": 0}} for number in numbers if number % 2]
     meanwhile = [call for _ in numbers for call in ({"next_due": {}}, {"begin": late}, {"outlook": late})]
     finishes = [call for number in reversed(numbers) for call in ({"finish": {**late, "ticket": number}}, {"next_due": {}})]
     again = [call for number in numbers for call in ({"begin": late}, {"finish": {**late, "ticket": count + number}})]
-    return [{"config": config()}, *inserts, *begins, *meanwhile, *finishes, *again]
+    return [{"config": config()}, *inserts, *begins, *reports, *notes, *meanwhile, *finishes, *again]
 
 
 def loaded(count: int) -> Json:

@@ -56,7 +56,7 @@ func (p postedSilence) matchers() []matcher {
 // matchTypes are Alertmanager's for the board's operators.
 var matchTypes = map[string]labels.MatchType{"=": labels.MatchEqual, "!=": labels.MatchNotEqual, "=~": labels.MatchRegexp, "!~": labels.MatchNotRegexp}
 
-// mostPattern is up to how many bytes Alertmanager's code reads a pattern first. The board accepts none that is longer.
+// mostPattern is up to how many bytes Alertmanager's code reads a pattern first. A longer one is tried on the board before.
 const mostPattern = 1024
 
 // isForAPI returns whether Alertmanager rejects one of these matchers itself: then its own message is the answer.

@@ -45,8 +45,8 @@ from live_format import (Config, Refused, can_update, fingerprint, label_key, ma
 # shown after its end; the first wait after an attempt; the longest.
 TICK, MAINTAIN, CLEAN, SHOWN, FIRST_WAIT, LONGEST_WAIT = 30_000, 900_000, 1_800_000, 120 * 3_600_000, 500, 60_000
 # How many calls the board keeps before its history is taken, and how many bytes of it wait for a full disk. How many bytes and how many
-# alerts a request can have, so nobody waits long for it; how many seconds a client may take for a part of it; how many faults are told.
-KEPT, UNWRITTEN, BODY, ALERTS, PATIENCE, TOLD = 10_000, 64 << 20, 4 << 20, 10_000, 60, 10
+# alerts a request can have, so nobody waits long for it; how many seconds a client may take for a part of it; how many faults are in its answer.
+KEPT, UNWRITTEN, BODY, ALERTS, PATIENCE, FAULTS = 10_000, 64 << 20, 4 << 20, 10_000, 60, 10
 # The kinds of errors that say what is wrong with a request, and those that say that a limit is reached.
 WRONG = {"json", "length", "missing", "kind", "value", "unknown", "unsupported"}
 LIMITS = {"TooManyNames", "TooManyGroups", "TooManySilences", "TooManyOpen", "memory"}
@@ -133,7 +133,7 @@ class Live:
         finally:
             self.wake()
         if faults:
-            raise Refused("; ".join(faults[:TOLD]), status)
+            raise Refused("; ".join(faults[:FAULTS]), status)
 
     def insert(self, alert):
         old = self.alerts.get(label_key(alert["labels"]))
@@ -462,7 +462,7 @@ class Handler(http.server.BaseHTTPRequestHandler):
         return self.answer(status, value)
 
     def read_body(self):
-        """The value of the body. Half of a surrogate pair is no text: neither the board nor a webhook could be told of it."""
+        """The value of the body. Half of a surrogate pair is no text: neither the board nor a webhook could get it."""
         length = self.headers.get("Content-Length") or "0"
         if not re.fullmatch("[0-9]{1,9}", length) or int(length) > BODY:
             raise ValueError(f"a body has a Content-Length of {BODY} bytes at most, not {length[:20]}")

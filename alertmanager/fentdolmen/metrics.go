@@ -40,7 +40,21 @@ func newMetrics(reg prometheus.Registerer) *metrics {
 	}
 	reg.MustRegister(m.receivers, m.integrations, m.clustered, m.requests, m.sizes, m.processing, m.refused, m.unsaved, m.restarts,
 		version.NewCollector("alertmanager"))
+	m.showZeros()
 	return m
+}
+
+// showZeros shows the counts of what is to be alerted on before there is any: Prometheus sees no growth in a series that begins at 1.
+func (m *metrics) showZeros() {
+	for call, kinds := range map[string][]string{
+		"insert":  {badValue, tooManyNames, tooManyGroups, historyFull, noMemory},
+		"silence": {badValue, tooManySilences, historyFull, noMemory},
+		"begin":   {historyFull, noMemory},
+	} {
+		for _, kind := range kinds {
+			m.refused.WithLabelValues(call, kind)
+		}
+	}
 }
 
 // failure returns what counts a failed attempt to write a file.

@@ -4,8 +4,8 @@ README.md, the other pages at the top and docs/*.md have no sentence above 25 wo
 and tables, where a code span counts as one word. No row of a table has more than 300 characters, and no other line more than 400. A page
 has at most 1,800 words outside blocks of code, or what BUDGETS says. It has no word that writers agreed to avoid (`words`), and no link
 to a file or a heading that isn't there.
-What a line `**Defined** in .. **Shown** by ..` names is there, and each edit that a row on a wrong body names. All pages together have at
-most TOTAL bytes.
+What a line `**Defined** in .. **Shown** by ..` names is there, and each edit, clause and test that a row on a wrong body names. All pages
+together have at most TOTAL bytes.
 """
 import re
 from collections.abc import Iterator
@@ -129,14 +129,49 @@ def named_faults(text: str) -> Found:
     return found
 
 
-def edit_faults(text: str) -> Found:
-    """The edits that aren't there of rows `| NAME | .. | .. edit in CRATE |`, or `edit CRATE/OTHER_NAME`."""
+def section_of(text: str, anchor: str) -> str:
+    """The lines below a heading, up to the next one that isn't below it."""
+    seen: set[str] = set()
+    lines: list[str] = []
+    level = 0
+    for line in text.splitlines():
+        if heading := re.match(r"(#+) +(.*)", line):
+            if level and len(heading[1]) <= level:
+                break
+            level = level or len(heading[1]) * (anchor_of(heading[2], seen) == anchor)
+        lines += [line] * (level > 0)
+    return "\n".join(lines)
+
+
+def edit_faults(own: str, says: str) -> list[str]:
+    """The edits that aren't there: `edit in CRATE` of the row's own name, or `edit CRATE/OTHER_NAME`."""
+    named = re.findall(r"`(am_\w+)(/(\w+))?`", says) if re.search(r"\bedits? ", says) else []
+    edits = [f"crates/{crate}/wrong-bodies/{name or own}.edit" for crate, _, name in named]
+    return [f"no {it}" for it in edits if not (ROOT / it).exists()]
+
+
+def clause_faults(page: Path, says: str) -> list[str]:
+    """The clauses that a claim doesn't have: `equation: [CALL](claims/PAGE.md#ANCHOR), CLAUSE`, or `, with CLAUSE`."""
+    found = []
+    for call, file, anchor, clauses in re.findall(r"equation: \[`([^`]+)`[^\]]*\]\(([\w/-]+\.md)#([\w-]+)\)((?:,(?: with)? `\w+`)*)", says):
+        claim = section_of((page.parent / file).read_text(), anchor) if (page.parent / file).exists() else ""
+        found += [f"no {call} in {file}#{anchor}"] * (call.split("::")[-1] not in claim)
+        found += [f"no clause {it} in {file}#{anchor}" for it in re.findall(r"`(\w+)`", clauses) if f"ensures {it} " not in claim]
+    return found
+
+
+def test_faults(page: Path, says: str) -> list[str]:
+    """The test functions that a file doesn't have: ``test: `NAME` in [..](FILE)``."""
+    tests = re.findall(r"test: `(\w+)` in \[[^\]]*\]\(([^)]+)\)", says)
+    return [f"no test {name} in {file}" for name, file in tests if f"fn {name}(" not in (page.parent / file).read_text()]
+
+
+def wrong_body_faults(page: Path, text: str) -> Found:
+    """What a row `| NAME | a wrong body | what rejects it |` names, and isn't there."""
     found: Found = []
     for number, line in enumerate(text.splitlines(), 1):
-        for own, edits in re.findall(r"^\| `(\w+)` \|.*\|(.*\bedits? .*)\|$", line):
-            for crate, _, name in re.findall(r"`(am_\w+)(/(\w+))?`", edits):
-                edit = f"crates/{crate}/wrong-bodies/{name or own}.edit"
-                found += [(number, f"no {edit}")] * (not (ROOT / edit).exists())
+        for own, says in re.findall(r"^\| `(\w+)` \|.*\|([^|]*)\|$", line):
+            found += [(number, it) for it in [*edit_faults(own, says), *clause_faults(page, says), *test_faults(page, says)]]
     return found
 
 
@@ -154,7 +189,7 @@ def faults_of(page: Path, text: str) -> Found:
     for number, line in enumerate(plain(without_blocks(text)).splitlines(), 1):
         found += [(number, f"avoid \"{it[0]}\"") for it in AVOID.finditer(LINK.sub(r"\1", line))]
         found += [(number, fault) for _, target in LINK.findall(line) if (fault := link_fault(page, text, target))]
-    return sorted(found + named_faults(text) + edit_faults(text))
+    return sorted(found + named_faults(text) + wrong_body_faults(page, text))
 
 
 def self_test() -> None:
@@ -172,7 +207,13 @@ def self_test() -> None:
            "**Defined** in `am_model/Begin`. **Shown** by `none.yml`.": "no none.yml",
            row.replace("|\n", "word |\n"): "a row of 303 characters",
            "[a](https://example.org/" + "b" * 400 + ")\n": "a line of 425 characters",
-           "| `no_such` | a body | edit in `am_desk`; type: `T` |": "no crates/am_desk/wrong-bodies/no_such.edit"}
+           "| `no_such` | a body | edit in `am_desk`; type: `T` |": "no crates/am_desk/wrong-bodies/no_such.edit",
+           "| `a` | a body | equation: [`Desk::glance`](claims/desk.md#glances-and-meets), `none` |":
+               "no clause none in claims/desk.md#glances-and-meets",
+           "| `a` | a body | equation: [`Desk::none`](claims/desk.md#glances-and-meets), with `made` |":
+               "no Desk::none in claims/desk.md#glances-and-meets",
+           "| `a` | a body | test: `none` in [b](../crates/am_code_tests/src/tests/workers.rt) |":
+               "no test none in ../crates/am_code_tests/src/tests/workers.rt"}
     assert not faults_of(page, good), faults_of(page, good)
     for text, fault in bad.items():
         assert [it for _, it in faults_of(page, text)] == [fault], (fault, faults_of(page, text))

@@ -4,7 +4,7 @@
 //! It is written in place: no label set comes or goes, so the tables, the order and what is noted
 //! stay. Nothing is allocated but capacity of the history. A copy of the alert for each group waits
 //! on the stack until all groups are found (`put_in_each`), so from the first change on nothing can
-//! fail.
+//! fail. Where the alert is in each group is found by a hint of the cache (`Groups::spot`).
 ghost use Rattle.std.specs.Prelude.{◌≡◌, ◌<◌, ◌≤◌, IfSome, Some, length, position};
 ghost use Rattle.am_board.specs.Again.{PutsAgain, PutsInEach};
 ghost use Rattle.am_board.specs.Group.{AreRouted};
@@ -13,7 +13,7 @@ ghost use Rattle.am_board.specs.Step.{StateInvariant};
 ghost use Rattle.am_model.specs.Insert.{names_for, same_alert};
 
 use crate::config::Config;
-use crate::group::GroupName;
+use crate::destinations::Destination;
 use crate::groups::Groups;
 use crate::insert::Arrival;
 use crate::record::Inserted;
@@ -43,7 +43,7 @@ pub(crate) fn put_again(
     config: &Config,
     state: &mut State,
     index: Option<usize>,
-    kept: Option<&Sequence<GroupName>>,
+    kept: Option<&Sequence<Destination>>,
     arrival: &Arrival,
 ) -> Result<Option<Inserted>, AllocError>
     requires good { StateInvariant config.now state.old }
@@ -71,7 +71,7 @@ fn put_known(
     config: &Config,
     state: &mut State,
     i: usize,
-    names: &[GroupName],
+    names: &[Destination],
     arrival: &Arrival,
 ) -> Result<Option<Inserted>, AllocError>
     requires good { StateInvariant config.now state.old }
@@ -118,24 +118,24 @@ fn put_in_each(
     alloc: Global,
     config: &Config,
     groups: &mut Groups,
-    names: &[GroupName],
+    names: &[Destination],
     written: &Written,
 ) -> Result<bool, AllocError>
     requires { AreRouted config.now.routes names.now }
     ensures { PutsInEach config.now written.now.t (stamped_alert written.now.alert.now written.now.stamp) names.now result
         groups.old groups.new }
 {
-    let Some((name, names)) = names.split_last() else {
+    let Some((destination, names)) = names.split_last() else {
         return Ok(true);
     };
-    let Some(spot) = groups.spot(name, written.alert.labels()) else {
+    let Some(spot) = groups.spot(destination, written.alert.labels()) else {
         return Ok(false);
     };
     let copy = written.alert.copy(alloc)?;
     if !put_in_each(alloc, config, groups, names, written)? {
         return Ok(false);
     }
-    let wait = config.routes.route(name.route).group_wait;
+    let wait = config.routes.route(destination.name().route).group_wait;
     groups.replace(spot, copy, written.stamp, wait, written.t);
     Ok(true)
 }

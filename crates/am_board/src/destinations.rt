@@ -2,8 +2,12 @@
 //! names go, and the others move, since names are by index.
 //!
 //! A name in it is the group's own shared copy where the group exists. It is not replaced when the
-//! group goes: the next group of that name takes it over. A group is found by its name each time,
-//! and not by a cached index, since a maintenance moves groups.
+//! group goes: the next group of that name takes it over.
+//!
+//! Beside a name is where the alert was found in that group (`Destination`). A maintenance moves
+//! groups, and a finish alerts. So that is a hint, which no contract mentions: an insert looks there
+//! first, and compares the name and the labels that it finds (`Groups::spot`). So a known alert is
+//! found by one look-up by hash, in the table of known alerts.
 ghost use Rattle.std.specs.Prelude.{◌≡◌, ◌<◌, [], IfSome, List, length, position};
 ghost use Rattle.am_board.specs.Forgetting.{is_idle_but_for, TestsFirst};
 ghost use Rattle.am_alerts.specs.AlertData.{AlertData};
@@ -15,6 +19,7 @@ ghost use Rattle.am_model.specs.Insert.{names_for};
 ghost use Rattle.am_model.specs.Lists.{without};
 ghost use Rattle.am_model.specs.declared.config.Config.{Config};
 
+use crate::again::Spot;
 use crate::group::GroupName;
 use crate::known::is_idle;
 use am_alerts::alert::Alert;
@@ -23,7 +28,75 @@ use am_alerts::sequence::Sequence;
 use am_seed::Seed;
 use indexmap::IndexSet;
 use std::alloc::{AllocError, Global};
+use std::cell::Cell;
 use std::marker::Model;
+
+/// Where an alert was in a group, in less memory than a `Spot`.
+#[derive(Clone, Copy)]
+struct Hint {
+    group: u32,
+    member: u32,
+}
+
+/// The name of a group that a known alert goes to, and where the alert was in that group when it was
+/// last looked for.
+///
+/// Contracts see the name. The alert may have moved since, or be gone.
+#[derive(Drop)]
+pub(crate) struct Destination {
+    name: GroupName,
+    hint: Cell<Hint>,
+}
+
+impl Model for Destination {
+    ghost use Rattle.am_model.specs.declared.group.GroupName.{GroupName};
+
+    ghost Value = { GroupName };
+
+    ghost view = { λ d. d.name };
+}
+
+impl Destination {
+    /// A group of this name, in which the alert is here or will be.
+    pub(crate) fn new(name: GroupName, spot: Spot) -> Destination
+        ensures { result ≡ name }
+    {
+        Destination {
+            name,
+            hint: Cell::new(hint_of(spot)),
+        }
+    }
+
+    /// The name of the group.
+    pub(crate) fn name(&self) -> &GroupName
+        ensures { result.now ≡ self.now }
+    {
+        &self.name
+    }
+
+    /// Where the alert was when it was last looked for.
+    pub(crate) fn hint(&self) -> Spot {
+        let hint = self.hint.get();
+        Spot {
+            group: hint.group as usize,
+            member: hint.member as usize,
+        }
+    }
+
+    /// Notes where the alert is.
+    pub(crate) fn note(&self, spot: Spot) {
+        self.hint.set(hint_of(spot));
+    }
+}
+
+/// A spot as a hint. Where a number is too large there is nothing.
+fn hint_of(spot: Spot) -> Hint {
+    let most = u32::MAX as usize;
+    Hint {
+        group: spot.group.min(most) as u32,
+        member: spot.member.min(most) as u32,
+    }
+}
 
 /// The names of the groups that known alerts go to.
 ///
@@ -32,7 +105,7 @@ use std::marker::Model;
 #[derive(Drop)]
 pub(crate) struct GroupNameCache {
     /// By the index of the alert among the known ones.
-    names: Vec<Option<Sequence<GroupName>>>,
+    names: Vec<Option<Sequence<Destination>>>,
 }
 
 impl Model for GroupNameCache {
@@ -55,7 +128,7 @@ impl GroupNameCache {
     }
 
     /// Returns the cached names of the known alert at an index, if there are any.
-    pub(crate) fn of(&self, index: Option<usize>) -> Option<&Sequence<GroupName>>
+    pub(crate) fn of(&self, index: Option<usize>) -> Option<&Sequence<Destination>>
         ensures { (config : Config) (known : List AlertData) (labels : List Label) → AreKept config known self.now
             → index ≡ position (λ a. same_label_set labels a.labels) known
             → IfSome result (λ names. names.now ≡ names_for config labels) }
@@ -65,7 +138,7 @@ impl GroupNameCache {
     }
 
     /// Caches names for the known alert at an index, if there are any and memory allows.
-    pub(crate) fn keep(&mut self, index: usize, names: Option<Sequence<GroupName>>)
+    pub(crate) fn keep(&mut self, index: usize, names: Option<Sequence<Destination>>)
         ensures { (config : Config) (known : List AlertData) → AreKept config known self.old → index < length known
             → ((a : AlertData) → IsAt known index a → IfSome names (λ names. names ≡ names_for config a.labels))
             → AreKept config known self.new }
@@ -76,7 +149,7 @@ impl GroupNameCache {
     }
 
     /// Puts names at an index. Where there is no memory there are none there.
-    fn put(&mut self, index: usize, names: Sequence<GroupName>) -> Result<(), AllocError>
+    fn put(&mut self, index: usize, names: Sequence<Destination>) -> Result<(), AllocError>
         ensures { (config : Config) (known : List AlertData) → AreKept config known self.old → index < length known
             → ((a : AlertData) → IsAt known index a → names ≡ names_for config a.labels) → AreKept config known self.new }
     {
@@ -86,6 +159,7 @@ impl GroupNameCache {
         self.names[index] = Some(names);
         Ok(())
     }
+
     /// Drops the names of those of these known alerts that are resolved at `t` and whose label set
     /// isn't one of these. The others move to the indexes that their alerts get.
     pub(crate) fn drop_idle(&mut self, known: &[Alert], sets: &IndexSet<Labels, Seed>, t: u64)
@@ -94,7 +168,7 @@ impl GroupNameCache {
     {
         let mut rest = known;
         self.names.retain(
-            |_names: &Option<Sequence<GroupName>>| -> bool
+            |_names: &Option<Sequence<Destination>>| -> bool
                 ensures { TestsFirst sets.entry.now.keys t rest.entry.now result rest.exit.now }
             {
                 match rest.split_first() {

@@ -37,7 +37,7 @@ ghost use Rattle.am_model.specs.declared.group.GroupName.{GroupName};
 
 use crate::again::put_again;
 use crate::config::Config;
-use crate::destinations::GroupNameCache;
+use crate::destinations::{Destination, GroupNameCache};
 use crate::fault::Fault;
 use crate::group::{Group, GroupName, Member};
 use crate::groups::Groups;
@@ -157,7 +157,7 @@ fn put_routed(
     let stamp = state.inserts + 1;
     let alert = &arrival.alert;
     let placements = find_placements(alloc, config, &state.groups, kept, alert, stamp)?;
-    let names = new_names(alloc, kept, placements.as_slice());
+    let names = new_names(alloc, &state.groups, kept, placements.as_slice());
     let number = index.unwrap_or(state.known.len());
     let found = Found { index, placements };
     let inserted = put_found(alloc, config, state, found, arrival);
@@ -292,7 +292,7 @@ fn find_placements(
     alloc: Global,
     config: &Config,
     groups: &Groups,
-    kept: Option<&Sequence<GroupName>>,
+    kept: Option<&Sequence<Destination>>,
     alert: &Alert,
     stamp: u64,
 ) -> Result<Vec<Placement>, AllocError>
@@ -319,7 +319,7 @@ fn find_named(
     alloc: Global,
     routes: &Routes,
     groups: &Groups,
-    names: &[GroupName],
+    names: &[Destination],
     alert: &Alert,
     stamp: u64,
 ) -> Result<Vec<Placement>, AllocError>
@@ -329,7 +329,8 @@ fn find_named(
         All (IsToPut routes.now groups.now.items (stamped_alert alert.now stamp)) placements.items) }
 {
     let mut placements = Vec::with_capacity(alloc, names.len())?;
-    for name in names {
+    for destination in names {
+        let name = destination.name();
         let index = groups.find(name);
         let name = name.copy(alloc)?;
         let target = Target { name, index };
@@ -400,27 +401,35 @@ fn own_name(
     }
 }
 
-/// Returns copies of the groups' names for the cache, unless they are cached or memory lacks.
+/// Returns copies of the groups' names for the cache, unless they are cached or memory lacks, each
+/// with where the alert will be in the group.
 fn new_names(
     alloc: Global,
-    kept: Option<&Sequence<GroupName>>,
+    groups: &Groups,
+    kept: Option<&Sequence<Destination>>,
     placements: &[Placement],
-) -> Option<Sequence<GroupName>>
+) -> Option<Sequence<Destination>>
     ensures { IfSome result (λ names. names ≡ map (λ p. p.name) placements.now) }
 {
     match kept {
         Some(_) => None,
-        None => names_of(alloc, placements).ok(),
+        None => names_of(alloc, groups, placements).ok(),
     }
 }
 
 /// The names of the groups that these placements go to.
-fn names_of(alloc: Global, placements: &[Placement]) -> Result<Sequence<GroupName>, AllocError>
+fn names_of(
+    alloc: Global,
+    groups: &Groups,
+    placements: &[Placement],
+) -> Result<Sequence<Destination>, AllocError>
     ensures { IfOk result (λ names. names ≡ map (λ p. p.name) placements.now) }
 {
     let mut names = Vec::with_capacity(alloc, placements.len())?;
     for placement in placements {
-        names.push(placement.name.copy(alloc)?)?;
+        let name = placement.name.copy(alloc)?;
+        let spot = groups.next_spot(placement.index);
+        names.push(Destination::new(name, spot))?;
     }
     Ok(Sequence::from(names))
 }

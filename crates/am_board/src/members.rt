@@ -3,7 +3,7 @@
 //! Contracts see the list in the order of arrival. Invariant (specs/MemberTable.antt): each alert
 //! is under its labels, none is marked as leaving between calls, and a stored order is that of the
 //! alerts.
-ghost use Rattle.std.specs.Prelude.{◌≡◌, ◌+◌, ◌<◌, ◌≤◌, ◌↔◌, All, IfOk, IfSome, IsTrue, OnOk, Some, [], count_by, length, map, not};
+ghost use Rattle.std.specs.Prelude.{◌≡◌, ◌+◌, ◌<◌, ◌≤◌, ◌↔◌, All, IfOk, IfSome, IsTrue, OnOk, Some, [], count_by, length, map, not, true};
 ghost use Rattle.std.specs.List.{IsDistinct, list_any};
 ghost use Rattle.std.specs.Map.{values_of};
 ghost use Rattle.std.specs.Option.{option_copied};
@@ -162,6 +162,16 @@ impl Members {
         ensures within { IfSome result (λ j. j < length self.now.items) }
     {
         self.members.get_index_of(labels)
+    }
+
+    /// Whether the alert with these labels is at an index.
+    pub(crate) fn is_at(&self, j: usize, labels: &Labels) -> bool
+        ensures { result ≡ true → index_of labels.now self.now.items ≡ Some j }
+    {
+        if j >= self.members.len() {
+            return false;
+        }
+        *labels == *self.as_slice()[j].alert.labels()
     }
 
     /// Writes an alert with its stamp in place of the one with its labels, which is at an index.

@@ -6,3 +6,4 @@ pub mod Inserting
 pub mod Placing
 pub mod PutAgain
 pub mod Sharing
+pub mod Spots

@@ -1,4 +1,5 @@
 pub mod Agreeing
+pub mod Alone
 pub mod Calls
 pub mod Causes
 pub mod Closing

@@ -19,6 +19,7 @@ ghost use Rattle.am_model.specs.Maintenance.{has_no_alerts};
 
 use super::Groups;
 use crate::again::Spot;
+use crate::destinations::Destination;
 use crate::due::DueKey;
 use crate::finish::take_leaving;
 use crate::flush::LeavingAlert;
@@ -99,12 +100,49 @@ impl Groups {
     }
 
     /// Where the alert of these labels is in the group of this name, if it is there.
-    pub(crate) fn spot(&self, name: &GroupName, labels: &Labels) -> Option<Spot>
+    ///
+    /// It is looked for where it was. Where it isn't there any more, it is looked up, and noted.
+    pub(crate) fn spot(&self, destination: &Destination, labels: &Labels) -> Option<Spot>
+        ensures { IfSome result (IsSpot self.now.items destination.now labels.now) }
+    {
+        let name = destination.name();
+        let hint = destination.hint();
+        if self.is_at(hint, name, labels) {
+            return Some(hint);
+        }
+        let spot = self.look_up(name, labels)?;
+        destination.note(spot);
+        Some(spot)
+    }
+
+    /// Whether the group of this name is at this index, and in it the alert of these labels.
+    fn is_at(&self, spot: Spot, name: &GroupName, labels: &Labels) -> bool
+        ensures { result ≡ true → IsSpot self.now.items name.now labels.now spot }
+    {
+        if spot.group >= self.groups.len() {
+            return false;
+        }
+        let group = self.at(spot.group);
+        *name == group.name && group.members.is_at(spot.member, labels)
+    }
+
+    /// The same, by two look-ups.
+    fn look_up(&self, name: &GroupName, labels: &Labels) -> Option<Spot>
         ensures { IfSome result (IsSpot self.now.items name.now labels.now) }
     {
         let group = self.find(name)?;
         let member = self.at(group).members.find(labels)?;
         Some(Spot { group, member })
+    }
+
+    /// Where an alert that is new to the group at an index will be, or to the next group.
+    pub(crate) fn next_spot(&self, index: Option<usize>) -> Spot {
+        let group = index.unwrap_or(self.len());
+        let member = match self.as_slice().get(group) {
+            Some(group) => group.members.len(),
+            None => 0,
+        };
+        Spot { group, member }
     }
 
     /// Writes an alert with its stamp in place of the one with its labels, which is there.

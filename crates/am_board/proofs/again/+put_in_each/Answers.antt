@@ -1,6 +1,7 @@
 use Rattle.std.proofs.Common.{sym, ap, ◌∙◌, subst}
 use Rattle.am_alerts.specs.AlertData.{AlertData}
 use Rattle.am_alerts.specs.declared.route.Route.{Route}
+use Rattle.am_model.specs.Insert.{wait_of}
 use Rattle.am_model.specs.State.{MemberState}
 use Rattle.am_model.specs.declared.config.Config.{Config}
 use Rattle.am_board.specs.Again.{HasAt}
@@ -29,5 +30,5 @@ returns t c =
     let m : MemberState = stamped_alert c.args.written.now.alert.now c.args.written.now.stamp in
     let put = is_put config c.args.written.now.t m c.in-Some.names.now old mid c.in_ok-put_in_each.field-0 c.if-not-branch.false c.in_ok-put_in_each.ensures in
     let group = subst (λ (a : AlertData). Changes (Gets (stamped_alert a c.args.written.now.stamp) c.route.result.now.group_wait c.args.written.now.t) c.in-Some-spot.spot.group mid new) c.in_ok-copy.ensures c.replace.ensures.group in
-    put_one_more config c.args.written.now.t m old mid new c.in-Some.names.now c.in-Some.name.now c.labels.result.now c.in-Some-spot.spot c.route.result.now.group_wait
-    put c.in-Some-spot.ensures group c.replace.ensures.labels (ap (λ (r : Route). r.group_wait) c.route.ensures.route) c.args.names.now c.in-Some.ensures.cases.0
+    put_one_more config c.args.written.now.t m old mid new c.in-Some.names.now c.in-Some.destination.now c.labels.result.now c.in-Some-spot.spot c.route.result.now.group_wait
+    put c.in-Some-spot.ensures group c.replace.ensures.labels (ap (λ (r : Route). r.group_wait) c.route.ensures.route ∙ ap (wait_of config) c.name.ensures) c.args.names.now c.in-Some.ensures.cases.0

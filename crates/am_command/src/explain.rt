@@ -364,7 +364,18 @@ fn misplaced_duration(
         let days = bounds.days;
         return format!(in alloc; "`{text}` is too long: a story has at most {days} days");
     }
-    format!(in alloc; "`{text}` is out of range for `{name}`")
+    let range = range_of(name);
+    format!(in alloc; "`{text}` is out of range for `{name}`{range}")
+}
+
+/// Returns which durations a field can have, as it is said behind its name.
+fn range_of(name: &str) -> &'static str {
+    match name {
+        "to" => ": it comes after `from`",
+        "group_interval" | "repeat_interval" => ": it is above 0s, and at most 11574d",
+        "group_wait" => ": it is at most 11574d",
+        _ => "",
+    }
 }
 
 fn bad_name(alloc: Global, text: &str) -> Result<String, AllocError> {

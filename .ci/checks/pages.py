@@ -2,7 +2,8 @@
 """Checks the pages: README.md and the others at the top, docs/*.md, and the claims in docs/claims.
 
 - `claims`, `examples`, `layers`: what is made of the sources is as they say, and each law has a claim.
-- `prose`: pages are short, and their links lead somewhere. `words`: crates and comments of scripts have no word that readers don't know.
+- `prose`: pages are short, and their links lead somewhere. `words`: crates, and comments of scripts and of rows, have no word that
+  readers don't know.
 - `quotes`: what a page shows is there, and its commands print it. With BUILT=yes it runs the built programs too.
 
     .ci/checks/pages.py [PART ..]         all parts, or these

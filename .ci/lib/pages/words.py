@@ -1,6 +1,7 @@
 """Words that writers agreed to avoid, because readers don't know what they mean here.
 
-Pages have none of them (`prose`). Nor do comments in crates/ and in scripts; and no name in crates/ has one as a part, but KEPT.
+Pages have none of them (`prose`). Nor do comments in crates/, in scripts and in rows of data; and no name in crates/ has one as a part,
+but KEPT.
 """
 import io
 import re
@@ -55,9 +56,15 @@ def scripts() -> list[Path]:
     return [it for it in files if it.suffix in ENDINGS or not it.suffix and it.read_bytes()[:2] == b"#!"]
 
 
+def rows() -> list[Path]:
+    """The files of rows in which a line behind `#` is a comment."""
+    files = [*CRATES.glob("*/stdin"), *(it for it in (ROOT / ".ci" / "data").rglob("*") if it.is_file())]
+    return sorted({*files} - {*scripts()})
+
+
 def remarks(file: Path) -> Iterator[tuple[int, str]]:
     """The lines of comments of a script: in Python also those of texts on several lines, and of one that is alone in its line."""
-    text = file.read_text()
+    text = file.read_text(errors="replace")
     if file.suffix != ".py" and not re.match(r"#!.*python", text):
         found = (re.search(r"(?:^|\s)(?:#|//|/\*)\s(.*)", line) for line in text.splitlines())
         yield from ((number, it[1]) for number, it in enumerate(found, 1) if it)
@@ -77,7 +84,7 @@ def places() -> list[tuple[Path, int, str, str]]:
     """Where there are words to avoid: the file, the line, `comments` or `names`, and the word."""
     found = [(file, *it) for file in sources() for it in places_in(file)]
     # (this file has them all)
-    return found + [(file, *it) for file in scripts() if file != Path(__file__) for it in words_of(file)]
+    return found + [(file, *it) for file in (*scripts(), *rows()) if file != Path(__file__) for it in words_of(file)]
 
 
 def self_test() -> None:
@@ -93,4 +100,4 @@ def check() -> bool:
     """Checks the sources."""
     self_test()
     faults = [f"{file.relative_to(ROOT)}:{line}: avoid \"{word}\" in {kind}" for file, line, kind, word in places()]
-    return report.verdict("words", faults, f"{len(sources()) + len(scripts())} files")
+    return report.verdict("words", faults, f"{len(sources()) + len(scripts()) + len(rows())} files")

@@ -28,24 +28,19 @@ use am_alerts::sequence::Sequence;
 use am_seed::Seed;
 use indexmap::IndexSet;
 use std::alloc::{AllocError, Global};
-use std::cell::Cell;
 use std::marker::Model;
-
-/// Where an alert was in a group, in less memory than a `Spot`.
-#[derive(Clone, Copy)]
-struct Hint {
-    group: u32,
-    member: u32,
-}
+use std::sync::atomic::{AtomicU32, Ordering};
 
 /// The name of a group that a known alert goes to, and where the alert was in that group when it was
 /// last looked for.
 ///
-/// Contracts see the name. The alert may have moved since, or be gone.
+/// Contracts see the name. The alert may have moved since, or be gone. Two atomics take less memory
+/// than a `Spot`, and a board stays one that threads can read.
 #[derive(Drop)]
 pub(crate) struct Destination {
     name: GroupName,
-    hint: Cell<Hint>,
+    group: AtomicU32,
+    member: AtomicU32,
 }
 
 impl Model for Destination {
@@ -63,7 +58,8 @@ impl Destination {
     {
         Destination {
             name,
-            hint: Cell::new(hint_of(spot)),
+            group: AtomicU32::new(number_of(spot.group)),
+            member: AtomicU32::new(number_of(spot.member)),
         }
     }
 
@@ -76,26 +72,22 @@ impl Destination {
 
     /// Where the alert was when it was last looked for.
     pub(crate) fn hint(&self) -> Spot {
-        let hint = self.hint.get();
         Spot {
-            group: hint.group as usize,
-            member: hint.member as usize,
+            group: self.group.load(Ordering::SeqCst) as usize,
+            member: self.member.load(Ordering::SeqCst) as usize,
         }
     }
 
     /// Notes where the alert is.
     pub(crate) fn note(&self, spot: Spot) {
-        self.hint.set(hint_of(spot));
+        self.group.store(number_of(spot.group), Ordering::SeqCst);
+        self.member.store(number_of(spot.member), Ordering::SeqCst);
     }
 }
 
-/// A spot as a hint. Where a number is too large there is nothing.
-fn hint_of(spot: Spot) -> Hint {
-    let most = u32::MAX as usize;
-    Hint {
-        group: spot.group.min(most) as u32,
-        member: spot.member.min(most) as u32,
-    }
+/// An index in fewer bytes. Where it is too large there is nothing.
+fn number_of(index: usize) -> u32 {
+    index.min(u32::MAX as usize) as u32
 }
 
 /// The names of the groups that known alerts go to.

@@ -4,9 +4,9 @@
 //! A name in it is the group's own shared copy where the group exists. It is not replaced when the
 //! group goes: the next group of that name takes it over.
 //!
-//! Beside a name is where the alert was found in that group (`Destination`). A maintenance moves
-//! groups, and a finish alerts. So that is a hint, which no contract mentions: an insert looks there
-//! first, and compares the name and the labels that it finds (`Groups::spot`). So a known alert is
+//! Next to a name is where the alert was found in that group (`Destination`). A maintenance moves
+//! groups, and a finish alerts: this is a hint, which no contract mentions. An insert looks there
+//! first, and compares the name and the labels that it finds (`Groups::spot`). A known alert is then
 //! found by one look-up by hash, in the table of known alerts.
 ghost use Rattle.std.specs.Prelude.{◌≡◌, ◌<◌, [], IfSome, List, length, position};
 ghost use Rattle.am_board.specs.Forgetting.{is_idle_but_for, TestsFirst};

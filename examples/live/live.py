@@ -5,7 +5,7 @@
 
 The board decides who is notified, and when. This program has what the board leaves out: HTTP, the clock, the ids of silences,
 annotations, the merging of alerts that overlap, attempts and their waits. It knows webhooks alone, and has no filters. It asks nobody for
-a password: don't open it to others than your own machine. Those of `.ci/checks/live.py hostile` don't end it.
+a password: don't open it to others than your own machine. The hostile requests of `.ci/checks/live.py` don't end it.
 
 1. It sleeps until `next_due` or a request. Then it calls `begin` until nothing is due.
 2. Each notification is sent in a thread. An answer 2xx is `delivered`. After 5xx, or without an answer, it tries again, with the waits of

@@ -17,18 +17,25 @@ use am_board::fault::Fault;
 use am_board::notice::{Notice, Report};
 use am_desk::{Blank, Brand, Desk, Name, OwnTicket, Pass};
 use am_pool::deliver;
-use std::alloc::Global;
+use std::alloc::{AllocError, Global};
 use std::mem::replace;
 use std::rt::Clock;
 use std::sync::Wait;
 use std::thread::{Threads, for_each_mut};
 use std::time::CpuClock;
+use std::vec::IntoIter;
 
 /// The id of the desk.
 const BOARD_ID: u64 = 2;
 
 /// When the same alerts come again, in milliseconds.
 const AGAIN: u64 = STEP;
+
+/// When they come once more, several in a call.
+const BATCHED: u64 = 2 * STEP;
+
+/// How many alerts come in a call then: as many as Prometheus puts into one request.
+const BATCH: usize = 64;
 
 /// When all groups are due for the second time, however the threads shared their first flushes.
 const LATER: u64 = SECOND + STEP;
@@ -38,6 +45,8 @@ const LATER: u64 = SECOND + STEP;
 struct Lane<N: Name> {
     pass: Pass<N>,
     alerts: Vec<Alert>,
+    /// How many of them come in a call.
+    batch: usize,
     /// The time of its calls.
     now: u64,
     /// How many groups were made for its alerts.
@@ -95,6 +104,7 @@ fn lanes<N: Name>(alloc: Global, passes: Vec<Pass<N>>) -> Result<Vec<Lane<N>>, B
         let lane = Lane {
             pass,
             alerts: Vec::new(alloc),
+            batch: 1,
             now: 0,
             made: 0,
             tally: Tally::new(),
@@ -122,6 +132,19 @@ fn run_steps<N: Name + Send + Sync, R: Print + Eprint + Clock + CpuClock + Threa
         lanes,
         "in another order",
         AGAIN,
+        load.alerts,
+    )?;
+    fill(alloc, lanes, load, 1)?;
+    for lane in lanes.iter_mut() {
+        lane.batch = BATCH;
+    }
+    run(
+        rt,
+        alloc,
+        desk,
+        lanes,
+        "in batches of 64",
+        BATCHED,
         load.alerts,
     )?;
     run(rt, alloc, desk, lanes, "first flush", FIRST, load.alerts)?;
@@ -217,16 +240,38 @@ impl<N: Name> Lane<N> {
     fn run<R: Wait>(&mut self, rt: &R, alloc: Global, desk: &Desk<N>) {
         let ran = if self.alerts.is_empty() {
             self.flush_all(rt, alloc, desk)
+        } else if self.batch > 1 {
+            self.insert_batches(rt, alloc, desk)
         } else {
-            self.insert_all(rt, alloc, desk)
+            self.insert_each(rt, alloc, desk)
         };
         self.fault = ran.err();
     }
 
-    fn insert_all<R: Wait>(&mut self, rt: &R, alloc: Global, desk: &Desk<N>) -> Result<(), Fault> {
+    fn insert_each<R: Wait>(&mut self, rt: &R, alloc: Global, desk: &Desk<N>) -> Result<(), Fault> {
         for alert in replace(&mut self.alerts, Vec::new(alloc)) {
             let inserted = desk.insert(rt, alloc, &mut self.pass, self.now, alert)?;
             self.made = self.made.saturating_add(inserted.made);
+            self.now = self.now.saturating_add(1);
+        }
+        Ok(())
+    }
+
+    fn insert_batches<R: Wait>(
+        &mut self,
+        rt: &R,
+        alloc: Global,
+        desk: &Desk<N>,
+    ) -> Result<(), Fault> {
+        let mut alerts = replace(&mut self.alerts, Vec::new(alloc)).into_iter();
+        for _ in 0..alerts.len() {
+            let batch = next_batch(alloc, &mut alerts, self.batch)?;
+            if batch.is_empty() {
+                break;
+            }
+            for answer in desk.insert_all(rt, alloc, &mut self.pass, self.now, batch)? {
+                self.made = self.made.saturating_add(answer?.made);
+            }
             self.now = self.now.saturating_add(1);
         }
         Ok(())
@@ -278,6 +323,22 @@ impl<N: Name> Lane<N> {
             Err(_not_open) => self.tally.add_flush(0),
         }
     }
+}
+
+/// The next alerts, so many at most.
+fn next_batch(
+    alloc: Global,
+    alerts: &mut IntoIter<Alert>,
+    most: usize,
+) -> Result<Vec<Alert>, AllocError> {
+    let mut batch = Vec::with_capacity(alloc, most)?;
+    for _ in 0..most {
+        match alerts.next() {
+            None => break,
+            Some(alert) => batch.push(alert)?,
+        }
+    }
+    Ok(batch)
 }
 
 /// Delivers a notice that has something to send.

@@ -11,8 +11,9 @@
 //! - `longest ALERTS GROUPS`: the same, with each insert, begin and finish timed, and the longest reported.
 //! - `routes ALERTS GROUPS`: the same where each alert goes to 16 routes, so many groups of each.
 //! - `floor ALERTS GROUPS`: inserts and flushes as in `flushes`, of an array in place of a board (`floor`).
-//! - `desk ALERTS GROUPS THREADS`: new inserts, the same in another order, a first flush and a quiet one,
-//!   through a desk (`lanes`) by so many threads at once, 16 at most. Here the wall's clock counts.
+//! - `desk ALERTS GROUPS THREADS`: new inserts, the same in another order, the same once more in batches, a
+//!   first flush and a quiet one, through a desk (`lanes`) by so many threads at once, 16 at most. Here the
+//!   wall's clock counts.
 //! - `inhibition SOURCES TARGETS`: a flush of groups of 16 targets; for each target there is one
 //!   source that inhibits it, for the first one the last source that came, for the next one the source
 //!   before that, and so on.

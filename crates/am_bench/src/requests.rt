@@ -3,7 +3,7 @@
 //! hands out a number or a reference has nothing to ask with, and is left out. The name is written before the
 //! call, and the answer after it, so requests for memory which come between the two writes are the
 //! call's. A few calls that take memory are among them, as `with memory`: they show that requests are seen.
-//! Calls that a limit refuses are there as `without memory`: `.ci/frugal` refuses each request that they make.
+//! Calls that a limit refuses are there as `without memory`: the check `memory.py frugal` refuses each request that they make.
 
 mod alerts;
 mod board;
@@ -11,6 +11,7 @@ pub mod delivery;
 mod desk;
 mod log;
 pub mod probe;
+mod resumed;
 mod routes;
 mod silences;
 mod ticket;
@@ -29,5 +30,6 @@ pub fn make_calls<R: Wait>(probe: &Probe, rt: &R, alloc: Global) -> Result<(), B
     log::make_calls(probe, alloc)?;
     board::make_calls(probe, alloc)?;
     desk::make_calls(probe, rt, alloc)?;
+    resumed::make_calls(probe, rt, alloc)?;
     Ok(())
 }

@@ -1,7 +1,8 @@
 -- Beginning: between the code of a begin and the definition Begin. What it finds in its group, and the flush that it opens.
 use Rattle.std.specs.Prelude.{◌≡◌, ℕ, ◌&&◌, true, false, Bool, IsTrue, List, [], filter, map, Some, if◌then◌else◌, ◌≢◌, ◌*◌, ◌≤◌, ◌<◌, ◌⊎◌}
 use Rattle.std.specs.Prelude.{min}
-use Rattle.std.specs.Prelude.{IfSome, All, MatchResult, Option, None, Result, Ok, Err, vec_len, vec_capacity, ◌+◌, not, nat_le, length, slice_index_or}
+use Rattle.std.specs.Prelude.{IfSome, All, MatchResult, Option, None, Result, Ok, Err, vec_len, vec_capacity, ◌+◌, not, nat_le, length}
+use Rattle.std.specs.Prelude.{slice_index_or}
 use Rattle.std.specs.Borrow.{Bor}
 use Rattle.am_alerts.specs.AlertData.{AlertData, is_resolved}
 use Rattle.am_alerts.specs.Labels.{label_set_cmp}

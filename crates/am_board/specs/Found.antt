@@ -15,7 +15,9 @@ use Rattle.am_board.specs.declared.plan.PlannedFlush.{PlannedFlush}
 -- what is shown of a group, if it is wanted why
 abbrev pub shown_of : Look → GroupState → Option Preview
 shown_of look g =
-    if look.why then Some (preview_on look.config.now (state_seen look) look.t (reason_of look.config.now (state_seen look) look.t) g) else None
+    if look.why
+    then Some (preview_on look.config.now (state_seen look) look.t (reason_of look.config.now (state_seen look) look.t) g)
+    else None
 
 -- what is found in a group is what the definitions give
 pub record Finds (look : Look) (g : GroupState) (f : Found) : Type 0 where

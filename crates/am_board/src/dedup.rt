@@ -62,7 +62,8 @@ pub(crate) fn decide(
     requires rising { AreRising (copies_of look.now.t unmuted.now) }
     requires route { group.now.route ≤ last_of look.now.config.now.routes }
     ensures { IfOk result (AreDecided look.now.why
-        (reason_for look.now.config.now (state_seen look.now) group.now muted_until (alert_sets_of (copies_of look.now.t unmuted.now)) look.now.t)
+        (reason_for look.now.config.now (state_seen look.now) group.now muted_until
+        (alert_sets_of (copies_of look.now.t unmuted.now)) look.now.t)
         (integrations_of look.now.config.now group.now)) }
 {
     match common_reason(muted_until, unmuted) {

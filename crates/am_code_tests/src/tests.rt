@@ -2,7 +2,10 @@
 mod counts;
 mod durations;
 mod hanging;
+mod resuming;
 mod starving;
+mod taking;
+mod waiting;
 mod workers;
 
 use am_alerts::alert::Alert;
@@ -11,8 +14,8 @@ use am_alerts::sequence::Sequence;
 use am_board::config::Config;
 use am_board::group::GroupName;
 use am_board::notice::Notice;
-use am_cli::config::read_config;
-use am_cli::reader::{Reader, parse};
+use am_json::config::read_config;
+use am_json::reader::{Reader, parse};
 use std::alloc::{AllocError, Global};
 
 /// The configuration that a text of JSON decodes to. Any fault counts as a lack of memory.

@@ -1,5 +1,6 @@
 -- A desk can be shared by threads, and handed to one. One search is too short to see it, for the patterns that matchers keep: so here is each type of a board on the way, of which it can be moved and shared. A caller whose threads share a desk lists `crossing` in its search.
 use Rattle.std.proofs.Crossing.{crosses}
+use denote.RattleType.{RattleType}
 use denote.Param.Send.{IsSend, IsSync, sendable}
 use denote.Param.SendFields.{as_row_send, as_row_sync, declared_send, declared_sync, variants_send, variants_sync, array_field_send, array_field_sync}
 use Rattle.atomic_table.proofs.owned.Table.TheSendSync as table
@@ -51,6 +52,11 @@ use Rattle.am_mute.specs.contracts.inhibit.InhibitRule as rule_row
 use Rattle.am_model.specs.contracts.config.Config as config_row
 use Rattle.am_board.specs.contracts.state.State as state_row
 use Rattle.am_board.specs.contracts.board.Board as board_row
+use Rattle.am_desk.specs.declared.kind.Kind as desk_kind
+use Rattle.am_desk.specs.declared.kind.Origin as desk_origin
+use Rattle.am_desk.specs.declared.name.Name as desk_name
+use Rattle.am_desk.specs.contracts.keeper.Keeper as keeper_row
+use Rattle.am_desk.specs.contracts.desk.Desk as desk_row
 
 -- what there is of built-in types and of the fields of declared ones
 pub ruleset every = (crosses, sendable, declared_send, declared_sync, variants_send, variants_sync, as_row_send, as_row_sync, array_field_send, array_field_sync)
@@ -163,5 +169,16 @@ board_send = search (every, config_send, state_send, sources.the_send, destinati
 pub board_sync : IsSync board_row.the_row
 board_sync = search (every, config_sync, state_sync, sources.the_sync, destinations.the_sync, trail.the_sync, line.the_sync) depth 40 fits 10000
 
+-- of every kind
+module _ (N K L : RattleType) (n : desk_name.Ghosts N.Denot) (k : desk_kind.Ghosts K.Denot) (l : desk_origin.Ghosts L.Denot) where
+  pub keeper_send : IsSend (keeper_row.the_row N K L n k l)
+  keeper_send = search (every, board_send, seat.the_send) depth 40 fits 10000
+
+  pub desk_send : IsSend (desk_row.the_row N K L n k l)
+  desk_send = search (every, keeper_send, limits.the_send, table.the_send) depth 40 fits 10000
+
+  pub desk_sync : IsSync (desk_row.the_row N K L n k l)
+  desk_sync = search (every, keeper_send, limits.the_sync, table.the_sync) depth 40 fits 10000
+
 -- what a search needs to see that a desk may cross threads
-pub ruleset crossing = (every, board_send, board_sync, table.the_send, table.the_sync, seat.the_send)
+pub ruleset crossing = (every, desk_send, desk_sync, board_send, seat.the_send)

@@ -16,7 +16,7 @@ use Rattle.am_model.specs.look_back.Laws.{was_delivered, handed_in, UnlessHanded
 use Rattle.am_model.specs.look_back.Past.{past_of}
 use Rattle.am_model.specs.Replay.{IsLegal, replay}
 use Rattle.am_model.proofs.looking_back.rows.RowsDelivered.{rows_were_delivered}
-use Rattle.am_desk.specs.History.{is_desk_call, AreDeskCalls}
+use Rattle.am_desk.specs.History.{may_be, is_desk_call, AreDeskCalls, MayBeCalls}
 use Rattle.am_desk.specs.Laws.{EachRowWasDelivered, UnloadedRowsWereDelivered}
 
 none-either : (b : Bool) (o : Option RowView) → o ≡ None → cond b None o ≡ None
@@ -58,5 +58,5 @@ each_row config id history legal calls =
     unloaded_rows config id history legal (All-weaker (λ r. IsTrue (is_desk_call r.call)) (λ r. row_in r.call ≡ None) (λ r is. no_row r.call is) history calls)
 
 -- one call more
-pub calls-snoc : (history : List Record) (r : Record) → AreDeskCalls history → IsTrue (is_desk_call r.call) → AreDeskCalls (history ++ r ∷ [])
-calls-snoc history r calls is = All-push (λ s. IsTrue (is_desk_call s.call)) history r calls is
+pub calls-snoc : (loads : Bool) (history : List Record) (r : Record) → MayBeCalls loads history → IsTrue (may_be loads r.call) → MayBeCalls loads (history ++ r ∷ [])
+calls-snoc loads history r calls is = All-push (λ s. IsTrue (may_be loads s.call)) history r calls is

@@ -1,7 +1,9 @@
-//! The numbers of the faults, the limit of passes, and what the log has without loads, as laws that
-//! verifiers read.
+//! The numbers of the faults, the limits of passes and of calls, and what the log has without loads,
+//! as laws that verifiers read.
 ghost use Rattle.std.specs.Prelude.{◌≡◌};
+ghost use Rattle.am_model.specs.Config.{default_limits, greatest_limits};
 ghost use Rattle.am_desk.specs.declared.blank.TheConstants.{MAX_PASSES};
+ghost use Rattle.am_desk.specs.Glances.{most_calls};
 ghost use Rattle.am_desk.specs.Laws.{BlankFaultsAre, OpenFaultsAre, CloseCausesAre, UnloadedRowsWereDelivered};
 
 use crate::fault::BlankFault;
@@ -20,9 +22,12 @@ pub fn fault_numbers_are()
     ensures closes { CloseCausesAre }
 {}
 
-/// States that a desk has at most 16 passes.
+/// States that a desk has at most 16 passes, and how many calls its word counts at the limits of
+/// `Limits::default` and at those of `Limits::greatest`.
 pub fn limits_are()
-    ensures { MAX_PASSES ≡ 16 }
+    ensures passes { MAX_PASSES ≡ 16 }
+    ensures calls { most_calls default_limits ≡ 69_269_236_678_656 }
+    ensures least { most_calls greatest_limits ≡ 73_786_681 }
 {}
 
 /// States that the log gains a row only for a notice that was delivered or had nothing to send, in a

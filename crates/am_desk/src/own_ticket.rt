@@ -9,6 +9,7 @@ ghost use Rattle.am_desk.specs.Calls.{Called, NoOpenFlush};
 ghost use Rattle.am_desk.specs.Known.{Observes};
 
 use crate::desk::Desk;
+use crate::kind::{Kind, Origin};
 use crate::name::Name;
 use crate::pass::Pass;
 use am_board::fault::{FinishFault, NotOpen, ReportFault};
@@ -79,7 +80,7 @@ impl<N: Name> OwnTicket<N> {
     }
 }
 
-impl<N: Name> Desk<N> {
+impl<N: Name, K: Kind, L: Origin> Desk<N, K, L> {
     /// Finishes the flush of an own ticket, as `finish` does. Never allocates.
     ///
     /// # Errors
@@ -89,7 +90,7 @@ impl<N: Name> Desk<N> {
     pub fn finish_own<R: Wait>(
         &self,
         rt: &R,
-        pass: &mut Pass<N>,
+        pass: &mut Pass<N, L>,
         own: OwnTicket<N>,
         now: u64,
     ) -> Result<Finished, NotOpen>

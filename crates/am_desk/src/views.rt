@@ -9,9 +9,11 @@ ghost use Rattle.am_model.specs.Maintenance.{has_no_alerts};
 ghost use Rattle.am_model.specs.Replay.{replay};
 ghost use Rattle.am_model.specs.Views.{row_views, group_views, summary, summary_data};
 ghost use Rattle.am_model.specs.look_back.Preview.{preview};
+ghost use Rattle.am_desk.specs.Calls.{most};
 ghost use Rattle.am_desk.specs.Known.{Observes};
 
 use crate::desk::Desk;
+use crate::kind::{Kind, Origin};
 use crate::name::Name;
 use crate::pass::Pass;
 use am_board::preview::Preview;
@@ -19,14 +21,14 @@ use am_board::views::{GroupView, RowView, Summary};
 use std::alloc::{AllocError, Global};
 use std::sync::Wait;
 
-impl<N: Name> Desk<N> {
+impl<N: Name, K: Kind, L: Origin> Desk<N, K, L> {
     /// Returns the numbers of calls, groups, alerts, open flushes and log rows. Never allocates.
     ///
     /// `glance` has three of them without the lock. Cost: as `Board::summary`.
-    pub fn summary<R: Wait>(&self, rt: &R, pass: &mut Pass<N>) -> Summary
+    pub fn summary<R: Wait>(&self, rt: &R, pass: &mut Pass<N, L>) -> Summary
         ensures looks { Observes N.terms pass.old pass.new }
         ensures summary { summary_data result ≡ summary N.terms.config pass.new.log }
-        ensures within { (result.calls ≤ N.terms.config.limits.history)
+        ensures within { (result.calls ≤ most K.takes pass.new.taken N.terms.config.limits.history)
             × (result.groups ≤ N.terms.config.limits.groups)
             × (result.flushes ≤ N.terms.config.limits.flushes) }
     {
@@ -40,7 +42,7 @@ impl<N: Name> Desk<N> {
         &self,
         rt: &R,
         alloc: Global,
-        pass: &mut Pass<N>,
+        pass: &mut Pass<N, L>,
     ) -> Result<Vec<RowView>, AllocError>
         ensures looks { Observes N.terms pass.old pass.new }
         ensures rows { IfOk result (λ rows. rows.items ≡ row_views (replay N.terms.config pass.new.log)) }
@@ -58,7 +60,7 @@ impl<N: Name> Desk<N> {
         &self,
         rt: &R,
         alloc: Global,
-        pass: &mut Pass<N>,
+        pass: &mut Pass<N, L>,
     ) -> Result<Vec<GroupView>, AllocError>
         ensures looks { Observes N.terms pass.old pass.new }
         ensures groups { IfOk result (λ groups. groups.items ≡ group_views (replay N.terms.config pass.new.log)) }
@@ -80,7 +82,7 @@ impl<N: Name> Desk<N> {
         &self,
         rt: &R,
         alloc: Global,
-        pass: &mut Pass<N>,
+        pass: &mut Pass<N, L>,
         now: u64,
     ) -> Result<Option<Preview>, AllocError>
         ensures looks { Observes N.terms pass.old pass.new }
@@ -95,9 +97,8 @@ impl<N: Name> Desk<N> {
 
     /// Returns when the next group without an open flush is due, in milliseconds, if there is one.
     ///
-    /// A thread that begins flushes sleeps until then, or until another thread says that it made a
-    /// call. Never allocates.
-    pub fn next_due<R: Wait>(&self, rt: &R, pass: &mut Pass<N>) -> Option<u64>
+    /// A thread that begins flushes sleeps until then by `wait_due`. Never allocates.
+    pub fn next_due<R: Wait>(&self, rt: &R, pass: &mut Pass<N, L>) -> Option<u64>
         ensures looks { Observes N.terms pass.old pass.new }
         ensures due { result ≡ next_due (replay N.terms.config pass.new.log) }
     {
@@ -106,7 +107,7 @@ impl<N: Name> Desk<N> {
 
     /// Returns whether some group has no alerts: `remove_empty_groups` would remove it. Never
     /// allocates.
-    pub fn has_empty_groups<R: Wait>(&self, rt: &R, pass: &mut Pass<N>) -> bool
+    pub fn has_empty_groups<R: Wait>(&self, rt: &R, pass: &mut Pass<N, L>) -> bool
         ensures looks { Observes N.terms pass.old pass.new }
         ensures empty { result ≡ list_any has_no_alerts (replay N.terms.config pass.new.log).groups }
     {

@@ -6,7 +6,7 @@ use super::{alert, config};
 use am_alerts::alert::Alert;
 use am_board::config::Config;
 use am_board::record::Reply;
-use am_desk::{Blank, Brand, CloseFault, Closed, Desk, Name, Pass};
+use am_desk::{Blank, Brand, CloseFault, Closed, Desk, Name, Origin, Pass};
 use std::alloc::Global;
 use std::process::Abort;
 use std::sync::Wait;
@@ -75,14 +75,14 @@ pub fn open<N: Name>(
 }
 
 /// The pass with the greatest number of those that are left.
-pub fn take<N: Name>(rt: &impl Abort, passes: &mut Vec<Pass<N>>) -> Pass<N> {
+pub fn take<N: Name, L: Origin>(rt: &impl Abort, passes: &mut Vec<Pass<N, L>>) -> Pass<N, L> {
     let Some(pass) = passes.pop() else {
         panic!(rt; "a pass")
     };
     pass
 }
 
-pub fn put<N: Name>(rt: &impl Abort, passes: &mut Vec<Pass<N>>, pass: Pass<N>) {
+pub fn put<N: Name, L: Origin>(rt: &impl Abort, passes: &mut Vec<Pass<N, L>>, pass: Pass<N, L>) {
     assert!(rt; passes.push(pass).is_ok());
 }
 

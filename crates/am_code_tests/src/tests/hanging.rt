@@ -9,7 +9,7 @@ use am_board::begin::Begun;
 use am_board::config::{Config, Limits};
 use am_board::notice::{Notice, Report};
 use am_board::record::{Call, Record};
-use am_desk::{Blank, Brand, Desk, Name, OwnTicket, Pass};
+use am_desk::{Blank, Brand, Desk, Kind, Name, OwnTicket, Pass};
 use am_pool::{AttemptTrace, Courier, Sent, Tried, deliver};
 use am_retry::Answer;
 use std::alloc::{AllocError, Global};
@@ -34,7 +34,7 @@ const LATER: u64 = DUE + 1;
 
 /// Where the couriers that hang meet the thread that pages the other receiver.
 #[derive(Drop)]
-struct Outage {
+pub struct Outage {
     /// All of them hang, and the thread is there.
     begun: Barrier,
     /// The thread lets them go.
@@ -158,10 +158,11 @@ fn begin_all<N: Name, R: Wait + Abort>(
     flushes
 }
 
-fn begin<N: Name, R: Wait + Abort>(
+/// Begins a flush that is due.
+pub fn begin<N: Name, K: Kind, R: Wait + Abort>(
     rt: &R,
     alloc: Global,
-    desk: &Desk<N>,
+    desk: &Desk<N, K>,
     pass: &mut Pass<N>,
     now: u64,
 ) -> OwnTicket<N> {
@@ -237,7 +238,7 @@ impl<N: Name> Flush<N> {
 }
 
 /// Sends the notice of a flush, and records the report.
-fn send<N: Name, R: Wait + Abort>(
+pub fn send<N: Name, R: Wait + Abort>(
     rt: &R,
     own: OwnTicket<N>,
     outage: Option<&Outage>,
@@ -266,7 +267,7 @@ fn report<R: Wait + Abort>(rt: &R, notices: &[Notice], outage: Option<&Outage>, 
 }
 
 /// Finishes a flush whose notice was delivered.
-fn finish<N: Name, R: Wait + Abort>(
+pub fn finish<N: Name, R: Wait + Abort>(
     rt: &R,
     desk: &Desk<N>,
     pass: &mut Pass<N>,

@@ -10,7 +10,7 @@ use crate::times::written_routes;
 use crate::warnings::push_warnings;
 use crate::wrapped::read_configuration;
 use am_alerts::route::Routes;
-use am_command::exit_status::ExitStatus;
+use am_command_line::exit_status::ExitStatus;
 use am_console::console::{Console, Document, shown};
 use am_input::configured::{Configured, read_file};
 use am_input::form::{Form, alertmanager_in, form_of, has_configuration};

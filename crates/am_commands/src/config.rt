@@ -1,7 +1,14 @@
 //! Configurations that are read for themselves, whichever form a file has.
+ghost use Rattle.std.specs.Prelude.{◌≡◌, IfErr, IfOk, IsTrue, None};
+ghost use Rattle.serde_json.specs.View.{view};
+ghost use Rattle.am_commands.specs.ShownRoutes.{HasNoOwn};
+ghost use Rattle.am_console.specs.Complaints.{is_rejection};
+ghost use Rattle.am_input.specs.Clocks.{AreGiven};
+ghost use Rattle.am_input.specs.Configured.{IsConfigOf, form_in};
+
 use crate::system_zones::SystemZones;
 use crate::zones::missing_zones;
-use am_command::exit_status::ExitStatus;
+use am_command_line::exit_status::ExitStatus;
 use am_console::console::{Console, Document};
 use am_input::configured::{Configured, read_file};
 use am_input::form::{Form, form_of};
@@ -13,7 +20,12 @@ pub fn configured<R: Files + Eprint + AllocGlobal>(
     rt: &R,
     console: &Console,
     document: &Document<'_>,
-) -> Result<Configured, ExitStatus> {
+) -> Result<Configured, ExitStatus>
+    ensures decoded { IfOk result (λ configured.
+        IsConfigOf (AreGiven None) (form_in (view document.now.value)) (view document.now.value) configured.config) }
+    ensures rejected { IfErr result (λ status. status ≡ ExitStatus.Rejected → HasNoOwn (view document.now.value)) }
+    ensures complains { IfErr result (λ status. IsTrue (is_rejection status)) }
+{
     match read_file(rt.alloc(), &document.value, None) {
         Ok(configured) => {
             accept_zones(rt, console, document)?;
@@ -28,7 +40,10 @@ fn accept_zones<R: Files + Eprint + AllocGlobal>(
     rt: &R,
     console: &Console,
     document: &Document<'_>,
-) -> Result<(), ExitStatus> {
+) -> Result<(), ExitStatus>
+    ensures theirs { IfErr result (λ _. form_in (view document.now.value) ≡ Form.Alertmanager) }
+    ensures complains { IfErr result (λ status. IsTrue (is_rejection status)) }
+{
     if form_of(&document.value) != Form::Alertmanager {
         return Ok(());
     }

@@ -1,19 +1,22 @@
 //! What decides whether a story is accepted: `read_input`, for `check`, `play` and `compare` alike. The faults of one that isn't
 //! are all listed.
-ghost use Rattle.std.specs.Prelude.{◌≡◌, IfErr, IsTrue};
+ghost use Rattle.std.specs.Prelude.{◌≡◌, IfErr, IfOk, IsTrue, option_map};
+ghost use Rattle.serde_json.specs.View.{view};
+ghost use Rattle.am_commands.specs.Accepted.{IsAccepted, value_of};
 ghost use Rattle.am_console.specs.Complaints.{is_rejection};
 
 use crate::given::given_to;
 use crate::system_zones::SystemZones;
-use am_cli::faults::{Faults, Refusal};
-use am_command::exit_status::ExitStatus;
+use am_command_line::exit_status::ExitStatus;
 use am_console::console::{Console, Document};
 use am_input::faults::{ReceiversOf, story_faults};
 use am_input::input::{Changes, Input, Overrides, read_input};
+use am_json::faults::{Faults, Refusal};
+use serde_json::Value;
 use std::rt::Files;
 
-/// Reads a story under its own configuration, or under that of a file in its place. If it is refused, this complains of all of its
-/// faults, and the error is the status.
+/// Reads a story under its own configuration, or under that of a file in its place. What is returned is what the story asks for. If it
+/// is refused, this complains of all of its faults, and the error is the status.
 pub fn accept<R: Files + Eprint + AllocGlobal>(
     rt: &R,
     console: &Console,
@@ -21,16 +24,27 @@ pub fn accept<R: Files + Eprint + AllocGlobal>(
     config: Option<&Document<'_>>,
     overrides: Overrides,
 ) -> Result<Input, ExitStatus>
+    ensures accepted { IfOk result (IsAccepted (value_of config.entry) overrides (view story.now.value)) }
     ensures complains { IfErr result (λ status. IsTrue (is_rejection status)) }
 {
     let changes = Changes {
-        config: config.map(|document| &document.value),
+        config: value_of(config),
         overrides,
     };
     let mut files = SystemZones::new(rt);
     match read_input(rt.alloc(), &story.value, changes, &mut files) {
         Ok(input) => Ok(input),
         Err(refusal) => Err(complain_of_story(rt, console, story, config, overrides, refusal)),
+    }
+}
+
+/// Returns the value of a document, if there is one.
+fn value_of<'d>(document: Option<&'d Document<'_>>) -> Option<&'d Value>
+    ensures { option_map (λ value. view value.now) result ≡ value_of document.entry }
+{
+    match document {
+        None => None,
+        Some(document) => Some(&document.value),
     }
 }
 

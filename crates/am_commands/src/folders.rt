@@ -2,8 +2,8 @@
 ghost use Rattle.std.specs.Prelude.{◌≡◌, ◌+◌, ◌<◌, IfErr, IsTrue, OnOk, vec_len};
 ghost use Rattle.am_console.specs.Complaints.{is_complaint};
 
-use am_command::exit_status::ExitStatus;
-use am_command::request::STANDARD_INPUT;
+use am_command_line::exit_status::ExitStatus;
+use am_command_line::request::STANDARD_INPUT;
 use am_console::console::Console;
 use am_console::files::FileFault;
 use std::alloc::{AllocError, Global};

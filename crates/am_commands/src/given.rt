@@ -3,7 +3,7 @@ ghost use Rattle.std.specs.Prelude.{IfErr, IsTrue};
 ghost use Rattle.am_console.specs.Complaints.{is_rejection};
 
 use crate::system_zones::SystemZones;
-use am_command::exit_status::ExitStatus;
+use am_command_line::exit_status::ExitStatus;
 use am_console::console::{Console, Document};
 use am_input::configured::{Configured, configured_for};
 use am_input::input::Overrides;

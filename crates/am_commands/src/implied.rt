@@ -1,5 +1,6 @@
 //! Routes that no label set reaches, since their matchers exclude each other, or imply those of a route before them.
-use crate::tree::{push_matchers, route_positions};
+use crate::route_lines::push_matchers;
+use crate::tree::route_positions;
 use am_alerts::labels::{LabelFault, Labels};
 use am_alerts::matcher::{Matcher, Operator};
 use am_alerts::route::{Child, Routes};

@@ -1,5 +1,5 @@
 //! The names of `check`'s warnings, and which of them a file turns off.
-use am_command::spelling::Nearest;
+use am_command_line::spelling::Nearest;
 use std::alloc::{AllocError, Global};
 
 /// What a warning is about.

@@ -4,7 +4,7 @@ ghost use Rattle.am_console.specs.Complaints.{is_rejection};
 ghost use Rattle.am_console.specs.MatcherWords.{HasNoMatcher, IsMatcherOf, IsNoMatcher, WriteMatchers};
 
 use am_alerts::matcher::Matcher;
-use am_command::exit_status::ExitStatus;
+use am_command_line::exit_status::ExitStatus;
 use am_console::console::Console;
 use am_console::matcher_words::{matcher_of, words_for};
 

@@ -4,8 +4,8 @@ ghost use Rattle.am_console.specs.Complaints.{is_complaint, is_rejection};
 
 use crate::given::given_to;
 use crate::wrapped::read_configuration;
-use am_command::exit_status::ExitStatus;
-use am_command::request::STANDARD_INPUT;
+use am_command_line::exit_status::ExitStatus;
+use am_command_line::request::STANDARD_INPUT;
 use am_console::console::{Console, Document};
 use am_input::form::{Form, form_of, has_configuration};
 use am_input::input::Overrides;

@@ -1,14 +1,14 @@
 //! What the command line of `story` changes in an incident: external labels, and alerts that are left out.
 ghost use Rattle.std.specs.Prelude.{◌<◌, length};
 
+use crate::label_words::labels_of;
 use crate::matchers::matchers_of;
-use crate::routes::labels_of;
 use am_alerts::labels::{LabelFault, Labels};
 use am_alerts::matcher::Matcher;
-use am_command::exit_status::ExitStatus;
-use am_command::request::StoryRequest;
+use am_command_line::exit_status::ExitStatus;
+use am_command_line::request::StoryRequest;
 use am_console::console::Console;
-use am_story::incident::{Incident, SeenAlert};
+use am_incident::incident::{Incident, SeenAlert};
 use std::alloc::{AllocError, Global};
 use std::mem;
 

@@ -3,7 +3,7 @@ use crate::lint::{Lint, Warnings};
 use am_alerts::labels::{LabelFault, Labels};
 use am_alerts::matcher::{Matcher, MatcherFault, Operator};
 use am_alerts::route::{GroupBy, Route, Routes};
-use am_command::spelling::Nearest;
+use am_command_line::spelling::Nearest;
 use am_console::matcher_words::matcher_of;
 use serde_json::Value;
 use std::alloc::{AllocError, Global};

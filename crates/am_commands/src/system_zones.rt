@@ -1,9 +1,9 @@
 //! `SystemZones`: the files of time zones of the system.
 ghost use Rattle.std.specs.Prelude.{◌<◌};
 
-use am_cli::device::Source;
 use am_console::files::{FileFault, open};
 use am_input::zone_files::ZoneFiles;
+use am_json::device::Source;
 use std::alloc::AllocError;
 use std::rt::Files;
 

@@ -2,7 +2,7 @@
 use crate::implied::{Entry, Never, entries_of, never_reached};
 use crate::lint::{Lint, Warnings};
 use am_alerts::route::{Route, Routes};
-use am_command::durations::push_duration;
+use am_command_line::durations::push_duration;
 use am_model::config::Config;
 use serde_json::Value;
 use std::alloc::{AllocError, Global};

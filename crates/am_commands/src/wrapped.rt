@@ -3,9 +3,9 @@
 ghost use Rattle.std.specs.Prelude.{◌≡◌, IfErr, IsTrue};
 ghost use Rattle.am_console.specs.Complaints.{is_complaint, is_rejection};
 
-use am_command::exit_status::ExitStatus;
-use am_command::explain::FileShape;
-use am_command::request::FaultFormat;
+use am_command_line::exit_status::ExitStatus;
+use am_command_line::explain::FileShape;
+use am_command_line::request::FaultFormat;
 use am_console::console::{Console, Document, shown};
 use am_console::foreign::chart_config;
 use am_yaml::document::{DocumentFault, read_document};

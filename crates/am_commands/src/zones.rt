@@ -1,11 +1,11 @@
 //! The time zones that a configuration names, and which of them aren't there.
 use am_alerts::text::Text;
-use am_cli::fault::InputFault;
-use am_cli::faults::Faults;
-use am_cli::reader::Reader;
 use am_config::hours::{refuse_zones, zone_names};
 use am_hours::zone::Zone;
 use am_input::zone_files::ZoneFiles;
+use am_json::fault::InputFault;
+use am_json::faults::Faults;
+use am_json::reader::Reader;
 use serde_json::Value;
 use std::alloc::{AllocError, Global};
 

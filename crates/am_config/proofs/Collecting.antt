@@ -10,10 +10,10 @@ use Rattle.serde_json.specs.Find.{as_array, as_object}
 use Rattle.serde_json.specs.View.{items_view, members_view, view}
 use Rattle.serde_json.proofs.Views.{Entry}
 use Rattle.serde_json.specs.declared.value.Value.{Value}
-use Rattle.am_cli.proofs.Members.{decode_more, named_in}
-use Rattle.am_cli.specs.Decoding.{DecodeEach, IsList, IsObject}
-use Rattle.am_cli.specs.Read.{are_named, is_one_of}
-use Rattle.am_cli.specs.declared.faults.Fault.{Fault}
+use Rattle.am_json.proofs.Members.{decode_more, named_in}
+use Rattle.am_json.specs.Decoding.{DecodeEach, IsList, IsObject}
+use Rattle.am_json.specs.Read.{are_named, is_one_of}
+use Rattle.am_json.specs.declared.faults.Fault.{Fault}
 use Rattle.am_config.specs.Collects.{Collects, Grows}
 
 -- where there is a fault nothing is promised

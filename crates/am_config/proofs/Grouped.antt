@@ -12,8 +12,8 @@ use Rattle.am_alerts.proofs.LabelSets.{both_false}
 use Rattle.am_alerts.specs.Labels.{has_text_twice, occurs_in}
 use Rattle.am_alerts.specs.declared.route.GroupBy.{GroupBy}
 use Rattle.am_alerts.specs.declared.route.GroupBy.TheVariants.{All, Names}
-use Rattle.am_cli.specs.Decoding.{DecodeEach}
-use Rattle.am_cli.specs.declared.faults.Fault.{Fault}
+use Rattle.am_json.specs.Decoding.{DecodeEach}
+use Rattle.am_json.specs.declared.faults.Fault.{Fault}
 use Rattle.am_config.proofs.Collecting.{each_more}
 use Rattle.am_config.specs.Collects.{Collects}
 use Rattle.am_config.specs.Routes.{AreLabels, GroupsBy, are_all, is_all}

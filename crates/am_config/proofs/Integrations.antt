@@ -5,7 +5,7 @@ use Rattle.serde_json.specs.Data.{Members}
 use Rattle.am_model.specs.declared.config.Integration.{Integration}
 use Rattle.am_config.specs.Receivers.{HasList, HasLists, KindData, kind_in, kinds}
 use Rattle.am_settings.specs.declared.kinds.Kind.{Kind}
-use Rattle.am_cli.specs.declared.faults.Fault.{Fault}
+use Rattle.am_json.specs.declared.faults.Fault.{Fault}
 use Rattle.am_config.specs.Collects.{Collects}
 
 -- the list of one more kind

@@ -18,8 +18,8 @@ use Rattle.serde_json.specs.declared.value.Value.{Value}
 use Rattle.am_alerts.specs.Labels.{has_text_twice}
 use Rattle.am_alerts.specs.Spans.{is_muted}
 use Rattle.am_alerts.specs.declared.spans.Span.{Span}
-use Rattle.am_cli.proofs.Members.{decode_more}
-use Rattle.am_cli.specs.Decoding.{DecodeEach, IsList, IsObject}
+use Rattle.am_json.proofs.Members.{decode_more}
+use Rattle.am_json.specs.Decoding.{DecodeEach, IsList, IsObject}
 use Rattle.am_hours.specs.Muting.{is_muted_by_time}
 use Rattle.am_config.proofs.Grouped.{once_more}
 use Rattle.am_config.proofs.Timed.{and_false, same_text}

@@ -10,8 +10,8 @@ use Rattle.serde_json.specs.View.{items_view, members_view, view}
 use Rattle.serde_json.specs.declared.value.Value.{Value}
 use Rattle.am_alerts.specs.declared.matcher.MatcherParts.{MatcherParts}
 use Rattle.am_alerts.specs.declared.matcher.Operator.{Operator}
-use Rattle.am_cli.specs.Decoding.{IsObject}
-use Rattle.am_cli.specs.declared.faults.Fault.{Fault}
+use Rattle.am_json.specs.Decoding.{IsObject}
+use Rattle.am_json.specs.declared.faults.Fault.{Fault}
 use Rattle.am_config.specs.Collects.{Adds, Collects}
 use Rattle.am_config.specs.Matchers.{AreInArray, AreInText, AreInTexts, ArePairs, AreWritten, IsPair, IsTranslatedText}
 

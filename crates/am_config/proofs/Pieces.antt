@@ -2,7 +2,7 @@
 use Rattle.std.proofs.Common.{◌≡◌, ◌≢◌, ◌==◌, ◌<◌, ◌++◌, ◌∷◌, ◌∙◌, ℕ, zero, suc, Bool, true, false, List, [], length, cond, ap, refl, sym, append_assoc, arith}
 use Rattle.std.proofs.lemmas.Bool.{ne_eqb}
 use Rattle.std.proofs.lemmas.List.{append-nil}
-use Rattle.am_cli.specs.MatcherText.{Lacks}
+use Rattle.am_json.specs.MatcherText.{Lacks}
 use Rattle.am_config.specs.Matchers.{at_comma, pieces, quoting_after, quoting_behind, trimmed, with_front, without_first, without_last}
 use Rattle.am_config.specs.declared.matchers.Quoting.{Quoting}
 

@@ -11,8 +11,8 @@ use Rattle.am_alerts.specs.Forest.{Forest, bare}
 use Rattle.am_alerts.specs.Nested.{Branch, branch, forest}
 use Rattle.am_alerts.specs.declared.tree.Node.{Node}
 use Rattle.am_alerts.specs.declared.tree.RouteSpec.{RouteSpec}
-use Rattle.am_cli.specs.Decoding.{IsObject}
-use Rattle.am_cli.specs.declared.faults.Fault.{Fault}
+use Rattle.am_json.specs.Decoding.{IsObject}
+use Rattle.am_json.specs.declared.faults.Fault.{Fault}
 use Rattle.am_config.specs.Collects.{Collects}
 use Rattle.am_config.specs.Routes.{AreRoutes, HasBelow, HasNode, HasRoute, IsForest}
 use Rattle.am_config.specs.Times.{TimesData}

@@ -11,7 +11,7 @@ use Rattle.serde_json.specs.Data.{Data, Items, no_items, item}
 use Rattle.serde_json.specs.Find.{as_array}
 use Rattle.am_alerts.specs.Spans.{holds, is_muted}
 use Rattle.am_alerts.specs.declared.spans.Span.{Span}
-use Rattle.am_cli.specs.Decoding.{DecodeEach, IsList, IsObject}
+use Rattle.am_json.specs.Decoding.{DecodeEach, IsList, IsObject}
 use Rattle.jiff.specs.Types.{UTC}
 use Rattle.am_hours.specs.Pieces.{ClockData, contains_at}
 use Rattle.am_hours.specs.Zones.{OfJiff, ZoneData}

@@ -1,6 +1,6 @@
 -- How faults compose: where there is none in the end, there was none before.
 use Rattle.std.specs.Prelude.{◌≡◌, ◌++◌, List, []}
-use Rattle.am_cli.specs.declared.faults.Fault.{Fault}
+use Rattle.am_json.specs.declared.faults.Fault.{Fault}
 
 -- this holds, and there was no fault before, if there is none behind it
 abbrev pub Collects : List Fault → List Fault → Type 0 → Type 0

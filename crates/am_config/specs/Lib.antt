@@ -16,6 +16,8 @@ pub mod Times
 pub mod Made
 -- the indexes of definitions
 pub mod Indexes
+-- how long the log keeps an entry
+pub mod Retention
 -- the tree of routes
 pub mod Routes
 -- the tree of routes that was read

@@ -1,14 +1,15 @@
 -- The matchers of a route, or of one side of an inhibition rule, in each form that an `alertmanager.yml` has.
-use Rattle.std.specs.Prelude.{◌≡◌, ◌==◌, ◌&&◌, ◌++◌, ℕ, Bool, true, false, not, List, [], ◌∷◌, Option, Some, None, IsSomeAnd, codes, if◌then◌else◌}
+use Rattle.std.specs.Prelude.{◌≡◌, ◌==◌, ◌&&◌, ◌++◌, ℕ, Bool, true, false, not, List, [], ◌∷◌, Option, Some, None, IsSomeAnd, codes}
+use Rattle.std.specs.Prelude.{if◌then◌else◌}
 use Rattle.std.specs.Str.{trim}
 use Rattle.serde_json.specs.Data.{Data, Items, no_items, item, Members, no_members, member, null, boolean, number, string, array, object}
 use Rattle.serde_json.specs.Find.{as_array, as_str}
 use Rattle.am_alerts.specs.declared.matcher.MatcherParts.{MatcherParts}
 use Rattle.am_alerts.specs.declared.matcher.Operator.{Operator}
 use Rattle.am_alerts.specs.declared.matcher.Operator.TheVariants.{Equal, Like}
-use Rattle.am_cli.specs.Decoding.{IsObject}
-use Rattle.am_cli.specs.MatcherText.{IsMatcherText}
-use Rattle.am_cli.specs.Translated.{IsTranslatedFrom}
+use Rattle.am_json.specs.Decoding.{IsObject}
+use Rattle.am_json.specs.MatcherText.{IsMatcherText}
+use Rattle.am_json.specs.Translated.{IsTranslatedFrom}
 use Rattle.am_config.specs.Said.{SaysOr, text_in}
 use Rattle.am_config.specs.declared.matchers.MatcherMembers.{MatcherMembers}
 use Rattle.am_config.specs.declared.matchers.Quoting.{Quoting}

@@ -1,8 +1,8 @@
 -- The receivers of an `alertmanager.yml`, and what their integrations are.
 use Rattle.std.specs.Prelude.{◌≡◌, ◌≢◌, ◌++◌, List, [], ◌∷◌, ℕ, Bool, true, false, IsTrue, codes, map}
 use Rattle.serde_json.specs.Data.{Data, Members}
-use Rattle.am_cli.specs.Decoding.{HasOr, IsList, IsObject}
-use Rattle.am_cli.specs.Read.{are_named}
+use Rattle.am_json.specs.Decoding.{HasOr, IsList, IsObject}
+use Rattle.am_json.specs.Read.{are_named}
 use Rattle.am_model.specs.declared.config.Integration.{Integration}
 use Rattle.am_model.specs.declared.config.Receiver.{Receiver}
 use Rattle.am_settings.specs.declared.kinds.Kind.{Kind}

@@ -15,11 +15,11 @@ use Rattle.am_alerts.specs.declared.route.Route.{Route}
 use Rattle.am_alerts.specs.declared.tree.Node.{Node}
 use Rattle.am_alerts.specs.declared.tree.Options.{Options}
 use Rattle.am_alerts.specs.declared.tree.RouteSpec.{RouteSpec}
-use Rattle.am_cli.specs.Decoding.{DecodeEach, IsDuration, IsFlag, IsInterval, IsObject}
-use Rattle.am_cli.specs.Read.{are_named, number_in}
+use Rattle.am_json.specs.Decoding.{DecodeEach, IsDuration, IsFlag, IsInterval, IsObject}
+use Rattle.am_json.specs.Read.{are_named, number_in}
 use Rattle.am_config.specs.Matchers.{AreMatchers, MatcherFields}
 use Rattle.am_config.specs.Rules.{IsLabelName}
-use Rattle.am_config.specs.Said.{IsTextUnlessEmpty, Says, SaysOr, said}
+use Rattle.am_config.specs.Said.{IsTextUnlessEmpty, ListsNothing, Says, SaysOr, said}
 use Rattle.am_config.specs.Times.{HasMuted, HasTimes, TimesData}
 use Rattle.am_config.specs.declared.hours.Hours.{Hours}
 
@@ -114,8 +114,8 @@ default_route = record {
   repeat_interval = 14400000;
 }
 
--- the fields of the root decode to a tree: it names a receiver, has no matchers and no `continue`, and the routes below it inherit its
--- options
+-- the fields of the root decode to a tree: it names a receiver, has no matchers, no `continue` and no time intervals, and the routes
+-- below it inherit its options
 pub record HasTree (times : TimesData) (members : Members) (tree : RoutingTree) : Type 0 where
   pub known : IsTrue (are_named route_fields members)
   pub options : Options
@@ -123,6 +123,8 @@ pub record HasTree (times : TimesData) (members : Members) (tree : RoutingTree) 
   pub receiver : options.receiver ≢ None
   pub matchers : AreMatchers route_matchers members []
   pub continues : SaysOr IsFlag false (codes "continue") members false
+  pub mute : ListsNothing (codes "mute_time_intervals") members
+  pub active : ListsNothing (codes "active_time_intervals") members
   pub below : Forest RouteSpec
   pub routes : HasBelow times members below
   pub is : tree ≡ nested_of (settled_options default_route (codes "root") options) below

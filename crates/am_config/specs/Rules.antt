@@ -2,8 +2,8 @@
 use Rattle.std.specs.Prelude.{◌≡◌, List, [], ◌∷◌, ℕ, IsTrue, codes}
 use Rattle.serde_json.specs.Data.{Data, Members}
 use Rattle.am_alerts.specs.Labels.{is_label_name}
-use Rattle.am_cli.specs.Decoding.{IsList, IsObject, IsText}
-use Rattle.am_cli.specs.Read.{are_named}
+use Rattle.am_json.specs.Decoding.{IsList, IsObject, IsText}
+use Rattle.am_json.specs.Read.{are_named}
 use Rattle.am_mute.specs.Inhibit.{RuleData}
 use Rattle.am_config.specs.Matchers.{AreMatchers, MatcherFields}
 use Rattle.am_config.specs.Said.{SaysOr}

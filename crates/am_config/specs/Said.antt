@@ -2,8 +2,8 @@
 use Rattle.std.specs.Prelude.{◌≡◌, List, [], ◌∷◌, ℕ, Bool, false, Option, Some, None, IsSomeAnd, MatchOption, is_some, option_and_then}
 use Rattle.std.specs.Prelude.{option_map, if◌then◌else◌}
 use Rattle.std.specs.Fmt.{signed_decimal}
-use Rattle.serde_json.specs.Data.{Data, Members, null, boolean, number, string, array, object}
-use Rattle.serde_json.specs.Find.{as_bool, as_integer, as_null, get_member}
+use Rattle.serde_json.specs.Data.{Data, Members, no_items, null, boolean, number, string, array, object}
+use Rattle.serde_json.specs.Find.{as_array, as_bool, as_integer, as_null, get_member}
 
 -- the value of a member that says something: null says nothing
 abbrev pub said : List ℕ → Members → Option Data
@@ -20,6 +20,10 @@ SaysOr decodes_to absent name members x = MatchOption (said name members) (x ≡
 -- the member says something, and it decodes to this, or it says nothing, and there is none
 abbrev pub SaysIf : {X : Type 0} → (Data → X → Type 0) → List ℕ → Members → Option X → Type 0
 SaysIf decodes_to name members found = MatchOption (said name members) (found ≡ None) (λ value. IsSomeAnd found (decodes_to value))
+
+-- the member says nothing, or an array without items
+abbrev pub ListsNothing : List ℕ → Members → Type 0
+ListsNothing name members = MatchOption (said name members) (Unit {0}) (λ value. as_array value ≡ Some no_items)
 
 -- the text that a scalar is: a text itself, and an integer its digits
 abbrev pub text_in : Data → Option (List ℕ)

@@ -11,8 +11,8 @@ use Rattle.jiff.specs.Types.{TimeZone as JiffZone, UTC}
 use Rattle.am_alerts.specs.Labels.{has_text_twice}
 use Rattle.am_alerts.specs.Spans.{is_muted}
 use Rattle.am_alerts.specs.declared.spans.Span.{Span}
-use Rattle.am_cli.specs.Decoding.{IsList, IsObject}
-use Rattle.am_cli.specs.Read.{are_named}
+use Rattle.am_json.specs.Decoding.{IsList, IsObject}
+use Rattle.am_json.specs.Read.{are_named}
 use Rattle.am_hours.specs.Clocks.{IsPieceOf}
 use Rattle.am_hours.specs.Intervals.{IntervalData}
 use Rattle.am_hours.specs.Muting.{is_muted_by_time}

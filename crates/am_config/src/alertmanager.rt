@@ -2,8 +2,9 @@
 ghost use Rattle.std.specs.Prelude.{◌≡◌, [], IfErr, IfOk, IfSome, None};
 ghost use Rattle.std.specs.Option.{option_copied};
 ghost use Rattle.serde_json.specs.View.{view};
-ghost use Rattle.am_cli.specs.Faults.{HasFaults};
+ghost use Rattle.am_json.specs.Faults.{HasFaults};
 ghost use Rattle.am_config.specs.Receivers.{ReceiversAre};
+ghost use Rattle.am_config.specs.Retention.{log_retention};
 ghost use Rattle.am_config.specs.Routes.{RoutesAre, TimedRoutesAre};
 ghost use Rattle.am_config.specs.Rules.{RulesAre};
 ghost use Rattle.am_config.specs.Trees.{tree_in};
@@ -22,9 +23,9 @@ use crate::times::{INTERVALS, MUTE, Times};
 use am_alerts::route::Routes;
 use am_alerts::sequence::Sequence;
 use am_alerts::tree::TreeFault;
-use am_cli::fault::{FaultKind, InputFault};
-use am_cli::faults::{Faults, Refusal};
-use am_cli::reader::{Object, Reader};
+use am_json::fault::{FaultKind, InputFault};
+use am_json::faults::{Faults, Refusal};
+use am_json::reader::{Object, Reader};
 use am_model::config::{Config, Limits, Receiver, Receivers};
 use am_mute::inhibit::InhibitRule;
 use am_settings::settings::Part;
@@ -65,7 +66,7 @@ struct Parts {
 
 /// Reads Alertmanager's configuration. Where it can't be read exactly, or Alertmanager rejects it, all faults are
 /// answered, in the order of reading: unknown members, `global`, `tracing`, `templates`, the times, the routes from the root
-/// down, receivers and inhibition rules. Its limits are the greatest: the file says none.
+/// down, receivers and inhibition rules. Its limits are the greatest, and its log keeps an entry for 120 hours: the file says neither.
 ///
 /// Without `hours` time intervals are read, but no route is muted by them; `timed` says whether one
 /// would be. With it a location that isn't among its zones is refused, and clause `muted` says when
@@ -77,6 +78,7 @@ pub fn read_alertmanager(
 ) -> Result<Alertmanager, Refusal>
     ensures sound { IfOk result (λ read. config_fault read.config ≡ None) }
     ensures limits { IfOk result (λ read. read.config.limits ≡ greatest_limits) }
+    ensures retention { IfOk result (λ read. read.config.retention ≡ log_retention) }
     ensures routes { IfOk result (λ read. RoutesAre (view reader.now.value) read.config.routes) }
     ensures muted { IfOk result (λ read. TimedRoutesAre (option_copied hours.entry) (view reader.now.value) read.config.routes) }
     ensures receivers { IfOk result (λ read. ReceiversAre (view reader.now.value) read.config.receivers) }
@@ -176,6 +178,7 @@ fn finish(
 ) -> Result<Alertmanager, Refusal>
     ensures sound { IfOk result (λ read. config_fault read.config ≡ None) }
     ensures limits { IfOk result (λ read. read.config.limits ≡ greatest_limits) }
+    ensures retention { IfOk result (λ read. read.config.retention ≡ log_retention) }
     ensures routes { IfOk result (λ read. read.config.routes ≡ tree_in parts.tree) }
     ensures receivers { IfOk result (λ read. read.config.receivers ≡ parts.receivers.items) }
     ensures rules { IfOk result (λ read. read.config.rules ≡ parts.rules.items) }

@@ -2,12 +2,12 @@
 ghost use Rattle.std.specs.Prelude.{◌≡◌, IfOk, IsSome, IsTrue, OnOk, map};
 ghost use Rattle.std.specs.Result.{result_ok};
 ghost use Rattle.serde_json.specs.View.{members_view};
-ghost use Rattle.am_cli.specs.Read.{are_named};
+ghost use Rattle.am_json.specs.Read.{are_named};
 ghost use Rattle.am_config.specs.Collects.{Collects};
 
-use am_cli::fault::{FaultKind, InputFault};
-use am_cli::faults::Faults;
-use am_cli::reader::{Object, is_one_of};
+use am_json::fault::{FaultKind, InputFault};
+use am_json::faults::Faults;
+use am_json::reader::{Object, is_one_of};
 
 /// What was read; nothing where it is refused, and then its fault is kept.
 pub(crate) fn keep<T: Drop>(

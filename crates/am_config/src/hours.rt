@@ -8,11 +8,11 @@ ghost use Rattle.am_config.specs.declared.hours.TheConstants.{MAX_ZONES};
 
 use crate::times::{INTERVALS, LISTS, LOCAL, LOCATION};
 use am_alerts::text::Text;
-use am_cli::fault::{FaultKind, InputFault};
-use am_cli::faults::Faults;
-use am_cli::reader::Reader;
 use am_hours::clock::{Clock, ClockFault};
 use am_hours::zone::Zone;
+use am_json::fault::{FaultKind, InputFault};
+use am_json::faults::Faults;
+use am_json::reader::Reader;
 use jiff::Timestamp;
 use serde_json::{Map, Value};
 use std::alloc::Global;

@@ -1,7 +1,7 @@
 //! Inhibition rules of an `alertmanager.yml`.
 ghost use Rattle.std.specs.Prelude.{[], IfOk, IsSomeAnd, codes};
 ghost use Rattle.serde_json.specs.View.{members_view, view};
-ghost use Rattle.am_cli.specs.Decoding.{IsList, IsObject};
+ghost use Rattle.am_json.specs.Decoding.{IsList, IsObject};
 ghost use Rattle.am_config.specs.Collects.{Collects};
 ghost use Rattle.am_config.specs.Rules.{HasRule, HasRules, IsLabelName};
 ghost use Rattle.am_config.specs.Said.{SaysOr};
@@ -12,9 +12,9 @@ use crate::optional::{items_up_to, non_null};
 use am_alerts::labels::is_label_name;
 use am_alerts::limits::MAX_LABEL_NAMES;
 use am_alerts::text::Text;
-use am_cli::fault::{FaultKind, InputFault};
-use am_cli::faults::Faults;
-use am_cli::reader::{Object, Reader};
+use am_json::fault::{FaultKind, InputFault};
+use am_json::faults::Faults;
+use am_json::reader::{Object, Reader};
 use am_model::config::MAX_RULES;
 use am_mute::inhibit::InhibitRule;
 

@@ -1,7 +1,7 @@
 //! The intervals of a definition: the ranges of each list, and the clock of the location.
 ghost use Rattle.std.specs.Prelude.{◌≡◌, [], IfOk, IsSomeAnd, OnOk, codes, unwrap_or};
 ghost use Rattle.serde_json.specs.View.{members_view, view};
-ghost use Rattle.am_cli.specs.Decoding.{IsList, IsObject};
+ghost use Rattle.am_json.specs.Decoding.{IsList, IsObject};
 ghost use Rattle.am_hours.specs.Intervals.{items_of};
 ghost use Rattle.am_hours.specs.Reading.{days_of};
 ghost use Rattle.am_config.specs.Collects.{Collects};
@@ -15,13 +15,13 @@ use crate::optional::{items_up_to, non_null};
 use crate::scalar::{optional_text, required_text, text_of};
 use crate::times::{LOCAL, LOCATION};
 use am_alerts::text::Text;
-use am_cli::fault::{FaultKind, InputFault};
-use am_cli::faults::Faults;
-use am_cli::reader::{Object, Reader};
 use am_hours::interval::{DayRange, InclusiveRange, Interval, TimeRange};
 use am_hours::reading::{
     RangeFault, read_days, read_months, read_times, read_weekdays, read_years,
 };
+use am_json::fault::{FaultKind, InputFault};
+use am_json::faults::Faults;
+use am_json::reader::{Object, Reader};
 use serde_json::Value;
 
 /// The members of an interval.

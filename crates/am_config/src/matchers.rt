@@ -2,8 +2,8 @@
 ghost use Rattle.std.specs.Prelude.{◌≡◌, ◌++◌, ℕ, [], List, IfOk, IsTrue, OnOk, map, string_bytes};
 ghost use Rattle.serde_json.specs.View.{members_view, view};
 ghost use Rattle.am_alerts.specs.declared.matcher.Operator.{Operator};
-ghost use Rattle.am_cli.specs.Decoding.{IsObject};
-ghost use Rattle.am_cli.specs.Translated.{IsTranslated};
+ghost use Rattle.am_json.specs.Decoding.{IsObject};
+ghost use Rattle.am_json.specs.Translated.{IsTranslated};
 ghost use Rattle.am_config.specs.Collects.{Adds, Collects};
 ghost use Rattle.am_config.specs.Matchers.{AreInArray, AreInText, AreMatchers, ArePairs, IsPair, IsTranslatedText, at_comma, fields_of};
 ghost use Rattle.am_config.specs.Matchers.{matchers_in, unbraced, unless_empty, with_front, without_first};
@@ -16,11 +16,11 @@ use crate::scalar::matched_text_of;
 use am_alerts::limits::MAX_MATCHERS;
 use am_alerts::matcher::{Matcher, MatcherFault, MatcherParts, Operator};
 use am_alerts::text::Text;
-use am_cli::fault::{FaultKind, InputFault};
-use am_cli::faults::Faults;
-use am_cli::matcher_text::parts_of_text;
-use am_cli::reader::{Object, Reader};
-use am_cli::translated::translated_matcher;
+use am_json::fault::{FaultKind, InputFault};
+use am_json::faults::Faults;
+use am_json::matcher_text::parts_of_text;
+use am_json::reader::{Object, Reader};
+use am_json::translated::translated_matcher;
 use serde_json::Value;
 use std::alloc::{AllocError, Global};
 
@@ -251,7 +251,8 @@ fn end_piece(
     begun: &mut String,
     is_open: bool,
 ) -> Result<(), AllocError>
-    ensures { OnOk result ((next : List (List ℕ)) → map string_bytes ended.old.items ++ with_front (string_bytes begun.old) (at_comma is_open next)
+    ensures { OnOk result ((next : List (List ℕ))
+        → map string_bytes ended.old.items ++ with_front (string_bytes begun.old) (at_comma is_open next)
         ≡ map string_bytes ended.new.items ++ with_front (string_bytes begun.new) next) }
 {
     if is_open {

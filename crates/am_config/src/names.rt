@@ -3,8 +3,8 @@
 use crate::scalar::known_text;
 use crate::written::WrittenRoutes;
 use am_alerts::text::Text;
-use am_cli::fault::InputFault;
-use am_cli::reader::Object;
+use am_json::fault::InputFault;
+use am_json::reader::Object;
 use serde_json::Value;
 use std::alloc::{AllocError, Global};
 use std::collections::{BTreeMap, BTreeSet};

@@ -4,18 +4,18 @@ ghost use Rattle.std.specs.Result.{result_ok};
 ghost use Rattle.serde_json.specs.Find.{as_array, get_member};
 ghost use Rattle.serde_json.specs.View.{items_view, members_view, view};
 ghost use Rattle.am_alerts.specs.declared.matcher.Operator.{Operator};
-ghost use Rattle.am_cli.specs.Decoding.{IsFlag, IsObject};
-ghost use Rattle.am_cli.specs.Read.{number_in};
+ghost use Rattle.am_json.specs.Decoding.{IsFlag, IsObject};
+ghost use Rattle.am_json.specs.Read.{number_in};
 ghost use Rattle.am_config.specs.Collects.{Collects};
 ghost use Rattle.am_config.specs.Matchers.{AreInArray, ArePairs};
 ghost use Rattle.am_config.specs.Routes.{IsPeriod, IsWait};
-ghost use Rattle.am_config.specs.Said.{SaysOr, said};
+ghost use Rattle.am_config.specs.Said.{ListsNothing, SaysOr, said};
 
 use crate::collected::keep;
-use am_cli::duration::{duration, interval};
-use am_cli::fault::{FaultKind, InputFault};
-use am_cli::faults::Faults;
-use am_cli::reader::{Object, Reader};
+use am_json::duration::{duration, interval};
+use am_json::fault::{FaultKind, InputFault};
+use am_json::faults::Faults;
+use am_json::reader::{Object, Reader};
 use serde_json::Value;
 
 /// The value of a member that says something: `null` says nothing.
@@ -186,7 +186,8 @@ pub(crate) fn refuse_items(
     object: &Object<'_, '_>,
     name: &str,
 ) -> Result<(), InputFault>
-    ensures { OnOk result (Collects faults.old faults.new (SaysOr AreInArray [] name.now (members_view object.now.members) [])) }
+    ensures matchers { OnOk result (Collects faults.old faults.new (SaysOr AreInArray [] name.now (members_view object.now.members) [])) }
+    ensures nothing { OnOk result (Collects faults.old faults.new (ListsNothing name.now (members_view object.now.members))) }
 {
     let Some(member) = non_null(object, name) else {
         return Ok(());

@@ -19,9 +19,9 @@ use am_alerts::route::GroupBy;
 use am_alerts::sequence::Sequence;
 use am_alerts::text::Text;
 use am_alerts::tree::Options;
-use am_cli::fault::{FaultKind, InputFault};
-use am_cli::faults::Faults;
-use am_cli::reader::{Object, Reader};
+use am_json::fault::{FaultKind, InputFault};
+use am_json::faults::Faults;
+use am_json::reader::{Object, Reader};
 use serde_json::Value;
 
 /// The item of `group_by` that means all labels.

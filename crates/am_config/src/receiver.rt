@@ -1,7 +1,7 @@
 //! Receivers and their integrations.
 ghost use Rattle.std.specs.Prelude.{◌≡◌, ◌≢◌, [], IfOk, IsSomeAnd, OnOk, codes, map};
 ghost use Rattle.serde_json.specs.View.{members_view, view};
-ghost use Rattle.am_cli.specs.Decoding.{HasOr, IsObject};
+ghost use Rattle.am_json.specs.Decoding.{HasOr, IsObject};
 ghost use Rattle.am_config.specs.Collects.{Collects, Grows};
 ghost use Rattle.am_config.specs.Receivers.{HasIntegration, HasList, HasLists, HasReceiver, HasReceivers, kind_in, kinds};
 ghost use Rattle.am_config.specs.Said.{IsScalar, IsSet, Says};
@@ -13,9 +13,9 @@ use crate::scalar::required_text;
 use crate::settings::{Checking, keep_findings};
 use am_alerts::sequence::Sequence;
 use am_alerts::text::Text;
-use am_cli::fault::{FaultKind, InputFault};
-use am_cli::faults::Faults;
-use am_cli::reader::{Object, Reader};
+use am_json::fault::{FaultKind, InputFault};
+use am_json::faults::Faults;
+use am_json::reader::{Object, Reader};
 use am_model::config::{Integration, MAX_INTEGRATIONS, MAX_RECEIVERS, Receiver};
 use am_settings::kinds::{KINDS, Kind};
 use am_settings::settings::Part;

@@ -6,11 +6,11 @@
 ghost use Rattle.std.specs.Prelude.{◌≡◌, ◌≢◌, ◌<◌, [], IfOk, IsSomeAnd, IsTrue, None, OnOk, codes, false, length, unwrap_or};
 ghost use Rattle.serde_json.specs.View.{members_view, view};
 ghost use Rattle.am_alerts.specs.Nested.{forest, settled_options};
-ghost use Rattle.am_cli.specs.Decoding.{IsFlag, IsObject};
-ghost use Rattle.am_config.specs.Collects.{Collects, Grows};
+ghost use Rattle.am_json.specs.Decoding.{IsFlag, IsObject};
+ghost use Rattle.am_config.specs.Collects.{Collects};
 ghost use Rattle.am_config.specs.Matchers.{AreMatchers};
 ghost use Rattle.am_config.specs.Routes.{HasBelow, HasNode, HasRoute, HasRoutes, HasTree, default_route, route_matchers};
-ghost use Rattle.am_config.specs.Said.{SaysOr};
+ghost use Rattle.am_config.specs.Said.{ListsNothing, SaysOr};
 ghost use Rattle.am_config.specs.Trees.{tree_in};
 
 use crate::collected::{keep, only};
@@ -25,10 +25,10 @@ use am_alerts::route::{GroupBy, Route};
 use am_alerts::sequence::Sequence;
 use am_alerts::text::Text;
 use am_alerts::tree::{Node, Options, RouteSpec};
-use am_cli::default_waits::{GROUP_INTERVAL, GROUP_WAIT, REPEAT_INTERVAL};
-use am_cli::fault::{FaultKind, InputFault};
-use am_cli::faults::Faults;
-use am_cli::reader::{Object, Reader};
+use am_json::default_waits::{GROUP_INTERVAL, GROUP_WAIT, REPEAT_INTERVAL};
+use am_json::fault::{FaultKind, InputFault};
+use am_json::faults::Faults;
+use am_json::reader::{Object, Reader};
 use std::alloc::{AllocError, Global};
 use std::collections::BTreeSet;
 
@@ -240,7 +240,8 @@ fn refuse_continue(faults: &mut Faults, root: &Object<'_, '_>) -> Result<(), Inp
 
 /// Refuses times at which a root is muted, or active alone.
 fn refuse_times(faults: &mut Faults, root: &Object<'_, '_>) -> Result<(), InputFault>
-    ensures { OnOk result (Grows faults.old faults.new) }
+    ensures { OnOk result (Collects faults.old faults.new (ListsNothing (codes "mute_time_intervals") (members_view root.now.members)
+        × ListsNothing (codes "active_time_intervals") (members_view root.now.members))) }
 {
     refuse_items(faults, root, MUTE)?;
     refuse_items(faults, root, ACTIVE)

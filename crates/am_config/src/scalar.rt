@@ -14,9 +14,9 @@ ghost use Rattle.am_config.specs.Said.{IsScalar, IsTextUnlessEmpty, Says, SaysOr
 use crate::collected::keep;
 use crate::optional::{missing, said};
 use am_alerts::text::Text;
-use am_cli::fault::{FaultKind, InputFault};
-use am_cli::faults::Faults;
-use am_cli::reader::{Object, Reader};
+use am_json::fault::{FaultKind, InputFault};
+use am_json::faults::Faults;
+use am_json::reader::{Object, Reader};
 use serde_json::Value;
 use std::alloc::{AllocError, Global};
 

@@ -2,9 +2,9 @@
 ghost use Rattle.std.specs.Prelude.{OnOk};
 ghost use Rattle.am_config.specs.Collects.{Grows};
 
-use am_cli::fault::{FaultKind, InputFault};
-use am_cli::faults::Faults;
-use am_cli::reader::{Object, Reader};
+use am_json::fault::{FaultKind, InputFault};
+use am_json::faults::Faults;
+use am_json::reader::{Object, Reader};
 use am_settings::findings::{Finding, Rejection, findings_in};
 use am_settings::settings::{Part, wanted_in};
 use serde_json::{Map, Value};

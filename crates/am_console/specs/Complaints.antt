@@ -1,7 +1,7 @@
 -- Complaints: with which statuses a command ends that complains.
 use Rattle.std.specs.Prelude.{Bool, true, false}
-use Rattle.am_command.specs.declared.exit_status.ExitStatus.{ExitStatus}
-use Rattle.am_command.specs.declared.exit_status.ExitStatus.TheVariants as status
+use Rattle.am_command_line.specs.declared.exit_status.ExitStatus.{ExitStatus}
+use Rattle.am_command_line.specs.declared.exit_status.ExitStatus.TheVariants as status
 
 -- whether what a file or the command line says is rejected, or there was no memory to say so
 abbrev pub is_rejection : ExitStatus → Bool

@@ -2,9 +2,9 @@
 use Rattle.std.specs.Prelude.{ℕ, ◌⊎◌, IsTrue, List, [], ◌∷◌}
 use Rattle.am_alerts.specs.Matcher.{compares_texts}
 use Rattle.am_alerts.specs.declared.matcher.MatcherParts.{MatcherParts}
-use Rattle.am_cli.specs.Configured.{IsSound}
-use Rattle.am_cli.specs.MatcherText.{IsMatcherText}
-use Rattle.am_cli.specs.Translated.{IsTranslatedFrom}
+use Rattle.am_json.specs.Configured.{IsSound}
+use Rattle.am_json.specs.MatcherText.{IsMatcherText}
+use Rattle.am_json.specs.Translated.{IsTranslatedFrom}
 
 -- a text writes this matcher, with Go's syntax in its pattern
 abbrev pub IsMatcherOf : List ℕ → MatcherParts → Type 0

@@ -1,8 +1,12 @@
 -- Source: what is read from a source, and why nothing is.
-use Rattle.std.specs.Prelude.{◌≡◌, ℕ, ◌+◌, ◌++◌, List, codes}
+use Rattle.std.specs.Prelude.{◌≡◌, ℕ, ◌+◌, ◌++◌, List, codes, if◌then◌else◌}
+use Rattle.std.specs.Str.{bytes_eq}
 use Rattle.serde_json.specs.Data.{Data}
-use Rattle.am_cli.specs.declared.transfer.ReadFault.{ReadFault}
-use Rattle.am_cli.specs.declared.transfer.ReadFault.TheVariants as read
+use Rattle.am_json.specs.declared.transfer.ReadFault.{ReadFault}
+use Rattle.am_json.specs.declared.transfer.ReadFault.TheVariants as read
+use Rattle.am_console.specs.declared.files.FileFault.TheVariants as file
+use Rattle.am_console.specs.declared.files.Unread.{Unread}
+use Rattle.am_console.specs.declared.files.Unread.TheVariants as unread
 use Rattle.am_console.specs.declared.source.SourceFault.{SourceFault}
 use Rattle.am_console.specs.declared.source.SourceFault.TheVariants as source
 use Rattle.am_yaml.specs.Document.{IsNoJson, IsReadAs}
@@ -26,10 +30,31 @@ pub record IsReadFrom (given_before given text : List ℕ) (value : Data) : Type
   pub given_is : given ≡ given_before ++ text
   pub read_is : IsReadAs text value
 
+-- the name of a file as people see it
+abbrev pub shown_name : List ℕ → List ℕ
+shown_name path = if bytes_eq path (codes "-") then codes "<stdin>" else path
+
 -- a file is read as a text with this value. Standard input, whose path is `-`, gave that text
 pub record IsReadAt (path given_before given text : List ℕ) (value : Data) : Type 0 where
   pub read_is : IsReadAs text value
   pub given_is : path ≡ codes "-" → given ≡ given_before ++ text
+
+-- a file's text is no JSON. Standard input, whose path is `-`, gave that text
+pub record IsNoJsonAt (path given_before given : List ℕ) : Type 0 where
+  pub text : List ℕ
+  pub no_json : IsNoJson text
+  pub given_is : path ≡ codes "-" → given ≡ given_before ++ text
+
+-- a text without a value is a fault of the text, and another fault is the file's
+abbrev pub fault_of_source : SourceFault → Unread
+fault_of_source source.Unreadable = unread.File file.Unreadable
+fault_of_source (source.NotRead fault) = unread.Text fault
+fault_of_source source.NoMemory = unread.File file.NoMemory
+
+-- a text is the fault only where it is no JSON
+abbrev pub RefusesFile : List ℕ → List ℕ → List ℕ → Unread → Type 0
+RefusesFile path given_before given (unread.File fault) = Unit {0}
+RefusesFile path given_before given (unread.Text fault) = IsNoJsonAt path given_before given
 
 -- what it gave is a text to its end, which is no JSON
 pub record IsNotRead (given_before given : List ℕ) (ended_before ended : ℕ) : Type 0 where

@@ -3,8 +3,8 @@ use am_alerts::limits::{
     MAX_CHILDREN, MAX_DEPTH, MAX_LABEL_NAMES, MAX_MATCHERS, MAX_NAME_BYTES, MAX_ROUTES,
     MAX_VALUE_BYTES,
 };
-use am_cli::fault::FaultKind;
-use am_command::explain::{Bounds, Wrong};
+use am_command_line::explain::{Bounds, Wrong};
+use am_json::fault::FaultKind;
 use am_model::config::{MAX_INTEGRATIONS, MAX_RECEIVERS, MAX_RULES};
 use am_terms::rehearsal::MAX_UNTIL;
 

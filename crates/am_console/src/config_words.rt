@@ -1,5 +1,5 @@
 //! What is wrong with a route, a receiver or an alert, in words, where the pointer alone doesn't say which of several causes it is.
-use am_cli::fault::FaultKind;
+use am_json::fault::FaultKind;
 use serde_json::Value;
 use std::alloc::{AllocError, Global};
 
@@ -54,6 +54,10 @@ fn bad_value(
         ("route", "matchers" | "match" | "match_re", Some(_)) if is_root(top, above) => said(
             alloc,
             "the root route takes every alert, so it has no matchers; write them in a route below it",
+        ),
+        ("route", "continue", Some(_)) if is_root(top, above) => said(
+            alloc,
+            "the root route has no siblings, so it has no `continue`; leave it out",
         ),
         ("times", _, Some(Value::Object(_))) => over_midnight(alloc, value),
         _ => Ok(None),

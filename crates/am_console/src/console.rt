@@ -2,7 +2,7 @@
 ghost use Rattle.std.specs.Prelude.{◌≡◌, ◌≢◌, ◌<◌, ◌++◌, ◌↔◌, IfErr, IfOk, IsTrue};
 ghost use Rattle.serde_json.specs.View.{view};
 ghost use Rattle.am_console.specs.Complaints.{is_complaint, is_rejection};
-ghost use Rattle.am_console.specs.Source.{IsReadAt};
+ghost use Rattle.am_console.specs.Source.{IsNoJsonAt, IsReadAt, shown_name};
 
 use crate::bounds::{bounds, wrong_of};
 use crate::config_words::explain_config;
@@ -14,14 +14,14 @@ use crate::setting_words::explain_setting;
 use crate::source::SourceText;
 use crate::story_words::explain_story;
 use crate::time_words::explain_times;
-use am_cli::device::{Sink, Source, StandardInput};
-use am_cli::fault::{FaultKind, InputFault};
-use am_cli::faults::{Fault, Faults, Refusal};
-use am_cli::transfer::write_all;
-use am_command::complaint::Complaint;
-use am_command::exit_status::ExitStatus;
-use am_command::explain::{FileShape, Wrong, explain};
-use am_command::request::{FaultFormat, STANDARD_INPUT};
+use am_command_line::complaint::Complaint;
+use am_command_line::exit_status::ExitStatus;
+use am_command_line::explain::{FileShape, Wrong, explain};
+use am_command_line::request::{FaultFormat, STANDARD_INPUT};
+use am_json::device::{Sink, Source, StandardInput};
+use am_json::fault::{FaultKind, InputFault};
+use am_json::faults::{Fault, Faults, Refusal};
+use am_json::transfer::write_all;
 use am_yaml::document::DocumentFault;
 use am_yaml::fault::YamlFault;
 use am_yaml::locate::{Part, locate};
@@ -57,7 +57,9 @@ pub struct Document<'p> {
 }
 
 /// Returns the name of a file as people see it.
-pub fn shown(path: &str) -> &str {
+pub fn shown(path: &str) -> &str
+    ensures { result.now ≡ shown_name path.now }
+{
     if path == STANDARD_INPUT {
         "<stdin>"
     } else {
@@ -73,6 +75,7 @@ impl Console {
         ensures unwritable { (result ≡ ExitStatus.Unwritable) ↔ (⟦<PaintedOutput as Sink>⟧.failed self.old.output
             < ⟦<PaintedOutput as Sink>⟧.failed self.new.output) }
         ensures only { result ≢ ExitStatus.Done → result ≡ ExitStatus.Unwritable }
+        ensures unread { self.new.input ≡ self.old.input }
     {
         if write_all(&mut self.output, text.as_bytes()).is_ok() {
             return ExitStatus::Done;
@@ -89,6 +92,8 @@ impl Console {
     ) -> Result<Document<'p>, ExitStatus>
         ensures read { IfOk result (λ document. IsReadAt path.now (⟦<StandardInput as Source>⟧.given self.old.input)
             (⟦<StandardInput as Source>⟧.given self.new.input) document.text.items (view document.value)) }
+        ensures rejected { IfErr result (λ status. status ≡ ExitStatus.Rejected → IsNoJsonAt path.now
+            (⟦<StandardInput as Source>⟧.given self.old.input) (⟦<StandardInput as Source>⟧.given self.new.input)) }
         ensures complains { IfErr result (λ status. IsTrue (is_complaint status)) }
         ensures silent { self.new.output ≡ self.old.output }
     {
@@ -111,7 +116,8 @@ impl Console {
         path: &str,
         fault: FileFault,
     ) -> ExitStatus
-        ensures { IsTrue (is_complaint result) }
+        ensures complains { IsTrue (is_complaint result) }
+        ensures only { result ≢ ExitStatus.Rejected }
     {
         if fault == FileFault::NoMemory {
             return self.complain_of_memory(rt);
@@ -188,7 +194,8 @@ impl Console {
         document: &Document<'_>,
         refusal: Refusal,
     ) -> ExitStatus
-        ensures { IsTrue (is_rejection result) }
+        ensures complains { IsTrue (is_rejection result) }
+        ensures memory { refusal ≡ Refusal.One InputFault.NoMemory → result ≡ ExitStatus.NoMemory }
     {
         match refusal {
             Refusal::All(faults) => self.complain_of_faults(rt, document, &faults),

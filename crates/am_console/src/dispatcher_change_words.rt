@@ -1,6 +1,6 @@
 //! What is wrong with a reload or a restart of a story, in words.
 use am_alerts::duration::read_duration;
-use am_cli::fault::FaultKind;
+use am_json::fault::FaultKind;
 use am_plans::dispatcher_change::MAX_DISPATCHER_CHANGES;
 use serde_json::Value;
 use std::alloc::{AllocError, Global};

@@ -1,18 +1,18 @@
 //! Files that are read with their values, and the output in colors.
-ghost use Rattle.std.specs.Prelude.{◌≡◌, ◌≤◌, ◌+◌, ◌++◌, ◌==◌, false, length, IfOk, IsTrue, if◌then◌else◌};
+ghost use Rattle.std.specs.Prelude.{◌≡◌, ◌≢◌, ◌≤◌, ◌+◌, ◌++◌, ◌==◌, false, length, IfErr, IfOk, IsTrue, if◌then◌else◌};
 ghost use Rattle.std.specs.Result.{result_unwrap_or};
 ghost use Rattle.serde_json.specs.View.{view};
-ghost use Rattle.am_cli.specs.Bytes.{moved};
+ghost use Rattle.am_json.specs.Bytes.{moved};
 ghost use Rattle.am_console.specs.Complaints.{is_complaint};
-ghost use Rattle.am_console.specs.Source.{IsReadAt};
+ghost use Rattle.am_console.specs.Source.{IsReadAt, RefusesFile};
 
 use crate::source::{SourceFault, SourceText, read_source};
-use am_cli::device::{DeviceFault, Sink, Source, StandardInput, StandardOutput};
-use am_cli::io_trace::IoTrace;
-use am_cli::transfer::write_all;
-use am_command::exit_status::ExitStatus;
-use am_command::paint::painted;
-use am_command::request::STANDARD_INPUT;
+use am_command_line::exit_status::ExitStatus;
+use am_command_line::paint::painted;
+use am_command_line::request::STANDARD_INPUT;
+use am_json::device::{DeviceFault, Sink, Source, StandardInput, StandardOutput};
+use am_json::io_trace::IoTrace;
+use am_json::transfer::write_all;
 use am_yaml::document::DocumentFault;
 use std::alloc::Global;
 use std::fs;
@@ -40,6 +40,8 @@ pub struct PaintedOutput {
 pub enum FileFault {
     Missing,
     Denied,
+    /// The path is a folder's.
+    Folder,
     Unopened,
     /// A read failed, or the file has more than 64 MiB.
     Unreadable,
@@ -52,6 +54,7 @@ impl FileFault {
         match self {
             FileFault::Missing => "there is no such file",
             FileFault::Denied => "the file may not be read",
+            FileFault::Folder => "this is a folder; name a file in it",
             FileFault::Unopened => "the file can't be opened",
             FileFault::Unreadable => "not readable, or longer than 64 MiB",
             FileFault::NoMemory => "out of memory",
@@ -60,7 +63,8 @@ impl FileFault {
 
     /// Returns the status with which the program ends on the fault.
     pub fn status(self) -> ExitStatus
-        ensures { IsTrue (is_complaint result) }
+        ensures complains { IsTrue (is_complaint result) }
+        ensures only { result ≢ ExitStatus.Rejected }
     {
         match self {
             FileFault::NoMemory => ExitStatus::NoMemory,
@@ -78,12 +82,22 @@ pub enum Unread {
 }
 
 impl From<FileFault> for Unread {
+    ghost use Rattle.std.specs.Prelude.{◌≡◌};
+    ghost use Rattle.am_console.specs.declared.files.Unread.TheVariants.{File};
+
+    ghost from_gives = { λ fault unread. unread ≡ File fault };
+
     fn from(fault: FileFault) -> Unread {
         Unread::File { fault }
     }
 }
 
 impl From<SourceFault> for Unread {
+    ghost use Rattle.std.specs.Prelude.{◌≡◌};
+    ghost use Rattle.am_console.specs.Source.{fault_of_source};
+
+    ghost from_gives = { λ fault unread. unread ≡ fault_of_source fault };
+
     fn from(fault: SourceFault) -> Unread {
         match fault {
             SourceFault::Unreadable => Unread::from(FileFault::Unreadable),
@@ -96,6 +110,7 @@ impl From<SourceFault> for Unread {
 /// Opens a file.
 pub fn open<R: Files>(rt: &R, path: &str) -> Result<FileSource<R::File>, FileFault> {
     match fs::open(rt, path) {
+        Ok(_) if is_folder(rt, path) => Err(FileFault::Folder),
         Ok(file) => Ok(FileSource {
             file,
             io_trace: IoTrace::none(),
@@ -109,14 +124,24 @@ pub fn open<R: Files>(rt: &R, path: &str) -> Result<FileSource<R::File>, FileFau
     }
 }
 
+/// Returns whether a path is a folder's. One can be opened, and not read.
+fn is_folder<R: Files>(rt: &R, path: &str) -> bool {
+    match fs::metadata(rt, path) {
+        Ok(metadata) => metadata.is_dir(),
+        Err(_) => false,
+    }
+}
+
 /// Reads a whole file with its value, or standard input where the path is `-`.
 pub fn read<R: Files + AllocGlobal>(
     rt: &R,
     input: &mut StandardInput,
     path: &str,
 ) -> Result<SourceText, Unread>
-    ensures { IfOk result (λ source_text. IsReadAt path.now (⟦<StandardInput as Source>⟧.given input.old)
+    ensures read { IfOk result (λ source_text. IsReadAt path.now (⟦<StandardInput as Source>⟧.given input.old)
         (⟦<StandardInput as Source>⟧.given input.new) source_text.text.items (view source_text.value)) }
+    ensures refused { IfErr result (RefusesFile path.now (⟦<StandardInput as Source>⟧.given input.old)
+        (⟦<StandardInput as Source>⟧.given input.new)) }
 {
     if path == STANDARD_INPUT {
         return Ok(read_source(rt.alloc(), input)?);

@@ -1,5 +1,5 @@
 //! `Progress`: a line on standard error that counts simulated time while a long run goes on.
-use am_command::durations::push_duration;
+use am_command_line::durations::push_duration;
 use am_terms::watch::Watch;
 use std::time::Clock;
 

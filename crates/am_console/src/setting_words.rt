@@ -1,6 +1,6 @@
 //! What is wrong with the settings of `global` and of integrations, in words.
-use am_cli::fault::FaultKind;
-use am_command::spelling::Nearest;
+use am_command_line::spelling::Nearest;
+use am_json::fault::FaultKind;
 use am_settings::explained::reason_for;
 use am_settings::findings::{Reason, Rejection};
 use am_settings::settings::{Part, Rule, Wanted, row_of};

@@ -1,11 +1,11 @@
 //! A text that is read whole from a source, with its value.
 ghost use Rattle.std.specs.Prelude.{◌≡◌, ◌≤◌, ◌<◌, ◌+◌, ◌⊎◌, ◌↔◌, IfErr, IfOk, OnOk, length};
 ghost use Rattle.serde_json.specs.View.{view};
-ghost use Rattle.am_cli.specs.declared.transfer.TheConstants.{MAX_INPUT};
+ghost use Rattle.am_json.specs.declared.transfer.TheConstants.{MAX_INPUT};
 ghost use Rattle.am_console.specs.Source.{IsReadFrom, RefusesSource};
 
-use am_cli::device::Source;
-use am_cli::transfer::{MAX_INPUT, ReadFault, read_all};
+use am_json::device::Source;
+use am_json::transfer::{MAX_INPUT, ReadFault, read_all};
 use am_yaml::document::{DocumentFault, read_document};
 use serde_json::Value;
 use std::alloc::Global;

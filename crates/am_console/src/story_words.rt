@@ -1,7 +1,7 @@
 //! What is wrong with a story's expectations, in words.
 use am_alerts::duration::read_duration;
 use am_alerts::limits::MAX_MATCHERS;
-use am_cli::fault::{FaultKind, InputFault};
+use am_json::fault::{FaultKind, InputFault};
 use am_plans::causes::{Cause, cause_of_matchers, cause_of_set};
 use am_plans::expectation::MAX_EXPECTATIONS;
 use serde_json::Value;

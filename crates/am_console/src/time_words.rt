@@ -1,5 +1,5 @@
 //! What is wrong with a time interval, a zone or the start that these need, in words.
-use am_cli::fault::FaultKind;
+use am_json::fault::FaultKind;
 use jiff::Timestamp;
 use serde_json::Value;
 use std::alloc::{AllocError, Global};
@@ -15,7 +15,8 @@ pub fn explain_times(
     let text = top.pointer(pointer).and_then(Value::as_str);
     match (fault_kind, text) {
         (FaultKind::Missing, _) if pointer == "/start" => {
-            let words = "a route names time intervals, and they need the story's `start`";
+            let words =
+                "a route names time intervals, and they need the story's `start`; write start: 2026-11-23T08:00:00Z";
             Ok(Some(format!(in alloc; "{words}")?))
         }
         (FaultKind::Unsupported, Some(text)) if name == "location" => Ok(Some(format!(in alloc;

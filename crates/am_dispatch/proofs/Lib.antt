@@ -1,11 +1,3 @@
-pub mod Answering
-pub mod Inserting
-pub mod Leaving
-pub mod Making
-pub mod Names
-pub mod Opening
-pub mod Pieces
-pub mod Rising
-pub mod Rows
 pub mod Sending
 pub mod Serving
+pub mod Trails

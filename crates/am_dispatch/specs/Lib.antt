@@ -1,5 +1,2 @@
-pub mod Refusal
-pub mod Row
 pub mod Serve
-pub mod Session
-pub mod Ticket
+pub mod Trail

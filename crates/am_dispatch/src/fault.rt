@@ -1,6 +1,4 @@
 //! Why the program ends before its input does, and with which status.
-use am_cli::device::DeviceFault;
-use am_cli::transfer::Unwritable;
 use thiserror::Error;
 
 /// Why the program ends before its input does.
@@ -21,27 +19,5 @@ impl ServeFault {
             ServeFault::Unreadable => 1,
             ServeFault::Unwritable => 4,
         }
-    }
-}
-
-impl From<DeviceFault> for ServeFault {
-    ghost use Rattle.std.specs.Prelude.{◌≡◌};
-    ghost use Rattle.am_dispatch.specs.declared.fault.ServeFault.TheVariants as serve_fault;
-
-    ghost from_gives = { λ _ given. given ≡ serve_fault.Unreadable };
-
-    fn from(_fault: DeviceFault) -> ServeFault {
-        ServeFault::Unreadable
-    }
-}
-
-impl From<Unwritable> for ServeFault {
-    ghost use Rattle.std.specs.Prelude.{◌≡◌};
-    ghost use Rattle.am_dispatch.specs.declared.fault.ServeFault.TheVariants as serve_fault;
-
-    ghost from_gives = { λ _ given. given ≡ serve_fault.Unwritable };
-
-    fn from(_fault: Unwritable) -> ServeFault {
-        ServeFault::Unwritable
     }
 }

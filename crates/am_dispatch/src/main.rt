@@ -5,24 +5,20 @@
 //! thread and no clock: times are in the lines. It draws a seed for the hashes of its boards at its start. Its only arguments
 //! are `--help` and `--version`.
 //!
-//! - `arguments` has the command line. `serve` reads lines and writes answers. `session` has the board and the tickets of its
-//!   open flushes, and makes the calls.
-//! - `ticket` records reports and writes what is open, `row` has the rows of the log that are loaded. `fault` has the statuses
-//!   with which the program ends.
+//! - `arguments` has the command line. `serve` reads lines and writes answers, which `am_session` makes. `peer` is who writes the
+//!   lines and reads the answers, `event` what happens between both. `fault` has the statuses with which the program ends.
 #![tactic(auto)]
 
 mod arguments;
+mod event;
 mod fault;
-mod route_names;
-mod row;
+mod peer;
 mod serve;
-mod session;
-mod ticket;
 
-use am_cli::device::{StandardInput, StandardOutput};
 use am_seed::Seed;
 use arguments::read_arguments;
 use clap::error::ErrorKind;
+use peer::StandardPeer;
 use serve::serve;
 use std::process::ExitCode;
 use std::{env, io};
@@ -77,9 +73,8 @@ fn serve_lines(rt: &HostRuntime) -> u8 {
         let _ = eprintln!(rt; "am-dispatch: no random numbers");
         return NO_RANDOM_NUMBERS;
     };
-    let mut input = StandardInput::new(rt.stdin());
-    let mut output = StandardOutput::new(rt.stdout());
-    match serve(rt.alloc(), seed, &mut input, &mut output) {
+    let mut peer = StandardPeer::new(rt.stdin(), rt.stdout());
+    match serve(rt.alloc(), seed, &mut peer) {
         Ok(()) => 0,
         Err(fault) => {
             let _ = eprintln!(rt; "am-dispatch: {fault}");

@@ -6,10 +6,12 @@ use Rattle.std.specs.Option.{option_map_or, option_or}
 use Rattle.std.specs.Prelude.{IsSomeAnd}
 use Rattle.serde_json.specs.Data.{Data, Members}
 use Rattle.serde_json.specs.Find.{as_object, get_member}
-use Rattle.am_cli.proofs.Once.{one_parts, one_there_with}
-use Rattle.am_cli.specs.Configured.{DecodesToConfig, config_compares_texts}
-use Rattle.am_cli.specs.Decoding.{Has, HasNone}
-use Rattle.am_cli.specs.declared.reader.Mode.{Mode}
+use Rattle.am_json.proofs.Once.{one_parts, one_there_with}
+use Rattle.am_json.specs.Configured.{DecodesToConfig, config_compares_texts}
+use Rattle.am_json.specs.Decoding.{Has, HasNone}
+use Rattle.am_json.specs.declared.reader.Mode.{Mode}
+use Rattle.am_config.specs.declared.hours.Hours.{Hours}
+use Rattle.am_input.specs.Clocks.{AreClocksOf}
 use Rattle.am_input.specs.Configured.{IsConfigIn, IsReadOfTheirs, DecodesPlainly}
 use Rattle.am_input.specs.DispatcherChanges.{AreDispatcherChangesIn, AreDispatcherChangesWithoutRegexes, AreDecodedBy, IsConfigAt, DecodesAt, is_ours, last_reload}
 use Rattle.am_model.specs.declared.config.Config.{Config}
@@ -89,21 +91,21 @@ none_is : (o : Option Data) → is_none o ≡ true → o ≡ None
 none_is None is = refl
 none_is (Some v) is = absurd (cc)
 
-own_in : (mode : Mode) (members : Members) (config : Config) → get_member (codes "alertmanager") members ≡ None → IsConfigIn mode members config
+own_in : (Clocks : Option Hours → Type 0) (mode : Mode) (members : Members) (config : Config) → get_member (codes "alertmanager") members ≡ None → IsConfigIn Clocks mode members config
     → Has (DecodesToConfig mode) (codes "config") members config
-own_in mode members config none decoded =
-    found_none (Has (DecodesToConfig mode) (codes "config") members config) (λ value. HasNone (codes "config") members × IsReadOfTheirs value config)
+own_in Clocks mode members config none decoded =
+    found_none (Has (DecodesToConfig mode) (codes "config") members config) (λ value. HasNone (codes "config") members × IsReadOfTheirs Clocks value config)
     (get_member (codes "alertmanager") members) (sym none) decoded
 
-pub decodes_at : (mode : Mode) (members : Members) (reload : Option Data) (config : Config) → get_member (codes "alertmanager") members ≡ None
-    → is_ours reload ≡ true → IsConfigAt None mode members reload config → config_compares_texts config ≡ true → DecodesAt mode members reload config
-decodes_at mode ms None config none mine decoded plain = (own_in mode ms config none decoded, plain)
-decodes_at mode ms (Some reload) config none mine decoded plain = by (as_object reload) mine decoded
+pub decodes_at : (Clocks : Option Hours → Type 0) (mode : Mode) (members : Members) (reload : Option Data) (config : Config) → get_member (codes "alertmanager") members ≡ None
+    → is_ours reload ≡ true → IsConfigAt Clocks None mode members reload config → config_compares_texts config ≡ true → DecodesAt mode members reload config
+decodes_at Clocks mode ms None config none mine decoded plain = (own_in Clocks mode ms config none decoded, plain)
+decodes_at Clocks mode ms (Some reload) config none mine decoded plain = by (as_object reload) mine decoded
   where
     by : (o : Option Members) → option_map_or (λ fields. is_none (get_member (codes "alertmanager") fields)) o true ≡ true
-        → IsSomeAnd o (λ fields. IsConfigIn mode fields config) → IsSomeAnd o (λ fields. DecodesPlainly mode fields config)
+        → IsSomeAnd o (λ fields. IsConfigIn Clocks mode fields config) → IsSomeAnd o (λ fields. DecodesPlainly mode fields config)
     by None mine decoded = decoded
-    by (Some fields) mine decoded = (own_in mode fields config (none_is (get_member (codes "alertmanager") fields) mine) decoded, plain)
+    by (Some fields) mine decoded = (own_in Clocks mode fields config (none_is (get_member (codes "alertmanager") fields) mine) decoded, plain)
 
 pub one_own : (mode : Mode) (members : Members) (c k : Config) → config_compares_texts c ≡ true → Has (DecodesToConfig mode) (codes "config") members c
     → Has (DecodesToConfig mode) (codes "config") members k → c ≡ k
@@ -112,37 +114,37 @@ one_own mode members c k plain is also =
     (get_member (codes "config") members) c k plain is also
 
 -- one is given at most that needs no regex
-pub one_at : (mode : Mode) (members : Members) (reload : Option Data) (c k : Config) → get_member (codes "alertmanager") members ≡ None
-    → is_ours reload ≡ true → config_compares_texts c ≡ true → IsConfigAt None mode members reload c → IsConfigAt None mode members reload k → c ≡ k
-one_at mode ms None c k none mine plain is also = one_own mode ms c k plain (own_in mode ms c none is) (own_in mode ms k none also)
-one_at mode ms (Some reload) c k none mine plain is also = by (as_object reload) mine is also
+pub one_at : (Clocks : Option Hours → Type 0) (mode : Mode) (members : Members) (reload : Option Data) (c k : Config) → get_member (codes "alertmanager") members ≡ None
+    → is_ours reload ≡ true → config_compares_texts c ≡ true → IsConfigAt Clocks None mode members reload c → IsConfigAt Clocks None mode members reload k → c ≡ k
+one_at Clocks mode ms None c k none mine plain is also = one_own mode ms c k plain (own_in Clocks mode ms c none is) (own_in Clocks mode ms k none also)
+one_at Clocks mode ms (Some reload) c k none mine plain is also = by (as_object reload) mine is also
   where
     by : (o : Option Members) → option_map_or (λ fields. is_none (get_member (codes "alertmanager") fields)) o true ≡ true
-        → IsSomeAnd o (λ fields. IsConfigIn mode fields c) → IsSomeAnd o (λ fields. IsConfigIn mode fields k) → c ≡ k
+        → IsSomeAnd o (λ fields. IsConfigIn Clocks mode fields c) → IsSomeAnd o (λ fields. IsConfigIn Clocks mode fields k) → c ≡ k
     by None mine is also = absurd is
     by (Some fields) mine is also =
         let none = none_is (get_member (codes "alertmanager") fields) mine in
-        one_own mode fields c k plain (own_in mode fields c none is) (own_in mode fields k none also)
+        one_own mode fields c k plain (own_in Clocks mode fields c none is) (own_in Clocks mode fields k none also)
 
 -- ---- one list of changes of the dispatcher
 
-one_decoded : (mode : Mode) (members : Members) (before : Option Data) (items : List ItemData) (hs ks : List DispatcherChange)
+one_decoded : (Clocks : Option Hours → Type 0) (mode : Mode) (members : Members) (before : Option Data) (items : List ItemData) (hs ks : List DispatcherChange)
     → get_member (codes "alertmanager") members ≡ None → is_ours before ≡ true → list_all (λ (i : ItemData). is_ours i.reload) items ≡ true
     → list_all (λ (h : DispatcherChange). config_compares_texts h.config) hs ≡ true
-    → AreDecodedBy (IsConfigAt None mode members) before items hs → AreDecodedBy (IsConfigAt None mode members) before items ks → hs ≡ ks
-one_decoded mode ms before [] [] [] none mine ours plain is also = refl
-one_decoded mode ms before [] [] (k ∷ ks) none mine ours plain is also = absurd also
-one_decoded mode ms before [] (h ∷ hs) ks none mine ours plain is also = absurd is
-one_decoded mode ms before (x ∷ xs) [] ks none mine ours plain is also = absurd is
-one_decoded mode ms before (x ∷ xs) (h ∷ hs) [] none mine ours plain is also = absurd also
-one_decoded mode ms before (x ∷ xs) (h ∷ hs) (k ∷ ks) none mine ours plain is also =
+    → AreDecodedBy (IsConfigAt Clocks None mode members) before items hs → AreDecodedBy (IsConfigAt Clocks None mode members) before items ks → hs ≡ ks
+one_decoded Clocks mode ms before [] [] [] none mine ours plain is also = refl
+one_decoded Clocks mode ms before [] [] (k ∷ ks) none mine ours plain is also = absurd also
+one_decoded Clocks mode ms before [] (h ∷ hs) ks none mine ours plain is also = absurd is
+one_decoded Clocks mode ms before (x ∷ xs) [] ks none mine ours plain is also = absurd is
+one_decoded Clocks mode ms before (x ∷ xs) (h ∷ hs) [] none mine ours plain is also = absurd also
+one_decoded Clocks mode ms before (x ∷ xs) (h ∷ hs) (k ∷ ks) none mine ours plain is also =
     let plains = and_parts (config_compares_texts h.config) (list_all (λ (d : DispatcherChange). config_compares_texts d.config) hs) plain in
     let parts = and_parts (is_ours x.reload) (list_all (λ (i : ItemData). is_ours i.reload) xs) ours in
     let own = ours_last before x mine parts.0 in
     let at : h.at ≡ k.at = is.0 ∙ sym also.0 in
     let carryover : h.carryover ≡ k.carryover = is.1 ∙ sym also.1 in
-    let config : h.config ≡ k.config = one_at mode ms (last_reload before x) h.config k.config none own plains.0 is.2 also.2 in
-    let rest = one_decoded mode ms (last_reload before x) xs hs ks none own parts.1 plains.1 is.3 also.3 in
+    let config : h.config ≡ k.config = one_at Clocks mode ms (last_reload before x) h.config k.config none own plains.0 is.2 also.2 in
+    let rest = one_decoded Clocks mode ms (last_reload before x) xs hs ks none own parts.1 plains.1 is.3 also.3 in
     λ i. record { at = at i; config = config i; carryover = carryover i } ∷ rest i
 
 -- what is given of a list that has no reload of Alertmanager's configuration is the one list that is given
@@ -151,8 +153,9 @@ pub one_list : (mode : Mode) (file : Option Data) (until : ℕ) (members : Membe
     → hs ≡ ks
 one_list mode file until members hs ks own none decoded read =
     let same = one_items mode until members decoded.decoded.items read.items decoded.decoded.items_are read.items_are in
-    let Of = λ (f : Option Data) (items : List ItemData) (l : List DispatcherChange). AreDecodedBy (IsConfigAt f mode members) None items l in
-    one_decoded mode members None read.items hs ks none refl
+    let Clocks = AreClocksOf until members in
+    let Of = λ (f : Option Data) (items : List ItemData) (l : List DispatcherChange). AreDecodedBy (IsConfigAt Clocks f mode members) None items l in
+    one_decoded Clocks mode members None read.items hs ks none refl
     (subst (λ (items : List ItemData). list_all (λ (i : ItemData). is_ours i.reload) items ≡ true) same decoded.ours) decoded.plain
     (subst (λ (f : Option Data). Of f read.items hs) own (subst (λ (items : List ItemData). Of file items hs) same decoded.decoded.are))
     (subst (λ (f : Option Data). Of f read.items ks) own read.are)
@@ -169,6 +172,6 @@ none_by IsAt IsAlso before (x ∷ xs) hs is also = absurd is
 pub none_decoded : (mode : Mode) (file : Option Data) (until : ℕ) (members : Members) (hs : List DispatcherChange) → AreDispatcherChangesIn mode file until members []
     → AreDispatcherChangesIn mode file until members hs → hs ≡ []
 none_decoded mode file until members hs is also =
-    let IsAt = IsConfigAt file mode members in
+    let IsAt = IsConfigAt (AreClocksOf until members) file mode members in
     let same = one_items mode until members is.items also.items is.items_are also.items_are in
     none_by IsAt IsAt None also.items hs (subst (λ (items : List ItemData). AreDecodedBy IsAt None items []) same is.are) also.are

@@ -8,3 +8,5 @@ pub mod Listed
 pub mod Starts
 -- what items say of changes of the dispatcher
 pub mod DecodedDispatcherChanges
+-- configurations by their clocks
+pub mod Clocked

@@ -5,11 +5,11 @@ use Rattle.std.specs.List.{flat_map, list_all}
 use Rattle.serde_json.specs.Data.{Data, Items, no_items, item, Members}
 use Rattle.serde_json.specs.Find.{as_array, as_object, get_member}
 use Rattle.am_alerts.specs.Matcher.{compare_texts}
-use Rattle.am_cli.proofs.Once.{one_list, one_matcher_list, one_or, one_read, one_there, one_there_with}
-use Rattle.am_cli.specs.Configured.{DecodesToLabels, DecodesToMatcher}
-use Rattle.am_cli.specs.Decoding.{DecodeEach, HasOr, IsDuration, IsList}
-use Rattle.am_cli.specs.Read.{duration_in}
-use Rattle.am_cli.specs.declared.reader.Mode.{Mode}
+use Rattle.am_json.proofs.Once.{one_list, one_matcher_list, one_or, one_read, one_there, one_there_with}
+use Rattle.am_json.specs.Configured.{DecodesToLabels, DecodesToMatcher}
+use Rattle.am_json.specs.Decoding.{DecodeEach, HasOr, IsDuration, IsList}
+use Rattle.am_json.specs.Read.{duration_in}
+use Rattle.am_json.specs.declared.reader.Mode.{Mode}
 use Rattle.am_model.specs.Lists.{in_order}
 use Rattle.am_plans.proofs.LabelSets.{one_labels}
 use Rattle.am_plans.proofs.Spans.{one_span, one_span_of}

@@ -2,11 +2,11 @@
 use Rattle.std.proofs.Common.{◌≡◌, Result, Ok, Err, ap, subst, sym}
 use Rattle.std.specs.Prelude.{IfErr}
 use Rattle.std.specs.Result.{IsErrAnd}
-use Rattle.am_cli.specs.Read.{Excludes, is_refusal}
-use Rattle.am_cli.specs.declared.fault.InputFault.{InputFault}
-use Rattle.am_cli.specs.declared.fault.InputFault.TheVariants.{NoMemory}
-use Rattle.am_cli.specs.declared.faults.Refusal.{Refusal}
-use Rattle.am_cli.specs.declared.faults.Refusal.TheVariants.{One, All}
+use Rattle.am_json.specs.Read.{Excludes, is_refusal}
+use Rattle.am_json.specs.declared.fault.InputFault.{InputFault}
+use Rattle.am_json.specs.declared.fault.InputFault.TheVariants.{NoMemory}
+use Rattle.am_json.specs.declared.faults.Refusal.{Refusal}
+use Rattle.am_json.specs.declared.faults.Refusal.TheVariants.{One, All}
 use Rattle.am_input.specs.Request.{RefusesAll}
 
 -- one that is handed on excludes what it excluded, of what says no less

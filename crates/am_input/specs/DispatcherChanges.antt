@@ -4,21 +4,23 @@ use Rattle.std.specs.List.{list_all}
 use Rattle.std.specs.Option.{option_map_or, option_or}
 use Rattle.serde_json.specs.Data.{Data, Members}
 use Rattle.serde_json.specs.Find.{as_object, get_member}
-use Rattle.am_cli.specs.Configured.{config_compares_texts}
-use Rattle.am_cli.specs.declared.reader.Mode.{Mode}
+use Rattle.am_json.specs.Configured.{config_compares_texts}
+use Rattle.am_json.specs.declared.reader.Mode.{Mode}
+use Rattle.am_config.specs.declared.hours.Hours.{Hours}
+use Rattle.am_input.specs.Clocks.{AreClocksOf}
 use Rattle.am_input.specs.Configured.{IsConfigFor, IsConfigIn, DecodesPlainly}
 use Rattle.am_model.specs.declared.config.Config.{Config}
 use Rattle.am_plans.specs.DispatcherChange.{AreItemsIn, ItemData}
 use Rattle.am_terms.specs.declared.dispatcher_change.DispatcherChange.{DispatcherChange}
 
 -- a reload decodes to a configuration, as a story does
-abbrev pub ReloadDecodesTo : Mode → Data → Config → Type 0
-ReloadDecodesTo mode reload config = IsSomeAnd (as_object reload) (λ fields. IsConfigIn mode fields config)
+abbrev pub ReloadDecodesTo : (Option Hours → Type 0) → Mode → Data → Config → Type 0
+ReloadDecodesTo Clocks mode reload config = IsSomeAnd (as_object reload) (λ fields. IsConfigIn Clocks mode fields config)
 
 -- the configuration from a reload on: the reload's own. Without a reload: the story's, or that of a file in its place
-abbrev pub IsConfigAt : Option Data → Mode → Members → Option Data → Config → Type 0
-IsConfigAt file mode ms None config = IsConfigFor file mode ms config
-IsConfigAt file mode ms (Some reload) config = ReloadDecodesTo mode reload config
+abbrev pub IsConfigAt : (Option Hours → Type 0) → Option Data → Mode → Members → Option Data → Config → Type 0
+IsConfigAt Clocks file mode ms None config = IsConfigFor Clocks file mode ms config
+IsConfigAt Clocks file mode ms (Some reload) config = ReloadDecodesTo Clocks mode reload config
 
 -- the last reload up to an item: the item itself, if it is one, or else the last before it
 abbrev pub last_reload : Option Data → ItemData → Option Data
@@ -35,12 +37,12 @@ AreDecodedBy IsAt before (item ∷ items) (h ∷ hs) =
     × AreDecodedBy IsAt (last_reload before item) items hs
 
 -- the reloads and restarts that the members of a story say, in the order of their times; the story ends at `until`, and `file` is what
--- is in place of its own configuration
+-- is in place of its own configuration. All configurations have the story's clocks
 pub record AreDispatcherChangesIn (mode : Mode) (file : Option Data) (until : ℕ) (members : Members)
     (dispatcher_changes : List DispatcherChange) : Type 0 where
   pub items : List ItemData
   pub items_are : AreItemsIn mode until members items
-  pub are : AreDecodedBy (IsConfigAt file mode members) None items dispatcher_changes
+  pub are : AreDecodedBy (IsConfigAt (AreClocksOf until members) file mode members) None items dispatcher_changes
 
 -- whether a reload, if there is one, has a configuration of our own
 abbrev pub is_ours : Option Data → Bool

@@ -6,3 +6,5 @@ pub mod DispatcherChanges
 pub mod Configured
 -- the time zones that a story says
 pub mod Zones
+-- the clocks of its time intervals
+pub mod Clocks

@@ -1,19 +1,20 @@
 -- Request: what a rehearsal asks for.
-use Rattle.std.specs.Prelude.{◌≡◌, ℕ, List, [], ◌∷◌, codes, Option, Some, None, IsSomeAnd, IsTrue, if◌then◌else◌}
+use Rattle.std.specs.Prelude.{◌≡◌, ℕ, List, [], codes, Option, Some, None, IsSomeAnd, IsTrue, if◌then◌else◌}
 use Rattle.std.specs.Option.{option_and_then}
 use Rattle.std.specs.Str.{bytes_eq}
 use Rattle.serde_json.specs.Data.{Data, Members}
 use Rattle.serde_json.specs.Find.{as_object, as_str, get_member}
-use Rattle.am_cli.specs.Configured.{config_compares_texts}
-use Rattle.am_cli.specs.Read.{Excludes, has_only, interval_in}
-use Rattle.am_cli.specs.Decoding.{IsList, HasNone, HasOr}
-use Rattle.am_cli.specs.declared.faults.Refusal.{Refusal}
-use Rattle.am_cli.specs.declared.faults.Refusal.TheVariants.{One, All}
-use Rattle.am_cli.specs.declared.reader.Mode.{Mode}
-use Rattle.am_cli.specs.declared.reader.Mode.TheVariants.{Strict}
+use Rattle.am_json.specs.Configured.{config_compares_texts}
+use Rattle.am_json.specs.Read.{Excludes, has_only, interval_in}
+use Rattle.am_json.specs.Decoding.{IsList, HasNone, HasOr}
+use Rattle.am_json.specs.declared.faults.Refusal.{Refusal}
+use Rattle.am_json.specs.declared.faults.Refusal.TheVariants.{One, All}
+use Rattle.am_json.specs.declared.reader.Mode.{Mode}
+use Rattle.am_json.specs.declared.reader.Mode.TheVariants.{Strict}
 use Rattle.am_terms.specs.declared.expectation.Expectation.{Expectation}
 use Rattle.am_terms.specs.UtcDates.{IsReadFrom, StartData, dated}
 use Rattle.am_terms.specs.TimeFormatData.{TimeFormatData, counted}
+use Rattle.am_input.specs.Clocks.{AreClocksOf}
 use Rattle.am_input.specs.Configured.{IsConfigFor, file_in, member_names}
 use Rattle.am_input.specs.DispatcherChanges.{AreDispatcherChangesIn, AreDispatcherChangesWithoutRegexes}
 use Rattle.am_plans.specs.Configs.{configs_of}
@@ -76,7 +77,7 @@ ticks_in (Some member) = interval_in member
 pub record Requests (mode : Mode) (changes : Changes) (members : Members) (output : Output) (start : Option StartData)
     (expectations : List Expectation) (dispatcher_changes : List DispatcherChange) (rehearsal : Rehearsal) : Type 0 where
   pub known : IsTrue (has_only mode member_names members)
-  pub configures : IsConfigFor (file_in changes) mode members rehearsal.config
+  pub configures : IsConfigFor (AreClocksOf rehearsal.until members) (file_in changes) mode members rehearsal.config
   pub hands_over : AreDispatcherChangesIn mode (file_in changes) rehearsal.until members dispatcher_changes
   pub zones : AreZonesIn (get_member (codes "zones") members)
   pub decodes : output_for changes.overrides.output (get_member (codes "output") members) ≡ Some output

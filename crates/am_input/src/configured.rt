@@ -1,29 +1,31 @@
 //! The configuration of a rehearsal: `config`, or Alertmanager's own.
-ghost use Rattle.std.specs.Prelude.{◌≡◌, IfErr, IfOk, IsTrue, None, Some, codes, false, is_ok, option_map};
-ghost use Rattle.std.specs.Prelude.{IsSomeAnd};
+ghost use Rattle.std.specs.Prelude.{◌≡◌, ℕ, IfErr, IfOk, IsTrue, None, Some, codes, false, is_ok, option_map};
+ghost use Rattle.std.specs.Prelude.{IsSome, IsSomeAnd, MatchOption};
+ghost use Rattle.std.specs.Option.{option_copied};
 ghost use Rattle.serde_json.specs.Data.{Data};
-ghost use Rattle.serde_json.specs.Find.{as_object};
+ghost use Rattle.serde_json.specs.Find.{as_object, get_member};
 ghost use Rattle.serde_json.specs.View.{members_view, view};
-ghost use Rattle.am_cli.specs.Configured.{DecodesToConfig};
-ghost use Rattle.am_cli.specs.Decoding.{HasNone};
-ghost use Rattle.am_cli.specs.Read.{Excludes};
-ghost use Rattle.am_cli.specs.declared.reader.Mode.TheVariants.{Strict};
-ghost use Rattle.am_input.specs.Configured.{DecodesWithoutRegexes, IsConfigFor, IsConfigIn, IsConfigOf};
+ghost use Rattle.am_json.specs.Configured.{DecodesToConfig};
+ghost use Rattle.am_json.specs.Decoding.{HasNone};
+ghost use Rattle.am_json.specs.Read.{Excludes};
+ghost use Rattle.am_json.specs.declared.reader.Mode.TheVariants.{Strict};
+ghost use Rattle.am_input.specs.Clocks.{AreAny, AreClocksOf, AreGiven};
+ghost use Rattle.am_input.specs.Configured.{DecodesWithoutRegexes, HasTheirs, IsConfigFor, IsConfigIn, IsConfigOf};
 ghost use Rattle.am_input.specs.Configured.{IsReadOfTheirs, DecodesPlainly, form_in};
 ghost use Rattle.am_input.specs.DispatcherChanges.{DecodesAt, ReloadDecodesTo, is_ours};
-ghost use Rattle.am_input.specs.Request.{RefusesAll};
+ghost use Rattle.am_input.specs.Request.{RefusesAll, end_for};
 
 use crate::form::{Form, alertmanager_in, form_of};
 use crate::hours::read_hours;
 use crate::zone_files::ZoneFiles;
-use am_cli::config::read_config;
-use am_cli::fault::{FaultKind, InputFault};
-use am_cli::faults::Refusal;
-use am_cli::reader::{Object, Reader};
 use am_config::alertmanager::read_alertmanager;
 use am_config::dropped::IgnoredSettings;
 use am_config::hours::Hours;
 use am_config::settings::Checking;
+use am_json::config::read_config;
+use am_json::fault::{FaultKind, InputFault};
+use am_json::faults::Refusal;
+use am_json::reader::{Object, Reader};
 use am_model::config::Config;
 use am_plans::dispatcher_change::Reload;
 use serde_json::Value;
@@ -46,8 +48,11 @@ pub fn read_configured<Z: ZoneFiles>(
     until: Option<u64>,
     files: &mut Z,
 ) -> Result<Configured, Refusal>
-    ensures decoded { IfOk result (λ read.
-        IsConfigFor (option_map (λ g. view g.now) given.entry) top.now.mode (members_view top.now.members) read.config) }
+    ensures decoded { IfOk result (λ read. (end : ℕ) → end_for until (members_view top.now.members) ≡ Some end
+        → IsConfigFor (AreClocksOf end (members_view top.now.members)) (option_map (λ g. view g.now) given.entry)
+        top.now.mode (members_view top.now.members) read.config) }
+    ensures unended { IfOk result (λ read.
+        IsConfigFor AreAny (option_map (λ g. view g.now) given.entry) top.now.mode (members_view top.now.members) read.config) }
     ensures timed { option_map (λ g. view g.now) given.entry ≡ None → HasNone (codes "alertmanager") (members_view top.now.members)
         → IfOk result (λ read. read.lacks_hours ≡ false) }
     ensures refused { option_map (λ g. view g.now) given.entry ≡ None → HasNone (codes "alertmanager") (members_view top.now.members)
@@ -70,6 +75,11 @@ fn read_hours_for<Z: ZoneFiles>(
     until: Option<u64>,
     files: &mut Z,
 ) -> Result<Option<Hours>, InputFault>
+    ensures clocks { IfOk result (λ hours. (end : ℕ) → end_for until (members_view top.now.members) ≡ Some end
+        → MatchOption (option_map (λ g. view g.now) given.entry)
+        (IsSome (get_member (codes "alertmanager") (members_view top.now.members))
+        → AreClocksOf end (members_view top.now.members) hours)
+        (λ file. HasTheirs (form_in file) file → AreClocksOf end (members_view top.now.members) hours)) }
     ensures in_story { option_map (λ g. view g.now) given.entry ≡ None → HasNone (codes "alertmanager") (members_view top.now.members)
         → IsTrue (is_ok result) }
     ensures own { (file : Data) → option_map (λ g. view g.now) given.entry ≡ Some file → form_in file ≡ Form.Own
@@ -93,7 +103,10 @@ fn read_hours_in<Z: ZoneFiles>(
     until: Option<u64>,
     files: &mut Z,
 ) -> Result<Option<Hours>, InputFault>
-    ensures { HasNone (codes "alertmanager") (members_view top.now.members) → IsTrue (is_ok result) }
+    ensures clocks { IfOk result (λ hours. (end : ℕ) → end_for until (members_view top.now.members) ≡ Some end
+        → IsSome (get_member (codes "alertmanager") (members_view top.now.members))
+        → AreClocksOf end (members_view top.now.members) hours) }
+    ensures own { HasNone (codes "alertmanager") (members_view top.now.members) → IsTrue (is_ok result) }
 {
     match top.optional("alertmanager") {
         None => Ok(None),
@@ -108,7 +121,10 @@ fn read_hours_at<Z: ZoneFiles>(
     until: Option<u64>,
     files: &mut Z,
 ) -> Result<Option<Hours>, InputFault>
-    ensures { HasNone (codes "alertmanager") (members_view reload.now.members) → IsTrue (is_ok result) }
+    ensures clocks { IfOk result (λ hours. (end : ℕ) → end_for until (members_view top.now.members) ≡ Some end
+        → IsSome (get_member (codes "alertmanager") (members_view reload.now.members))
+        → AreClocksOf end (members_view top.now.members) hours) }
+    ensures own { HasNone (codes "alertmanager") (members_view reload.now.members) → IsTrue (is_ok result) }
 {
     match reload.optional("alertmanager") {
         None => Ok(None),
@@ -124,7 +140,8 @@ pub(crate) fn read_reload<Z: ZoneFiles>(
     until: Option<u64>,
     files: &mut Z,
 ) -> Result<Configured, Refusal>
-    ensures decoded { IfOk result (λ read. ReloadDecodesTo top.now.mode (view reload.entry.value.now) read.config) }
+    ensures decoded { IfOk result (λ read. (end : ℕ) → end_for until (members_view top.now.members) ≡ Some end
+        → ReloadDecodesTo (AreClocksOf end (members_view top.now.members)) top.now.mode (view reload.entry.value.now) read.config) }
     ensures timed { IsTrue (is_ours (Some (view reload.entry.value.now))) → IfOk result (λ read. read.lacks_hours ≡ false) }
     ensures refused { IsTrue (is_ours (Some (view reload.entry.value.now)))
         → IfErr result (RefusesAll (DecodesAt top.now.mode (members_view top.now.members) (Some (view reload.entry.value.now)))) }
@@ -143,7 +160,8 @@ fn read_at<Z: ZoneFiles>(
     until: Option<u64>,
     files: &mut Z,
 ) -> Result<Configured, Refusal>
-    ensures decoded { IfOk result (λ read. ReloadDecodesTo reload.now.mode (view reload.now.value) read.config) }
+    ensures decoded { IfOk result (λ read. (end : ℕ) → end_for until (members_view top.now.members) ≡ Some end
+        → ReloadDecodesTo (AreClocksOf end (members_view top.now.members)) reload.now.mode (view reload.now.value) read.config) }
     ensures timed { IsTrue (is_ours (Some (view reload.now.value))) → IfOk result (λ read. read.lacks_hours ≡ false) }
     ensures refused { IsTrue (is_ours (Some (view reload.now.value))) → IfErr result (RefusesAll (λ config.
         IsSomeAnd (as_object (view reload.now.value)) (λ fields. DecodesPlainly reload.now.mode fields config))) }
@@ -161,7 +179,7 @@ pub fn configured_for<Z: ZoneFiles>(
     until: Option<u64>,
     files: &mut Z,
 ) -> Result<Configured, Refusal>
-    ensures decoded { IfOk result (λ read. IsConfigOf (form_in (view given.now)) (view given.now) read.config) }
+    ensures decoded { IfOk result (λ read. IsConfigOf AreAny (form_in (view given.now)) (view given.now) read.config) }
     ensures own { form_in (view given.now) ≡ Form.Own → IfErr result (RefusesAll (DecodesWithoutRegexes Strict (view given.now))) }
 {
     let reader = Reader::strict(alloc, story);
@@ -173,7 +191,8 @@ pub fn configured_for<Z: ZoneFiles>(
 
 /// Reads the configuration of a file: one of Alertmanager, one of our own, or that of a story.
 pub fn read_file(alloc: Global, value: &Value, hours: Option<&Hours>) -> Result<Configured, Refusal>
-    ensures decoded { IfOk result (λ read. IsConfigOf (form_in (view value.now)) (view value.now) read.config) }
+    ensures decoded { IfOk result (λ read.
+        IsConfigOf (AreGiven (option_copied hours.entry)) (form_in (view value.now)) (view value.now) read.config) }
     ensures own { form_in (view value.now) ≡ Form.Own → IfErr result (RefusesAll (DecodesWithoutRegexes Strict (view value.now))) }
 {
     let reader = Reader::strict(alloc, value);
@@ -187,7 +206,8 @@ pub fn read_file(alloc: Global, value: &Value, hours: Option<&Hours>) -> Result<
 /// Reads the configuration in a story. It is in `config` or, as Alertmanager has it, in `alertmanager`, which is
 /// rejected next to `config`.
 fn read_in_story(top: &Object<'_, '_>, hours: Option<&Hours>) -> Result<Configured, Refusal>
-    ensures decoded { IfOk result (λ read. IsConfigIn top.now.mode (members_view top.now.members) read.config) }
+    ensures decoded { IfOk result (λ read.
+        IsConfigIn (AreGiven (option_copied hours.entry)) top.now.mode (members_view top.now.members) read.config) }
     ensures timed { HasNone (codes "alertmanager") (members_view top.now.members) → IfOk result (λ read. read.lacks_hours ≡ false) }
     ensures refused { HasNone (codes "alertmanager") (members_view top.now.members)
         → IfErr result (RefusesAll (DecodesPlainly top.now.mode (members_view top.now.members))) }
@@ -216,7 +236,7 @@ fn read_own(reader: &Reader<'_, '_>) -> Result<Configured, InputFault>
 
 /// Reads a configuration of Alertmanager.
 fn read_theirs(reader: &Reader<'_, '_>, hours: Option<&Hours>) -> Result<Configured, Refusal>
-    ensures { IfOk result (λ read. IsReadOfTheirs (view reader.now.value) read.config) }
+    ensures { IfOk result (λ read. IsReadOfTheirs (AreGiven (option_copied hours.entry)) (view reader.now.value) read.config) }
 {
     let read = read_alertmanager(reader, hours, Checking::AsAlertmanager)?;
     Ok(Configured {

@@ -1,26 +1,27 @@
 //! The reloads and restarts of a story, with their configurations.
 //!
 //! A restart has the configuration that holds then. It is read once more, since a configuration has no copies.
-ghost use Rattle.std.specs.Prelude.{◌≡◌, ◌∷◌, ◌++◌, ◌||◌, [], IfErr, IfOk, IsTrue, List, None, OnOk, codes, false, map};
+ghost use Rattle.std.specs.Prelude.{◌≡◌, ◌∷◌, ◌++◌, ◌||◌, [], IfErr, IfOk, IsTrue, List, None, OnOk, Some, codes, false, map};
 ghost use Rattle.std.specs.List.{list_all};
 ghost use Rattle.serde_json.specs.View.{members_view};
-ghost use Rattle.am_cli.specs.Configured.{config_compares_texts};
-ghost use Rattle.am_cli.specs.Decoding.{HasNone};
-ghost use Rattle.am_cli.specs.declared.fault.InputFault.TheVariants.{NoMemory};
+ghost use Rattle.am_json.specs.Configured.{config_compares_texts};
+ghost use Rattle.am_json.specs.Decoding.{HasNone};
+ghost use Rattle.am_json.specs.declared.fault.InputFault.TheVariants.{NoMemory};
+ghost use Rattle.am_input.specs.Clocks.{AreClocksOf};
 ghost use Rattle.am_input.specs.Configured.{file_in};
 ghost use Rattle.am_input.specs.DispatcherChanges.{AreDispatcherChangesIn, AreDispatcherChangesWithoutRegexes};
 ghost use Rattle.am_input.specs.DispatcherChanges.{AreDecodedBy, IsConfigAt, DecodesAt, is_ours};
-ghost use Rattle.am_input.specs.Request.{RefusesAll};
+ghost use Rattle.am_input.specs.Request.{RefusesAll, end_for};
 ghost use Rattle.am_plans.specs.DispatcherChange.{ItemData, item_of, reload_in};
 ghost use Rattle.am_terms.specs.declared.dispatcher_change.DispatcherChange.{DispatcherChange};
 
 use crate::configured::{Configured, read_configured, read_reload};
 use crate::input::Changes;
 use crate::zone_files::ZoneFiles;
-use am_cli::fault::InputFault;
-use am_cli::faults::Refusal;
-use am_cli::reader::Object;
 use am_config::dropped::IgnoredSettings;
+use am_json::fault::InputFault;
+use am_json::faults::Refusal;
+use am_json::reader::Object;
 use am_plans::dispatcher_change::{DispatcherChangeItem, Reload, read_items};
 use am_terms::dispatcher_change::{Carryover, DispatcherChange};
 use std::alloc::Global;
@@ -90,6 +91,7 @@ pub(crate) fn read_dispatcher_changes<Z: ZoneFiles>(
     until: u64,
     files: &mut Z,
 ) -> Result<HandedOver, Refusal>
+    requires ends { end_for changes.overrides.until (members_view top.now.members) ≡ Some until }
     ensures decoded { IfOk result (λ read.
         AreDispatcherChangesIn top.now.mode (file_in changes.entry) until (members_view top.now.members) read.dispatcher_changes.items) }
     ensures timed { file_in changes.entry ≡ None → HasNone (codes "alertmanager") (members_view top.now.members)
@@ -101,7 +103,7 @@ pub(crate) fn read_dispatcher_changes<Z: ZoneFiles>(
         (AreDispatcherChangesWithoutRegexes top.now.mode (file_in changes.entry) until (members_view top.now.members))) }
 {
     let items = read_items(top, until)?;
-    Ok(read_configs(top, items.as_slice(), changes, files)?)
+    Ok(read_configs(top, items.as_slice(), changes, until, files)?)
 }
 
 /// Reads the configuration of each.
@@ -109,9 +111,12 @@ fn read_configs<Z: ZoneFiles>(
     top: &Object<'_, '_>,
     items: &[DispatcherChangeItem<'_>],
     changes: Changes<'_>,
+    until: u64,
     files: &mut Z,
 ) -> Result<HandedOver, Refusal>
-    ensures decoded { IfOk result (λ read. AreDecodedBy (IsConfigAt (file_in changes.entry) top.now.mode (members_view top.now.members))
+    requires ends { end_for changes.overrides.until (members_view top.now.members) ≡ Some until }
+    ensures decoded { IfOk result (λ read. AreDecodedBy
+        (IsConfigAt (AreClocksOf until (members_view top.now.members)) (file_in changes.entry) top.now.mode (members_view top.now.members))
         None (map item_of items.now) read.dispatcher_changes.items) }
     ensures timed { file_in changes.entry ≡ None → HasNone (codes "alertmanager") (members_view top.now.members)
         → IsTrue (list_all (λ (item : ItemData). is_ours item.reload) (map item_of items.now))
@@ -119,7 +124,8 @@ fn read_configs<Z: ZoneFiles>(
     ensures refused { file_in changes.entry ≡ None → HasNone (codes "alertmanager") (members_view top.now.members)
         → IsTrue (list_all (λ (item : ItemData). is_ours item.reload) (map item_of items.now))
         → IfErr result (RefusesAll (λ (dispatcher_changes : List DispatcherChange).
-        AreDecodedBy (IsConfigAt (file_in changes.entry) top.now.mode (members_view top.now.members))
+        AreDecodedBy
+        (IsConfigAt (AreClocksOf until (members_view top.now.members)) (file_in changes.entry) top.now.mode (members_view top.now.members))
         None (map item_of items.now) dispatcher_changes
         × IsTrue (list_all (λ (h : DispatcherChange). config_compares_texts h.config) dispatcher_changes))) }
 {
@@ -127,31 +133,34 @@ fn read_configs<Z: ZoneFiles>(
     let mut last = None;
     for item in items {
         last = item.reload.or(last);
-        let configured = read_at(top, last, changes, files)?;
+        let configured = read_at(top, last, changes, until, files)?;
         read.add(item.at, item.carryover, configured)?;
     }
     Ok(read)
 }
 
-/// Reads the configuration of the last reload, or that of the story where there was none.
+/// Reads the configuration of the last reload, or that of the story where there was none. The story ends at `until`.
 fn read_at<Z: ZoneFiles>(
     top: &Object<'_, '_>,
     last: Option<Reload<'_>>,
     changes: Changes<'_>,
+    until: u64,
     files: &mut Z,
 ) -> Result<Configured, Refusal>
+    requires ends { end_for changes.overrides.until (members_view top.now.members) ≡ Some until }
     ensures decoded { IfOk result (λ read.
-        IsConfigAt (file_in changes.entry) top.now.mode (members_view top.now.members) (reload_in last.entry) read.config) }
+        IsConfigAt (AreClocksOf until (members_view top.now.members)) (file_in changes.entry)
+        top.now.mode (members_view top.now.members) (reload_in last.entry) read.config) }
     ensures timed { file_in changes.entry ≡ None → HasNone (codes "alertmanager") (members_view top.now.members)
         → IsTrue (is_ours (reload_in last.entry)) → IfOk result (λ read. read.lacks_hours ≡ false) }
     ensures refused { file_in changes.entry ≡ None → HasNone (codes "alertmanager") (members_view top.now.members)
         → IsTrue (is_ours (reload_in last.entry))
         → IfErr result (RefusesAll (DecodesAt top.now.mode (members_view top.now.members) (reload_in last.entry))) }
 {
-    let until = changes.overrides.until;
+    let requested = changes.overrides.until;
     match last {
-        None => read_configured(top, changes.config, until, files),
-        Some(reload) => read_reload(top, reload, until, files),
+        None => read_configured(top, changes.config, requested, files),
+        Some(reload) => read_reload(top, reload, requested, files),
     }
 }
 

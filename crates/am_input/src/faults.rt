@@ -6,9 +6,9 @@ use crate::input::{MEMBERS, Overrides, read_maintain, read_output, read_ticks, r
 use crate::time;
 use crate::zone_files::ZoneFiles;
 use crate::zones::read_zones;
-use am_cli::fault::InputFault;
-use am_cli::faults::{Faults, Refusal};
-use am_cli::reader::{FromJson, Object, Reader};
+use am_json::fault::InputFault;
+use am_json::faults::{Faults, Refusal};
+use am_json::reader::{FromJson, Object, Reader};
 use am_plans::alert::AlertItem;
 use am_plans::configs::Configs;
 use am_plans::dispatcher_change::{item_faults, read_items, reloads_in};

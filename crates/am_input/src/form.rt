@@ -3,7 +3,7 @@ ghost use Rattle.std.specs.Prelude.{◌≡◌, None, codes, is_some};
 ghost use Rattle.std.specs.List.{list_any};
 ghost use Rattle.serde_json.specs.Find.{get, pointer};
 ghost use Rattle.serde_json.specs.View.{view};
-ghost use Rattle.am_input.specs.Configured.{form_in};
+ghost use Rattle.am_input.specs.Configured.{HasTheirs, form_in};
 
 use crate::input::MEMBERS;
 use serde_json::Value;
@@ -63,7 +63,8 @@ pub fn has_configuration(story: &Value) -> bool {
 
 /// Returns the configuration of Alertmanager in a file, if there is one.
 pub fn alertmanager_in(value: &Value) -> Option<&Value>
-    ensures { form_in (view value.now) ≡ Form.Own → result ≡ None }
+    ensures own { form_in (view value.now) ≡ Form.Own → result ≡ None }
+    ensures theirs { result ≡ None → HasTheirs (form_in (view value.now)) (view value.now) → ⊥ }
 {
     match form_of(value) {
         Form::Story => value.get("alertmanager"),

@@ -1,8 +1,8 @@
-//! What a rehearsal asks for, and how it is read, in the strict mode of `am_cli`.
+//! What a rehearsal asks for, and how it is read, in the strict mode of `am_json`.
 //!
 //! The inserts of each span and the silences are planned in the order of their times, each with the
 //! pointer of its value. An alert's span is two inserts: one without an end at its start, one with
-//! its end at that time, as Prometheus sends them. The configuration is `am_cli`'s, or
+//! its end at that time, as Prometheus sends them. The configuration is `am_json`'s, or
 //! Alertmanager's own (`configured`), whose faults are all reported; of the rest the first fault
 //! is. Contracts say by definitions over the JSON value's fields what was read for `output`,
 //! `start`, `until`, `reload`, `restart`, `maintain`, `remove_empty_groups`, `alerts`, `silences`,
@@ -12,8 +12,9 @@ ghost use Rattle.std.specs.Result.{result_ok};
 ghost use Rattle.serde_json.specs.Find.{get_member};
 ghost use Rattle.serde_json.specs.View.{members_view, view};
 ghost use Rattle.am_terms.specs.declared.rehearsal.TheConstants.{MAX_UNTIL};
-ghost use Rattle.am_cli.specs.Decoding.{HasOr, IsList};
-ghost use Rattle.am_cli.specs.Read.{Excludes, has_only};
+ghost use Rattle.am_json.specs.Decoding.{HasOr, IsList};
+ghost use Rattle.am_json.specs.Read.{Excludes, has_only};
+ghost use Rattle.am_input.specs.Clocks.{AreClocksOf};
 ghost use Rattle.am_input.specs.Configured.{IsConfigFor, file_in, member_names};
 ghost use Rattle.am_input.specs.DispatcherChanges.{AreDispatcherChangesIn};
 ghost use Rattle.am_plans.specs.Configs.{configs_of};
@@ -33,12 +34,12 @@ use crate::hours::check_start;
 use crate::time;
 use crate::zone_files::ZoneFiles;
 use crate::zones::read_zones;
-use am_cli::duration::{duration, interval};
-use am_cli::fault::{FaultKind, InputFault};
-use am_cli::faults::Refusal;
-use am_cli::pointer::JsonPointer;
-use am_cli::reader::{Object, Reader};
 use am_config::dropped::IgnoredSettings;
+use am_json::duration::{duration, interval};
+use am_json::fault::{FaultKind, InputFault};
+use am_json::faults::Refusal;
+use am_json::pointer::JsonPointer;
+use am_json::reader::{Object, Reader};
 use am_model::config::Config;
 use am_plans::configs::Configs;
 use am_plans::expectation::read_expectations;
@@ -169,7 +170,8 @@ fn read_planned(
     requires hands_over { AreDispatcherChangesIn top.now.mode (file_in changes) until
         (members_view top.now.members) handed.dispatcher_changes.items }
     requires known { IsTrue (has_only top.now.mode member_names (members_view top.now.members)) }
-    requires configures { IsConfigFor (file_in changes) top.now.mode (members_view top.now.members) configured.config }
+    requires configures { IsConfigFor (AreClocksOf until (members_view top.now.members)) (file_in changes)
+        top.now.mode (members_view top.now.members) configured.config }
     ensures decoded { IfOk result (λ input. Requests top.now.mode changes.entry (members_view top.now.members) input.output input.start
         input.expectations.items input.dispatcher_changes.items input.rehearsal) }
     ensures refused { configured.lacks_hours ≡ false → handed.lacks_hours ≡ false → IfErr result (Excludes (λ (input : Input).

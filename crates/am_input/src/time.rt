@@ -2,11 +2,11 @@
 ghost use Rattle.std.specs.Prelude.{IfErr, IfOk, codes};
 ghost use Rattle.serde_json.specs.Find.{get_member};
 ghost use Rattle.serde_json.specs.View.{members_view};
-ghost use Rattle.am_cli.specs.Read.{Excludes};
+ghost use Rattle.am_json.specs.Read.{Excludes};
 ghost use Rattle.am_input.specs.Request.{DecodesToStart};
 
-use am_cli::fault::{FaultKind, InputFault};
-use am_cli::reader::Object;
+use am_json::fault::{FaultKind, InputFault};
+use am_json::reader::Object;
 use am_terms::dated::UtcDates;
 
 /// When the rehearsal starts, if it is given: a text of RFC 3339, of the years 0 to 9999 of UTC.

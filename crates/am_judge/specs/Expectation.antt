@@ -1,5 +1,6 @@
 -- Expectation: what is expected of a rehearsal, and whether it is met. A rehearsal is a playback for each dispatcher, in their order.
-use Rattle.std.specs.Prelude.{ℕ, ◌+◌, Bool, true, false, ◌&&◌, ◌==◌, nat_le, count_by, sum_by, List, [], ◌∷◌, ◌++◌, Option, slice_get}
+use Rattle.std.specs.Prelude.{ℕ, ◌+◌, ◌*◌, ◌^◌, Bool, true, false, ◌&&◌, ◌==◌, nat_le, count_by, sum_by, List, [], ◌∷◌, ◌++◌, Option}
+use Rattle.std.specs.Prelude.{slice_get}
 use Rattle.std.specs.Prelude.{if◌then◌else◌}
 use Rattle.std.specs.List.{list_all, list_any}
 use Rattle.std.specs.Option.{option_map_or}
@@ -102,6 +103,10 @@ count_in x playback = count_by (ends_fitting playback x) playback.events
 -- how many notices of all playbacks fit
 abbrev pub count_fitting : List PlaybackData → Expectation → ℕ
 count_fitting playbacks x = sum_by (count_in x) playbacks
+
+-- whether counts are no more than so many playbacks can have: each has less than 2^64 events
+abbrev pub are_few : ℕ → List ℕ → Bool
+are_few playbacks counts = list_all (λ n. nat_le n (playbacks * 2 ^ 64)) counts
 
 -- met: as many notices fit, over all playbacks, as are expected
 abbrev pub is_met : List PlaybackData → Expectation → Bool

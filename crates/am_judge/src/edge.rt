@@ -13,7 +13,8 @@ ghost use Rattle.am_judge.specs.Edge.{repeats_as_wanted, shifts, shifts_by, shif
 ghost use Rattle.am_timeline.specs.Timeline.{is_on_edge};
 
 use crate::expectation::content::{are_as_wanted, has_as_wanted, is_sent_for};
-use crate::expectation::{count_fitting, fits, is_for_integration, is_for_receiver};
+use crate::expectation::{fits, is_for_integration, is_for_receiver};
+use crate::judged::Question;
 use am_alerts::limits::MAX_TIME;
 use am_model::config::Config;
 use am_model::group::GroupName;
@@ -42,20 +43,18 @@ pub(crate) struct Flushes {
 }
 
 /// Returns whether it depends on the flushes at which Alertmanager sends the repeats on the edge if an expectation is met.
-pub(crate) fn depends_on_edge(
-    alloc: Global,
-    playbacks: &[Playback<'_>],
-    expectation: &Expectation,
-) -> Result<bool, AllocError>
-    ensures { IfOk result (λ depends. depends ≡ depends_on_edge playbacks.now expectation.now) }
+pub(crate) fn depends_on_edge(question: &Question<'_>) -> Result<bool, AllocError>
+    ensures { IfOk result (λ depends. depends ≡ depends_on_edge question.now.playbacks.now question.now.expectation.now) }
 {
-    let count = count_fitting(alloc, playbacks, expectation)?;
+    let alloc = question.alloc;
+    let playbacks = question.playbacks;
+    let expectation = question.expectation;
     let fewer = count_shifts(alloc, Side::Fewer, playbacks, expectation)?;
     let more = count_shifts(alloc, Side::More, playbacks, expectation)?;
     Ok(is_open(
         expectation.amount,
-        count.saturating_sub(fewer),
-        count + more,
+        question.fitting.saturating_sub(fewer),
+        question.fitting + more,
     ))
 }
 

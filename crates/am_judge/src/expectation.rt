@@ -1,79 +1,23 @@
-//! Whether a rehearsal meets expectations.
+//! Which notices fit an expectation, and how many do.
 //!
-//! A rehearsal is a playback for each dispatcher, in their order, and all are judged together. Cost: for each
-//! expectation, that of the timelines of all playbacks.
-ghost use Rattle.std.specs.Prelude.{◌≡◌, ◌≤◌, ◌==◌, ◌++◌, ◌*◌, ◌^◌, IfOk, OnOk, true, length};
+//! A rehearsal is a playback for each dispatcher, in their order. A count takes the timelines of all playbacks: `judged` makes it
+//! once for each expectation.
+ghost use Rattle.std.specs.Prelude.{◌≡◌, ◌≤◌, ◌==◌, ◌*◌, ◌^◌, IfOk, true, length};
 ghost use Rattle.std.specs.Option.{option_map_or};
 ghost use Rattle.std.specs.Str.{bytes_eq};
 ghost use Rattle.am_judge.specs.Expectation.{count_fitting, count_in, ends_fitting, ends_in_scope, fits, has_in_scope, is_for_integration};
-ghost use Rattle.am_terms.specs.Expectation.{allows};
-ghost use Rattle.am_judge.specs.Expectation.{is_for_receiver, is_in_scope, is_met, kind_for, unmet_at, unmet_from};
+ghost use Rattle.am_judge.specs.Expectation.{is_for_receiver, is_in_scope, kind_for};
 
 pub mod content;
 
 use crate::expectation::content::is_in;
 use am_model::config::{Config, kind_at};
 use am_terms::event::Event;
-use am_terms::expectation::{Amount, Expectation};
+use am_terms::expectation::Expectation;
 use am_timeline::playback::Playback;
 use am_timeline::sent::{Sent, sent_of};
 use am_timeline::table::is_for;
 use std::alloc::{AllocError, Global};
-
-/// Returns the numbers of the expectations that aren't met, from 0 on and in order.
-pub fn unmet_expectations(
-    alloc: Global,
-    playbacks: &[Playback<'_>],
-    expectations: &[Expectation],
-) -> Result<Vec<usize>, AllocError>
-    ensures { IfOk result (λ numbers. numbers.items ≡ unmet_from playbacks.now 0 expectations.now) }
-{
-    let mut unmet = Vec::new(alloc);
-    for (number, expectation) in expectations.iter().enumerate() {
-        push_if_unmet(alloc, playbacks, number, expectation, &mut unmet)?;
-    }
-    Ok(unmet)
-}
-
-/// Adds the number of an expectation, if it isn't met.
-fn push_if_unmet(
-    alloc: Global,
-    playbacks: &[Playback<'_>],
-    number: usize,
-    expectation: &Expectation,
-    unmet: &mut Vec<usize>,
-) -> Result<(), AllocError>
-    ensures { OnOk result (unmet.new.items ≡ unmet.old.items ++ unmet_at playbacks.now number expectation.now) }
-{
-    if is_met(alloc, playbacks, expectation)? {
-        return Ok(());
-    }
-    unmet.push(number)?;
-    Ok(())
-}
-
-/// Returns whether a rehearsal that ran meets an expectation: whether as many notices fit, over all playbacks, as
-/// are expected. Without playbacks none fits.
-pub fn is_met(
-    alloc: Global,
-    playbacks: &[Playback<'_>],
-    expectation: &Expectation,
-) -> Result<bool, AllocError>
-    ensures { IfOk result (λ met. met ≡ is_met playbacks.now expectation.now) }
-{
-    let count = count_fitting(alloc, playbacks, expectation)?;
-    Ok(allows(expectation.amount, count))
-}
-
-/// Whether so many notices are as many as are expected. A number that is no `u64` is more than is ever expected.
-fn allows(amount: Amount, count: u128) -> bool
-    ensures { result ≡ allows amount count }
-{
-    match u64::try_from(count) {
-        Ok(count) => amount.allows(count),
-        Err(_) => amount == Amount::AtLeastOne,
-    }
-}
 
 /// Returns how many notices fit, over all playbacks.
 pub(crate) fn count_fitting(

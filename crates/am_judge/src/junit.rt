@@ -4,32 +4,27 @@ ghost use Rattle.am_judge.specs.Junit.{case_name, case_text, cases_text, failure
 ghost use Rattle.am_judge.specs.Junit.{name_escaped, outcome_text, output_text, passed_text, passed_with, suite_counts, suite_head};
 ghost use Rattle.am_judge.specs.ExpectationReport.{answer_text, edges_text};
 
-use crate::expectation::{is_met, unmet_expectations};
 use crate::expectation_report::edges::push_edges;
 use crate::expectation_report::push_answer;
+use crate::judged::{Judged, Question};
 use am_alerts::text::Text;
 use am_terms::clock::{TimeFormat, push_number};
 use am_terms::expectation::Expectation;
 use am_timeline::escape::push_escaped;
-use am_timeline::playback::Playback;
-use std::alloc::{AllocError, Global};
+use std::alloc::AllocError;
 
 /// Returns a test suite with a test case for each expectation, in their order.
 ///
 /// One that isn't met is a failure: what was expected, and the notices that came. Where the answer depends on repeats on the
-/// edge, those follow. Cost: three times that of `expectations_text`.
-pub fn junit_text<C: TimeFormat>(
-    alloc: Global,
-    playbacks: &[Playback<'_>],
-    clock: &C,
-    expectations: &[Expectation],
-) -> Result<String, AllocError>
-    ensures { IfOk result (λ text. string_bytes text ≡ junit_text playbacks.now (C.times clock.now) expectations.now) }
+/// edge, those follow.
+pub fn junit_text<C: TimeFormat>(judged: &Judged<'_>, clock: &C) -> Result<String, AllocError>
+    ensures { IfOk result (λ text. string_bytes text
+        ≡ junit_text judged.now.playbacks.now (C.times clock.now) judged.now.expectations.now) }
 {
-    let mut out = String::new(alloc);
-    let unmet = unmet_expectations(alloc, playbacks, expectations)?;
-    push_head(expectations.len(), unmet.len(), &mut out)?;
-    push_cases(alloc, playbacks, clock, expectations, &mut out)?;
+    let mut out = String::new(judged.alloc);
+    let unmet = judged.unmet()?;
+    push_head(judged.expectations.len(), unmet.len(), &mut out)?;
+    push_cases(judged, clock, &mut out)?;
     out.push_str("</testsuite>\n")?;
     Ok(out)
 }
@@ -61,37 +56,33 @@ fn push_failures(failures: usize, out: &mut String) -> Result<(), AllocError>
 }
 
 fn push_cases<C: TimeFormat>(
-    alloc: Global,
-    playbacks: &[Playback<'_>],
+    judged: &Judged<'_>,
     clock: &C,
-    expectations: &[Expectation],
     out: &mut String,
 ) -> Result<(), AllocError>
-    ensures { OnOk result (string_bytes out.new
-        ≡ string_bytes out.old ++ cases_text playbacks.now (C.times clock.now) 0 expectations.now) }
+    ensures { OnOk result (string_bytes out.new ≡ string_bytes out.old
+        ++ cases_text judged.now.playbacks.now (C.times clock.now) 0 judged.now.expectations.now) }
 {
-    for (number, expectation) in expectations.iter().enumerate() {
-        push_case(alloc, playbacks, clock, number, expectation, out)?;
+    for number in 0..judged.expectations.len() {
+        push_case(&judged.question(number), clock, number, out)?;
     }
     Ok(())
 }
 
 #[tactic(auto, unfolding(crate::specs::Junit::case_text))]
 fn push_case<C: TimeFormat>(
-    alloc: Global,
-    playbacks: &[Playback<'_>],
+    question: &Question<'_>,
     clock: &C,
     number: usize,
-    expectation: &Expectation,
     out: &mut String,
 ) -> Result<(), AllocError>
-    ensures { OnOk result (string_bytes out.new
-        ≡ string_bytes out.old ++ case_text playbacks.now (C.times clock.now) number expectation.now) }
+    ensures { OnOk result (string_bytes out.new ≡ string_bytes out.old
+        ++ case_text question.now.playbacks.now (C.times clock.now) number question.now.expectation.now) }
 {
     out.push_str("<testcase classname=\"expect\" name=\"")?;
-    push_case_name(number, expectation, out)?;
+    push_case_name(number, question.expectation, out)?;
     out.push_str("\"")?;
-    push_outcome(alloc, playbacks, clock, expectation, out)
+    push_outcome(question, clock, out)
 }
 
 /// Adds the number of an expectation, and its name if it has one.
@@ -122,34 +113,30 @@ fn push_name(name: Option<&Text>, out: &mut String) -> Result<(), AllocError>
 
 /// Adds the end of a case, with its failure if the expectation isn't met.
 fn push_outcome<C: TimeFormat>(
-    alloc: Global,
-    playbacks: &[Playback<'_>],
+    question: &Question<'_>,
     clock: &C,
-    expectation: &Expectation,
     out: &mut String,
 ) -> Result<(), AllocError>
-    ensures { OnOk result (string_bytes out.new
-        ≡ string_bytes out.old ++ outcome_text playbacks.now (C.times clock.now) expectation.now) }
+    ensures { OnOk result (string_bytes out.new ≡ string_bytes out.old
+        ++ outcome_text question.now.playbacks.now (C.times clock.now) question.now.expectation.now) }
 {
-    if is_met(alloc, playbacks, expectation)? {
-        return push_passed(alloc, playbacks, clock, expectation, out);
+    if question.is_met() {
+        return push_passed(question, clock, out);
     }
-    push_failure(alloc, playbacks, clock, expectation, out)
+    push_failure(question, clock, out)
 }
 
 /// Adds the end of a case that is met, with the repeats on the edge on which that depends.
 #[tactic(auto, unfolding(crate::specs::Junit::passed_text))]
 fn push_passed<C: TimeFormat>(
-    alloc: Global,
-    playbacks: &[Playback<'_>],
+    question: &Question<'_>,
     clock: &C,
-    expectation: &Expectation,
     out: &mut String,
 ) -> Result<(), AllocError>
-    ensures { OnOk result (string_bytes out.new
-        ≡ string_bytes out.old ++ passed_text playbacks.now (C.times clock.now) expectation.now) }
+    ensures { OnOk result (string_bytes out.new ≡ string_bytes out.old
+        ++ passed_text question.now.playbacks.now (C.times clock.now) question.now.expectation.now) }
 {
-    let edges = edges_of(alloc, playbacks, clock, expectation)?;
+    let edges = edges_of(question, clock)?;
     push_passed_with(edges.as_str(), out)
 }
 
@@ -173,31 +160,25 @@ fn push_output(text: &str, out: &mut String) -> Result<(), AllocError>
 }
 
 /// Returns the repeats on the edge on which an answer depends.
-fn edges_of<C: TimeFormat>(
-    alloc: Global,
-    playbacks: &[Playback<'_>],
-    clock: &C,
-    expectation: &Expectation,
-) -> Result<String, AllocError>
-    ensures { IfOk result (λ text. string_bytes text ≡ edges_text playbacks.now (C.times clock.now) expectation.now) }
+fn edges_of<C: TimeFormat>(question: &Question<'_>, clock: &C) -> Result<String, AllocError>
+    ensures { IfOk result (λ text. string_bytes text
+        ≡ edges_text question.now.playbacks.now (C.times clock.now) question.now.expectation.now) }
 {
-    let mut edges = String::new(alloc);
-    push_edges(alloc, playbacks, clock, expectation, &mut edges)?;
+    let mut edges = String::new(question.alloc);
+    push_edges(question, clock, &mut edges)?;
     Ok(edges)
 }
 
 #[tactic(auto, unfolding(crate::specs::Junit::failure_text))]
 fn push_failure<C: TimeFormat>(
-    alloc: Global,
-    playbacks: &[Playback<'_>],
+    question: &Question<'_>,
     clock: &C,
-    expectation: &Expectation,
     out: &mut String,
 ) -> Result<(), AllocError>
-    ensures { OnOk result (string_bytes out.new
-        ≡ string_bytes out.old ++ failure_text playbacks.now (C.times clock.now) expectation.now) }
+    ensures { OnOk result (string_bytes out.new ≡ string_bytes out.old
+        ++ failure_text question.now.playbacks.now (C.times clock.now) question.now.expectation.now) }
 {
-    let answer = answer_of(alloc, playbacks, clock, expectation)?;
+    let answer = answer_of(question, clock)?;
     push_failure_with(answer.as_str(), out)
 }
 
@@ -211,15 +192,11 @@ fn push_failure_with(text: &str, out: &mut String) -> Result<(), AllocError>
 }
 
 /// Returns what was expected, and the notices that came.
-fn answer_of<C: TimeFormat>(
-    alloc: Global,
-    playbacks: &[Playback<'_>],
-    clock: &C,
-    expectation: &Expectation,
-) -> Result<String, AllocError>
-    ensures { IfOk result (λ text. string_bytes text ≡ answer_text playbacks.now (C.times clock.now) expectation.now) }
+fn answer_of<C: TimeFormat>(question: &Question<'_>, clock: &C) -> Result<String, AllocError>
+    ensures { IfOk result (λ text. string_bytes text
+        ≡ answer_text question.now.playbacks.now (C.times clock.now) question.now.expectation.now) }
 {
-    let mut answer = String::new(alloc);
-    push_answer(alloc, playbacks, clock, expectation, &mut answer)?;
+    let mut answer = String::new(question.alloc);
+    push_answer(question, clock, &mut answer)?;
     Ok(answer)
 }

@@ -3,6 +3,7 @@
 #![tactic(auto)]
 
 mod edge;
-pub mod expectation;
+mod expectation;
 pub mod expectation_report;
+pub mod judged;
 pub mod junit;

@@ -21,8 +21,8 @@ use Rattle.am_model.specs.look_back.Past.{takes}
 use Rattle.am_model.specs.look_back.Preview.{preview}
 use Rattle.am_model.proofs.legal.EachCall.{each_call}
 use Rattle.am_model.proofs.states.Alike.{same_name-is, same_name_equiv}
-use Rattle.am_rehearsal.specs.Previews.{takes_group, preview_of, preview_where, previews_after, previews_of}
-use Rattle.am_rehearsal.proofs.Reporting.{previews-more}
+use Rattle.am_simulation.specs.Previews.{takes_group, preview_of, preview_where, previews_after, previews_of}
+use Rattle.am_simulation.proofs.Reporting.{previews-more}
 use Rattle.am_terms.specs.declared.event.PreviewedBegin.{PreviewedBegin}
 use Rattle.am_timeline.specs.Playback.{PlaybackData}
 use Rattle.am_undelivered.specs.Spans.{Fact, begin_at, facts_at, facts_from, next_begin}

@@ -31,7 +31,7 @@ use Rattle.am_model.proofs.looking_back.alerts.FoundAlerts.{steady_past}
 use Rattle.am_model.proofs.looking_back.rows.FoundRows.{finds_rows_past}
 use Rattle.am_paging.specs.Paging.{Pages, pages}
 use Rattle.am_paging.proofs.Dropped.{no_page_is_dropped}
-use Rattle.am_rehearsal.specs.Previews.{previews_of, takes_group}
+use Rattle.am_simulation.specs.Previews.{previews_of, takes_group}
 use Rattle.am_timeline.specs.Playback.{PlaybackData}
 use Rattle.am_undelivered.specs.Spans.{Fact, Flushed, FlushData, Inserted, SpanData, SpansData, after_fact, after_facts, begun_span, facts_at, facts_in, facts_of, fate_at, flushed_span, inserted, inserted_again, inserts_at, is_unflushed, notified, notified_by, position_for, rank, recipients_from, recipients_named, recipients_of, same_recipient, unflushed, with_flush, with_recipient, with_recipients}
 use Rattle.am_undelivered.specs.Undelivered.{is_seen, missed_of}

@@ -40,7 +40,7 @@ use Rattle.am_model.proofs.looking_back.Pasts.{IsLegalPast, legal_past, replay_i
 use Rattle.am_model.proofs.looking_back.alerts.FoundAlerts.{finds_past, steady_past}
 use Rattle.am_model.proofs.looking_back.flushes.Opened.{Finds}
 use Rattle.am_model.proofs.looking_back.rows.FoundRows.{finds_rows_past}
-use Rattle.am_rehearsal.specs.Previews.{previews_of}
+use Rattle.am_simulation.specs.Previews.{previews_of}
 use Rattle.am_terms.specs.declared.event.PreviewedBegin.{PreviewedBegin}
 use Rattle.am_timeline.specs.Playback.{PlaybackData, notices_at}
 use Rattle.am_undelivered.specs.Spans.{Fact, Flushed, FlushData, SpanData, SpansData, after_fact, after_facts, facts_from, facts_in, facts_of, facts_at, fate_at, flush_of, flushed_span, is_unflushed, notified_by, position_for, rank, recipients_from, same_recipient, sent_of, spans_in}

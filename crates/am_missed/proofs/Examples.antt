@@ -19,7 +19,7 @@ use Rattle.am_model.specs.look_back.Past.{past_of}
 use Rattle.am_model.proofs.lists.Distinct.{all_from}
 use Rattle.am_model.proofs.examples.Base.{a, base, ended, finish, fires, first_notice, flush, flush_hook, group_a, insert, named, notice, nothing_due, quiet, row, with_mail}
 use Rattle.am_paging.specs.Paging.{HasHeard, pages}
-use Rattle.am_rehearsal.specs.Previews.{previews_of}
+use Rattle.am_simulation.specs.Previews.{previews_of}
 use Rattle.am_timeline.specs.Playback.{PlaybackData}
 use Rattle.am_undelivered.specs.Spans.{SpanData, SpansData, spans_in}
 use Rattle.am_undelivered.specs.Undelivered.{missed_of}

@@ -22,7 +22,7 @@ use Rattle.am_model.specs.look_back.Presence.{goes_to, inserts, inserted_by, las
 use Rattle.am_model.specs.look_back.Preview.{preview}
 use Rattle.am_model.proofs.legal.Histories.{beginnings_are_legal, legal_appends}
 use Rattle.am_model.proofs.looking_back.rows.RowSteps.{still-resolved}
-use Rattle.am_rehearsal.specs.Previews.{previews_of, takes_group}
+use Rattle.am_simulation.specs.Previews.{previews_of, takes_group}
 use Rattle.am_terms.specs.declared.event.PreviewedBegin.{PreviewedBegin}
 use Rattle.am_timeline.specs.Playback.{PlaybackData}
 use Rattle.am_undelivered.specs.Spans.{Fact, Flushed, FlushData, Inserted, SpanData, SpansData, after_fact, after_facts, begin_at, begun_span, facts_at, facts_from, facts_in, facts_of, flush_of, flushed, flushed_span, inserted, inserted_again, inserts_at, next_begin, recipients_of, with_flush, with_recipients}

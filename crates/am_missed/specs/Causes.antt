@@ -20,7 +20,7 @@ use Rattle.am_model.specs.look_back.Laws.{number_in}
 use Rattle.am_model.specs.look_back.Past.{Past, past_of, takes, time_at}
 use Rattle.am_model.specs.look_back.Presence.{goes_to}
 use Rattle.am_paging.specs.Paging.{HasHeard, pages}
-use Rattle.am_rehearsal.specs.Previews.{previews_of}
+use Rattle.am_simulation.specs.Previews.{previews_of}
 use Rattle.am_timeline.specs.Playback.{PlaybackData}
 use Rattle.am_undelivered.specs.Spans.{Fact, SpanData, SpansData, after_facts, facts_from, facts_of, is_unflushed, spans_in}
 use Rattle.am_undelivered.specs.Undelivered.{missed_of}

@@ -31,10 +31,10 @@ use Rattle.am_model.proofs.legal.Histories.{beginnings_are_legal, legal_appends}
 use Rattle.am_paging.specs.InTime.{IsOnTime, WaitsInTime, WasOnTime, ended_at, latest, past_until, waits_since}
 use Rattle.am_paging.proofs.Standing.{not-found_empty}
 use Rattle.am_paging.proofs.Waits.{is-there, nobody_waits_longer}
-use Rattle.am_rehearsal.specs.Play.{PlaysTo}
-use Rattle.am_rehearsal.specs.Previews.{takes_group}
-use Rattle.am_rehearsal.specs.Scene.{Setting}
-use Rattle.am_rehearsal.specs.declared.limits.TheConstants.{BOARD_ID}
+use Rattle.am_simulation.specs.Play.{PlaysTo}
+use Rattle.am_simulation.specs.Previews.{takes_group}
+use Rattle.am_simulation.specs.Scene.{Setting}
+use Rattle.am_simulation.specs.declared.limits.TheConstants.{BOARD_ID}
 use Rattle.am_terms.specs.declared.event.Event.{Event}
 use Rattle.am_terms.specs.declared.rehearsal.TimedAction.{TimedAction}
 use Rattle.am_missed.proofs.Inserts.{reply-due}

@@ -34,9 +34,9 @@ use Rattle.am_paging.specs.InTime.{is_finish_of}
 use Rattle.am_paging.specs.Paging.{lists, pages}
 use Rattle.am_paging.proofs.Counted.{counts_past}
 use Rattle.am_paging.proofs.OpenFlushes.{flush-begins, is_begin, neither}
-use Rattle.am_rehearsal.specs.Play.{PlaysTo}
-use Rattle.am_rehearsal.specs.Scene.{Setting}
-use Rattle.am_rehearsal.specs.declared.limits.TheConstants.{BOARD_ID}
+use Rattle.am_simulation.specs.Play.{PlaysTo}
+use Rattle.am_simulation.specs.Scene.{Setting}
+use Rattle.am_simulation.specs.declared.limits.TheConstants.{BOARD_ID}
 use Rattle.am_terms.specs.declared.event.Event.{Event}
 use Rattle.am_terms.specs.declared.rehearsal.TimedAction.{TimedAction}
 use Rattle.am_missed.proofs.Inserts.{past-more}

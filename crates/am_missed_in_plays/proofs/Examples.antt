@@ -19,14 +19,14 @@ use Rattle.am_model.specs.Records.{entry, flush_reply}
 use Rattle.am_model.specs.look_back.Past.{takes}
 use Rattle.am_model.proofs.examples.Base.{a, finish, group_a, insert, named, nothing_due}
 use Rattle.am_pool.specs.Sendings.{IsAnsweredBy}
-use Rattle.am_rehearsal.specs.Answers.{AreEndsOf}
-use Rattle.am_rehearsal.specs.Next.{next}
-use Rattle.am_rehearsal.specs.Parts.{PartData, whole_part}
-use Rattle.am_rehearsal.specs.Play.{PlaysTo, whole}
-use Rattle.am_rehearsal.specs.Playing.{setting_of_part}
-use Rattle.am_rehearsal.specs.Previews.{previews_of}
-use Rattle.am_rehearsal.specs.Scene.{Scene, SendingData, Setting, opening_scene, setting_with}
-use Rattle.am_rehearsal.specs.Steps.{Steps, after_finish, after_nothing, after_plan, after_taking, answers_for, with_sending}
+use Rattle.am_simulation.specs.Answers.{AreEndsOf}
+use Rattle.am_simulation.specs.Next.{next}
+use Rattle.am_simulation.specs.Parts.{PartData, whole_part}
+use Rattle.am_simulation.specs.Play.{PlaysTo, whole}
+use Rattle.am_simulation.specs.Playing.{setting_of_part}
+use Rattle.am_simulation.specs.Previews.{previews_of}
+use Rattle.am_simulation.specs.Scene.{Scene, SendingData, Setting, opening_scene, setting_with}
+use Rattle.am_simulation.specs.Steps.{Steps, after_finish, after_nothing, after_plan, after_taking, answers_for, with_sending}
 use Rattle.am_terms.specs.declared.event.Event.TheVariants.{Sent}
 use Rattle.am_terms.specs.declared.rehearsal.Action.TheVariants.{Silence}
 use Rattle.am_terms.specs.declared.rehearsal.Outage.{Outage}

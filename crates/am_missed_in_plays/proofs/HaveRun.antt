@@ -14,14 +14,14 @@ use Rattle.am_model.specs.Replay.{IsLegal}
 use Rattle.am_model.specs.look_back.Entry.{alert_in}
 use Rattle.am_model.proofs.legal.EachCall.{inside}
 use Rattle.am_model.proofs.lists.Distinct.{all_from}
-use Rattle.am_rehearsal.specs.Parts.{PartData, after, cut_at, parts_from, whole_part}
-use Rattle.am_rehearsal.specs.Planned.{call_of, input_of, inputs_in, planned}
-use Rattle.am_rehearsal.specs.Play.{PlaysTo}
-use Rattle.am_rehearsal.specs.Playing.{ArePlayed, PlaysPart, loaded_plans, setting_of_part}
-use Rattle.am_rehearsal.specs.Scene.{Setting}
-use Rattle.am_rehearsal.specs.declared.limits.TheConstants.{BOARD_ID}
-use Rattle.am_rehearsal.specs.declared.playing.PlayedPart.{PlayedPart}
-use Rattle.am_rehearsal.proofs.Keeping.{play_configured, play_planned}
+use Rattle.am_simulation.specs.Parts.{PartData, after, cut_at, parts_from, whole_part}
+use Rattle.am_simulation.specs.Planned.{call_of, input_of, inputs_in, planned}
+use Rattle.am_simulation.specs.Play.{PlaysTo}
+use Rattle.am_simulation.specs.Playing.{ArePlayed, PlaysPart, loaded_plans, setting_of_part}
+use Rattle.am_simulation.specs.Scene.{Setting}
+use Rattle.am_simulation.specs.declared.limits.TheConstants.{BOARD_ID}
+use Rattle.am_simulation.specs.declared.playing.PlayedPart.{PlayedPart}
+use Rattle.am_simulation.proofs.Keeping.{play_configured, play_planned}
 use Rattle.am_terms.specs.declared.dispatcher_change.DispatcherChange.{DispatcherChange}
 use Rattle.am_terms.specs.declared.event.Event.{Event}
 use Rattle.am_terms.specs.declared.rehearsal.Action.{Action}

@@ -6,9 +6,9 @@ use Rattle.am_alerts.specs.declared.labels.Label.{Label}
 use Rattle.am_board.specs.History.{BoardData}
 use Rattle.am_model.specs.Configured.{integrations_of}
 use Rattle.am_model.specs.look_back.Presence.{goes_to, inserts}
-use Rattle.am_rehearsal.specs.Play.{PlaysTo}
-use Rattle.am_rehearsal.specs.Playing.{PlaysPart, loaded_plans, setting_of_part}
-use Rattle.am_rehearsal.specs.Scene.{Setting}
+use Rattle.am_simulation.specs.Play.{PlaysTo}
+use Rattle.am_simulation.specs.Playing.{PlaysPart, loaded_plans, setting_of_part}
+use Rattle.am_simulation.specs.Scene.{Setting}
 use Rattle.am_terms.specs.declared.event.Event.{Event}
 use Rattle.am_terms.specs.declared.rehearsal.TimedAction.{TimedAction}
 use Rattle.am_timeline.specs.Playback.{PlaybackData}

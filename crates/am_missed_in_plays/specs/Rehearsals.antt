@@ -1,9 +1,9 @@
 -- Rehearsals: in every rehearsal the dispatchers ran, and what is listed of missed spans has its cause.
 use Rattle.std.specs.Prelude.{All, List, map, None}
 use Rattle.am_missed.specs.Causes.{HasCauses, HasRun, ShowsCauses}
-use Rattle.am_rehearsal.specs.Parts.{PartData, parts_from, whole_part}
-use Rattle.am_rehearsal.specs.Playing.{ArePlayed}
-use Rattle.am_rehearsal.specs.declared.playing.PlayedPart.{PlayedPart}
+use Rattle.am_simulation.specs.Parts.{PartData, parts_from, whole_part}
+use Rattle.am_simulation.specs.Playing.{ArePlayed}
+use Rattle.am_simulation.specs.declared.playing.PlayedPart.{PlayedPart}
 use Rattle.am_terms.specs.declared.dispatcher_change.DispatcherChange.{DispatcherChange}
 use Rattle.am_terms.specs.declared.rehearsal.Rehearsal.{Rehearsal}
 use Rattle.am_timeline.specs.Playback.{PlaybackData}

@@ -14,9 +14,9 @@ use Rattle.am_model.specs.look_back.Presence.{goes_to, inserts}
 use Rattle.am_missed.specs.Causes.{TakenData, facts_before, is_muted_at, spans_listed, time_of}
 use Rattle.am_paging.specs.InTime.{latest}
 use Rattle.am_plays.specs.PlaysInTime.{IsServed}
-use Rattle.am_rehearsal.specs.Parts.{PartData}
-use Rattle.am_rehearsal.specs.Playing.{setting_of_part}
-use Rattle.am_rehearsal.specs.declared.playing.PlayedPart.{PlayedPart}
+use Rattle.am_simulation.specs.Parts.{PartData}
+use Rattle.am_simulation.specs.Playing.{setting_of_part}
+use Rattle.am_simulation.specs.declared.playing.PlayedPart.{PlayedPart}
 use Rattle.am_terms.specs.declared.dispatcher_change.DispatcherChange.{DispatcherChange}
 use Rattle.am_terms.specs.declared.rehearsal.Rehearsal.{Rehearsal}
 use Rattle.am_timeline.specs.Playback.{PlaybackData}

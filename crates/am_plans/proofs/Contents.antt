@@ -8,10 +8,10 @@ use Rattle.serde_json.specs.Find.{as_object, as_str, get_member}
 use Rattle.am_alerts.specs.Matcher.{compare_texts}
 use Rattle.am_alerts.specs.declared.labels.Label.{Label}
 use Rattle.am_alerts.specs.declared.matcher.MatcherParts.{MatcherParts}
-use Rattle.am_cli.proofs.Once.{one_list, one_matcher_list}
-use Rattle.am_cli.specs.Configured.{DecodesToLabels}
-use Rattle.am_cli.specs.Read.{has_only, number_in}
-use Rattle.am_cli.specs.declared.reader.Mode.{Mode}
+use Rattle.am_json.proofs.Once.{one_list, one_matcher_list}
+use Rattle.am_json.specs.Configured.{DecodesToLabels}
+use Rattle.am_json.specs.Read.{has_only, number_in}
+use Rattle.am_json.specs.declared.reader.Mode.{Mode}
 use Rattle.am_model.specs.declared.config.Config.{Config}
 use Rattle.am_model.specs.declared.config.Receiver.{Receiver}
 use Rattle.am_plans.proofs.Decodings.{same_some}

@@ -4,10 +4,10 @@ use Rattle.std.specs.Prelude.{IfErr, IfSome, IsSomeAnd, IsTrue}
 use Rattle.std.specs.Result.{IsErrAnd}
 use Rattle.serde_json.specs.Data.{Data, Items, no_items, item}
 use Rattle.serde_json.specs.Find.{as_array, as_bool}
-use Rattle.am_cli.specs.Decoding.{DecodeEach, IsList}
-use Rattle.am_cli.specs.Read.{duration_in, is_refusal}
-use Rattle.am_cli.specs.declared.fault.InputFault.{InputFault}
-use Rattle.am_cli.specs.declared.fault.InputFault.TheVariants.{NoMemory}
+use Rattle.am_json.specs.Decoding.{DecodeEach, IsList}
+use Rattle.am_json.specs.Read.{duration_in, is_refusal}
+use Rattle.am_json.specs.declared.fault.InputFault.{InputFault}
+use Rattle.am_json.specs.declared.fault.InputFault.TheVariants.{NoMemory}
 use Rattle.am_plans.specs.Expected.{member_if, member_or}
 
 -- what a member is read as, if it is there

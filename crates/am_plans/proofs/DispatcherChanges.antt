@@ -16,11 +16,11 @@ use Rattle.serde_json.specs.Data.{Data, Items, Members}
 use Rattle.serde_json.specs.Find.{as_array, as_object, get_member}
 use Rattle.serde_json.specs.View.{items_view, view}
 use Rattle.serde_json.specs.declared.value.Value.{Value}
-use Rattle.am_cli.proofs.Once.{IsOne, one_each, one_or, one_read, one_there}
-use Rattle.am_cli.specs.Decoding.{DecodeEach, IsInterval}
-use Rattle.am_cli.specs.Read.{Excludes, interval_in}
-use Rattle.am_cli.specs.declared.fault.InputFault.{InputFault}
-use Rattle.am_cli.specs.declared.reader.Mode.{Mode}
+use Rattle.am_json.proofs.Once.{IsOne, one_each, one_or, one_read, one_there}
+use Rattle.am_json.specs.Decoding.{DecodeEach, IsInterval}
+use Rattle.am_json.specs.Read.{Excludes, interval_in}
+use Rattle.am_json.specs.declared.fault.InputFault.{InputFault}
+use Rattle.am_json.specs.declared.reader.Mode.{Mode}
 use Rattle.am_model.proofs.lists.InOrder.{in_order-map, sort_by_is_in_order}
 use Rattle.am_model.proofs.lists.Sets.{any-map}
 use Rattle.am_model.specs.Lists.{in_order}

@@ -5,11 +5,11 @@ use Rattle.serde_json.specs.Data.{Data, Members}
 use Rattle.serde_json.specs.Find.{get_member}
 use Rattle.am_alerts.specs.Matcher.{compare_texts}
 use Rattle.am_alerts.specs.declared.matcher.MatcherParts.{MatcherParts}
-use Rattle.am_cli.proofs.Decoding.{found}
-use Rattle.am_cli.proofs.Once.{one_matcher_list}
-use Rattle.am_cli.specs.Configured.{DecodesToMatcher}
-use Rattle.am_cli.specs.Decoding.{HasNone, IsList}
-use Rattle.am_cli.specs.declared.reader.Mode.{Mode}
+use Rattle.am_json.proofs.Decoding.{found}
+use Rattle.am_json.proofs.Once.{one_matcher_list}
+use Rattle.am_json.specs.Configured.{DecodesToMatcher}
+use Rattle.am_json.specs.Decoding.{HasNone, IsList}
+use Rattle.am_json.specs.declared.reader.Mode.{Mode}
 use Rattle.am_plans.specs.Expected.{AreMatchersOf, IsEndOf, IsOwnSpan, IsSpanIn, IsSpanWithin, HasNoRegexAt}
 use Rattle.am_terms.specs.declared.rehearsal.TimedAction.{TimedAction}
 

@@ -8,9 +8,9 @@ use Rattle.std.proofs.lemmas.Cmp.{nat_list_cmp_total, on_total}
 use Rattle.std.proofs.lemmas.List.Sorted.{IsPermutation-sym, IsPermutation-trans}
 use Rattle.am_alerts.specs.Labels.{IsReadOf, has_rising_names, labels_in, text_cmp, with_values}
 use Rattle.am_alerts.specs.declared.labels.Label.{Label}
-use Rattle.am_cli.proofs.Once.{IsOne, one_pairs}
-use Rattle.am_cli.specs.Configured.{DecodesToLabels}
-use Rattle.am_cli.specs.declared.reader.Mode.{Mode}
+use Rattle.am_json.proofs.Once.{IsOne, one_pairs}
+use Rattle.am_json.specs.Configured.{DecodesToLabels}
+use Rattle.am_json.specs.declared.reader.Mode.{Mode}
 use Rattle.am_model.proofs.lists.InOrder.{in_order-permutation}
 use Rattle.am_model.specs.Lists.{in_order, put_in_order}
 

@@ -22,3 +22,5 @@ pub mod Outages
 pub mod DispatcherChanges
 -- what one of some configurations has
 pub mod SomeHave
+-- receivers of a name: the first of them, and whether there is another
+pub mod Named

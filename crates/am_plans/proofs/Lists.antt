@@ -4,8 +4,8 @@ use Rattle.std.proofs.lemmas.List.{take_more}
 use Rattle.serde_json.specs.Data.{Data}
 use Rattle.serde_json.specs.View.{items_view, view}
 use Rattle.serde_json.specs.declared.value.Value.{Value}
-use Rattle.am_cli.specs.Decoding.{DecodeEach}
-use Rattle.am_cli.proofs.Members.{decode_more}
+use Rattle.am_json.specs.Decoding.{DecodeEach}
+use Rattle.am_json.proofs.Members.{decode_more}
 
 -- the next value, and what it is read as
 pub decode_next : {X : Type 0} (decodes_to : Data → X → Type 0) (values : List Value) (i : ℕ) (value : Value) (x : X) (xs ys : List X)

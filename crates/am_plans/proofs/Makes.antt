@@ -18,10 +18,10 @@ use Rattle.am_alerts.specs.declared.alert.AlertFault.TheVariants.{BadTime, EndBe
 use Rattle.am_alerts.specs.declared.duration.DurationFault.TheVariants.{TooLong}
 use Rattle.am_alerts.specs.declared.limits.TheConstants.{MAX_DURATION, MAX_MATCHERS, MAX_TIME}
 use Rattle.am_alerts.proofs.Faults.{none_of_both}
-use Rattle.am_cli.specs.Configured.{DecodesToLabels}
-use Rattle.am_cli.specs.Decoding.{DecodeEach, IsList}
-use Rattle.am_cli.specs.Read.{duration_in}
-use Rattle.am_cli.specs.declared.reader.Mode.{Mode}
+use Rattle.am_json.specs.Configured.{DecodesToLabels}
+use Rattle.am_json.specs.Decoding.{DecodeEach, IsList}
+use Rattle.am_json.specs.Read.{duration_in}
+use Rattle.am_json.specs.declared.reader.Mode.{Mode}
 use Rattle.am_mute.specs.declared.silence.SilenceFault.TheVariants.{BadTimes, NoMatchers, TooManyMatchers}
 use Rattle.am_plans.specs.Decoding.{DecodesToAlert, DecodesToSilence, DecodesToSpan, HasAlert, HasSilence, HasSpan, IsSpan, follow}
 use Rattle.am_plans.specs.Planned.{may_insert, may_insert_all, may_insert_in, may_set}

@@ -7,9 +7,9 @@ use Rattle.serde_json.specs.View.{items_view, view}
 use Rattle.serde_json.specs.declared.value.Value.{Value}
 use Rattle.am_alerts.specs.Matcher.{compare_texts}
 use Rattle.am_alerts.specs.declared.matcher.MatcherParts.{MatcherParts}
-use Rattle.am_cli.specs.Configured.{DecodesToMatcher}
-use Rattle.am_cli.specs.Decoding.{DecodeEach, IsList}
-use Rattle.am_cli.specs.declared.reader.Mode.{Mode}
+use Rattle.am_json.specs.Configured.{DecodesToMatcher}
+use Rattle.am_json.specs.Decoding.{DecodeEach, IsList}
+use Rattle.am_json.specs.declared.reader.Mode.{Mode}
 use Rattle.am_plans.specs.Expected.{AreMatchersIn, AreMatchersOf, HaveNoRegex, HasNoRegexIn, HasNoRegexAt, said_or_of}
 
 no_regex_by : (mode : Mode) (or_of : Bool) (found of : Option Data) (ms : Option (List MatcherParts))

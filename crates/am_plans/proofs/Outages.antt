@@ -2,10 +2,10 @@
 use Rattle.std.proofs.Common.{◌≡◌, ℕ, List, [], ◌∷◌, Option, Some, None, MatchOption, arith, codes, get_or, refl, ap}
 use Rattle.serde_json.specs.Data.{Data, Items, no_items, item, Members}
 use Rattle.serde_json.specs.Find.{as_array, get_member}
-use Rattle.am_cli.proofs.Once.{IsOne, one_object, one_or, one_read, one_text_of, one_there}
-use Rattle.am_cli.specs.Decoding.{DecodeEach, IsAnswer, IsDuration, IsList, IsText, answer_text}
-use Rattle.am_cli.specs.Read.{duration_in, number_in}
-use Rattle.am_cli.specs.declared.reader.Mode.{Mode}
+use Rattle.am_json.proofs.Once.{IsOne, one_object, one_or, one_read, one_text_of, one_there}
+use Rattle.am_json.specs.Decoding.{DecodeEach, IsAnswer, IsDuration, IsList, IsText, answer_text}
+use Rattle.am_json.specs.Read.{duration_in, number_in}
+use Rattle.am_json.specs.declared.reader.Mode.{Mode}
 use Rattle.am_plans.proofs.Decodings.{same_some}
 use Rattle.am_plans.proofs.Spans.{one_if, one_span_of}
 use Rattle.am_plans.specs.Decoding.{DecodesToOutage, HasOutage}

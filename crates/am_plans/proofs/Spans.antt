@@ -3,10 +3,10 @@ use Rattle.std.proofs.Common.{◌≡◌, Option, Some, None, MatchOption, codes}
 use Rattle.std.specs.Prelude.{IsSomeAnd}
 use Rattle.serde_json.specs.Data.{Data, Members}
 use Rattle.serde_json.specs.Find.{get_member}
-use Rattle.am_cli.proofs.Once.{IsOne, one_object, one_or, one_read}
-use Rattle.am_cli.specs.Decoding.{IsDuration}
-use Rattle.am_cli.specs.Read.{duration_in}
-use Rattle.am_cli.specs.declared.reader.Mode.{Mode}
+use Rattle.am_json.proofs.Once.{IsOne, one_object, one_or, one_read}
+use Rattle.am_json.specs.Decoding.{IsDuration}
+use Rattle.am_json.specs.Read.{duration_in}
+use Rattle.am_json.specs.declared.reader.Mode.{Mode}
 use Rattle.am_plans.specs.Decoding.{DecodesToSpan, HasSpan, IsSpan}
 use Rattle.am_plans.specs.declared.span.Span.{Span}
 

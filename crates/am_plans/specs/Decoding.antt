@@ -6,15 +6,15 @@ use Rattle.std.specs.Option.{option_map_or}
 use Rattle.std.specs.Str.{bytes_eq}
 use Rattle.serde_json.specs.Data.{Data, Members}
 use Rattle.serde_json.specs.Find.{get_member}
-use Rattle.am_cli.specs.Configured.{DecodesToLabels, DecodesToMatcher}
+use Rattle.am_json.specs.Configured.{DecodesToLabels, DecodesToMatcher}
 use Rattle.am_alerts.specs.declared.limits.TheConstants.{MAX_MATCHERS}
-use Rattle.am_cli.specs.Decoding.{IsAnswer, IsDuration, IsList, IsNumber, IsObject, IsText, Has, HasIf, HasNone, HasOr}
-use Rattle.am_cli.specs.Read.{has_only, is_refusal}
-use Rattle.am_cli.specs.declared.fault.InputFault.{InputFault}
+use Rattle.am_json.specs.Decoding.{IsAnswer, IsDuration, IsList, IsNumber, IsObject, IsText, Has, HasIf, HasNone, HasOr}
+use Rattle.am_json.specs.Read.{has_only, is_refusal}
+use Rattle.am_json.specs.declared.fault.InputFault.{InputFault}
 use Rattle.am_model.specs.declared.config.Config.{Config}
 use Rattle.am_model.specs.declared.config.Receiver.{Receiver}
 use Rattle.am_model.specs.declared.config.TheConstants.{MAX_INTEGRATIONS}
-use Rattle.am_cli.specs.declared.reader.Mode.{Mode}
+use Rattle.am_json.specs.declared.reader.Mode.{Mode}
 use Rattle.am_plans.specs.declared.alert.AlertItem.{AlertItem}
 use Rattle.am_plans.specs.declared.silence.SilenceItem.{SilenceItem}
 use Rattle.am_plans.specs.declared.span.Span.{Span}

@@ -10,9 +10,9 @@ use Rattle.std.specs.declared.cmp.Ordering.{Ordering}
 use Rattle.serde_json.specs.Data.{Data, Members}
 use Rattle.serde_json.specs.Find.{as_array, as_str}
 use Rattle.serde_json.specs.View.{view}
-use Rattle.am_cli.specs.Decoding.{DecodeEach, Has, HasOr, IsInterval, IsObject}
-use Rattle.am_cli.specs.Read.{has_only}
-use Rattle.am_cli.specs.declared.reader.Mode.{Mode}
+use Rattle.am_json.specs.Decoding.{DecodeEach, Has, HasOr, IsInterval, IsObject}
+use Rattle.am_json.specs.Read.{has_only}
+use Rattle.am_json.specs.declared.reader.Mode.{Mode}
 use Rattle.am_model.specs.Lists.{in_order}
 use Rattle.am_plans.specs.declared.dispatcher_change.DispatcherChangeItem.{DispatcherChangeItem}
 use Rattle.am_plans.specs.declared.dispatcher_change.Kind.{Kind}

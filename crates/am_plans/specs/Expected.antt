@@ -14,10 +14,10 @@ use Rattle.am_alerts.specs.Matcher.{compare_texts, match_all}
 use Rattle.am_alerts.specs.declared.labels.Label.{Label}
 use Rattle.am_alerts.specs.declared.limits.TheConstants.{MAX_MATCHERS}
 use Rattle.am_alerts.specs.declared.matcher.MatcherParts.{MatcherParts}
-use Rattle.am_cli.specs.Configured.{DecodesToLabels, DecodesToMatcher}
-use Rattle.am_cli.specs.Decoding.{Has, HasNone, HasOr, IsFlag, IsList}
-use Rattle.am_cli.specs.Read.{duration_in, has_only, number_in}
-use Rattle.am_cli.specs.declared.reader.Mode.{Mode}
+use Rattle.am_json.specs.Configured.{DecodesToLabels, DecodesToMatcher}
+use Rattle.am_json.specs.Decoding.{Has, HasNone, HasOr, IsFlag, IsList}
+use Rattle.am_json.specs.Read.{duration_in, has_only, number_in}
+use Rattle.am_json.specs.declared.reader.Mode.{Mode}
 use Rattle.am_plans.specs.declared.expectation.TheConstants.{MAX_EXPECTATIONS}
 use Rattle.am_model.specs.declared.config.Config.{Config}
 use Rattle.am_model.specs.declared.config.Integration.{Integration}

@@ -8,8 +8,8 @@ use Rattle.serde_json.specs.Data.{Members}
 use Rattle.am_alerts.specs.AlertData.{alert_fault, alert_of}
 use Rattle.am_alerts.specs.Matcher.{compare_texts}
 use Rattle.am_alerts.specs.declared.labels.Label.{Label}
-use Rattle.am_cli.specs.Decoding.{IsList, HasOr}
-use Rattle.am_cli.specs.declared.reader.Mode.{Mode}
+use Rattle.am_json.specs.Decoding.{IsList, HasOr}
+use Rattle.am_json.specs.declared.reader.Mode.{Mode}
 use Rattle.am_plans.specs.Decoding.{DecodesToAlert, DecodesToSilence}
 use Rattle.am_plans.specs.declared.alert.AlertItem.{AlertItem}
 use Rattle.am_plans.specs.declared.planned.Planned.{Planned}

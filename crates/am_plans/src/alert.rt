@@ -3,15 +3,15 @@ ghost use Rattle.std.specs.Prelude.{◌≡◌, ◌≢◌, IfErr, IfOk, None, OnO
 ghost use Rattle.std.specs.Option.{option_map_or};
 ghost use Rattle.serde_json.specs.Find.{get_member};
 ghost use Rattle.serde_json.specs.View.{members_view};
-ghost use Rattle.am_cli.specs.Decoding.{HasNone};
-ghost use Rattle.am_cli.specs.Read.{Excludes};
+ghost use Rattle.am_json.specs.Decoding.{HasNone};
+ghost use Rattle.am_json.specs.Read.{Excludes};
 ghost use Rattle.am_plans.specs.Decoding.{AreSpansIn, follow};
 
 use crate::span::Span;
 use am_alerts::labels::Labels;
-use am_cli::fault::{FaultKind, InputFault};
-use am_cli::labels::read_labels;
-use am_cli::reader::{FromJson, Object, Reader};
+use am_json::fault::{FaultKind, InputFault};
+use am_json::labels::read_labels;
+use am_json::reader::{FromJson, Object, Reader};
 
 /// A label set, and when an alert with it fires.
 #[derive(Drop)]

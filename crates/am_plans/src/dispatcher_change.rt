@@ -5,16 +5,16 @@ ghost use Rattle.std.specs.List.{list_any};
 ghost use Rattle.std.specs.Result.{result_ok};
 ghost use Rattle.serde_json.specs.Find.{as_array, get_member};
 ghost use Rattle.serde_json.specs.View.{items_view, members_view, view};
-ghost use Rattle.am_cli.specs.Decoding.{DecodeEach, HasOr};
-ghost use Rattle.am_cli.specs.Read.{Excludes};
+ghost use Rattle.am_json.specs.Decoding.{DecodeEach, HasOr};
+ghost use Rattle.am_json.specs.Read.{Excludes};
 ghost use Rattle.am_plans.specs.declared.dispatcher_change.TheConstants.{MAX_DISPATCHER_CHANGES};
 ghost use Rattle.am_plans.specs.DispatcherChange.{AddsItems, AreItemsIn, DecodesTo, DecodesToReload, DecodesToRestart, IsListOrOne};
 ghost use Rattle.am_plans.specs.DispatcherChange.{ItemData, item_of, carryover_in, may_all_follow, may_follow, name_of};
 
-use am_cli::duration::interval;
-use am_cli::fault::{FaultKind, InputFault};
-use am_cli::faults::Faults;
-use am_cli::reader::{Object, Reader};
+use am_json::duration::interval;
+use am_json::fault::{FaultKind, InputFault};
+use am_json::faults::Faults;
+use am_json::reader::{Object, Reader};
 use am_terms::dispatcher_change::Carryover;
 use serde_json::Value;
 

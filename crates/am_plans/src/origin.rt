@@ -1,8 +1,8 @@
 //! The pointer of a planned action.
-ghost use Rattle.am_cli.specs.Read.{IsRefusedBy};
+ghost use Rattle.am_json.specs.Read.{IsRefusedBy};
 
-use am_cli::fault::{FaultKind, InputFault};
-use am_cli::pointer::JsonPointer;
+use am_json::fault::{FaultKind, InputFault};
+use am_json::pointer::JsonPointer;
 use std::alloc::Global;
 
 /// Where a plan is in the input: the number of its item, and of its span, if the item lists them.

@@ -1,8 +1,8 @@
 //! The outages of a rehearsal, and how they are read.
 ghost use Rattle.std.specs.Prelude.{◌≡◌, [], IfErr, IfOk, IsTrue, List, OnOk, codes, false, map, true};
 ghost use Rattle.serde_json.specs.View.{members_view};
-ghost use Rattle.am_cli.specs.Decoding.{HasOr, IsAnswer, IsList};
-ghost use Rattle.am_cli.specs.Read.{Excludes};
+ghost use Rattle.am_json.specs.Decoding.{HasOr, IsAnswer, IsList};
+ghost use Rattle.am_json.specs.Read.{Excludes};
 ghost use Rattle.am_plans.specs.Configs.{configs_in};
 ghost use Rattle.am_plans.specs.Decoding.{DecodesToOutage, have_targets};
 ghost use Rattle.am_terms.specs.declared.rehearsal.Outage.{Outage};
@@ -10,10 +10,10 @@ ghost use Rattle.am_terms.specs.declared.rehearsal.Outage.{Outage};
 use crate::configs::Configs;
 use crate::span::Span;
 use crate::target::{check, position};
-use am_cli::duration::duration_or;
-use am_cli::fault::InputFault;
-use am_cli::pointer::JsonPointer;
-use am_cli::reader::{FromJson, Object, Reader};
+use am_json::duration::duration_or;
+use am_json::fault::InputFault;
+use am_json::pointer::JsonPointer;
+use am_json::reader::{FromJson, Object, Reader};
 use am_retry::Answer;
 use am_terms::rehearsal::Outage;
 use std::alloc::{AllocError, Global};

@@ -4,12 +4,12 @@
 ghost use Rattle.std.specs.Prelude.{◌≡◌, ◌<◌, ◌+◌, ◌&&◌, [], ◌∷◌, IfErr, IfOk, OnOk, map};
 ghost use Rattle.std.specs.List.{flat_map, list_all};
 ghost use Rattle.serde_json.specs.View.{members_view};
-ghost use Rattle.am_cli.specs.Read.{Excludes};
+ghost use Rattle.am_json.specs.Read.{Excludes};
 ghost use Rattle.am_plans.specs.Decoding.{Denies};
 ghost use Rattle.am_plans.specs.Planned.{AddsPlans, ArePlannedWithoutRegexes, ArePlannedIn, insert_of};
 ghost use Rattle.am_plans.specs.Planned.{inserts_in, inserts_of, plans_of, set_of, sets_from};
 ghost use Rattle.am_plans.specs.Planned.{may_insert, may_insert_all, may_insert_in, may_set};
-ghost use Rattle.am_cli.specs.declared.fault.InputFault.TheVariants.{NoMemory};
+ghost use Rattle.am_json.specs.declared.fault.InputFault.TheVariants.{NoMemory};
 
 use crate::alert::AlertItem;
 use crate::origin::Origin;
@@ -17,8 +17,8 @@ use crate::silence::SilenceItem;
 use crate::span::Span;
 use am_alerts::alert::Alert;
 use am_alerts::labels::Labels;
-use am_cli::fault::InputFault;
-use am_cli::reader::Object;
+use am_json::fault::InputFault;
+use am_json::reader::Object;
 use am_mute::silence::Silence;
 use am_terms::rehearsal::{Action, TimedAction};
 use std::alloc::Global;

@@ -3,15 +3,15 @@
 //! A silence is set where its span begins, unless `set` gives another time.
 ghost use Rattle.std.specs.Prelude.{◌<◌, ℕ, IfErr, IfOk, codes};
 ghost use Rattle.serde_json.specs.View.{members_view};
-ghost use Rattle.am_cli.specs.Decoding.{Has, HasOr, IsDuration};
-ghost use Rattle.am_cli.specs.Read.{Excludes};
+ghost use Rattle.am_json.specs.Decoding.{Has, HasOr, IsDuration};
+ghost use Rattle.am_json.specs.Read.{Excludes};
 
 use crate::span::Span;
 use am_alerts::limits::MAX_MATCHERS;
 use am_alerts::matcher::Matcher;
-use am_cli::duration::duration_or;
-use am_cli::fault::{FaultKind, InputFault};
-use am_cli::reader::{FromJson, Object, Reader};
+use am_json::duration::duration_or;
+use am_json::fault::{FaultKind, InputFault};
+use am_json::reader::{FromJson, Object, Reader};
 
 /// A silence: what it mutes, in which span, and when it is made.
 #[derive(Drop)]

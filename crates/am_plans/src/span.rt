@@ -1,12 +1,12 @@
 //! Spans of time of alerts, silences and outages, and how they are read.
 ghost use Rattle.std.specs.Prelude.{◌<◌, ℕ, IfErr, IfOk, IfSome, Option, codes};
 ghost use Rattle.serde_json.specs.View.{members_view};
-ghost use Rattle.am_cli.specs.Decoding.{HasIf, IsDuration};
-ghost use Rattle.am_cli.specs.Read.{Excludes};
+ghost use Rattle.am_json.specs.Decoding.{HasIf, IsDuration};
+ghost use Rattle.am_json.specs.Read.{Excludes};
 
-use am_cli::duration::{duration, duration_or};
-use am_cli::fault::{FaultKind, InputFault};
-use am_cli::reader::{FromJson, Object, Reader};
+use am_json::duration::{duration, duration_or};
+use am_json::fault::{FaultKind, InputFault};
+use am_json::reader::{FromJson, Object, Reader};
 
 /// From a time on, and before another, if there is another (milliseconds from the start).
 #[derive(Clone, Copy)]

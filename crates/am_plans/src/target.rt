@@ -2,15 +2,15 @@
 ghost use Rattle.std.specs.Prelude.{◌≡◌, ◌≢◌, ◌<◌, ℕ, IfErr, IfOk, IfSome, OnOk, Option, Some, codes, false, true};
 ghost use Rattle.serde_json.specs.Find.{get_member};
 ghost use Rattle.serde_json.specs.View.{members_view};
-ghost use Rattle.am_cli.specs.Read.{number_in};
+ghost use Rattle.am_json.specs.Read.{number_in};
 ghost use Rattle.am_plans.specs.Configs.{configs_in};
 ghost use Rattle.am_plans.specs.Decoding.{some_has_target};
 ghost use Rattle.am_plans.specs.Expected.{member_if};
 
 use crate::configs::Configs;
-use am_cli::fault::{FaultKind, InputFault};
-use am_cli::pointer::JsonPointer;
-use am_cli::reader::Object;
+use am_json::fault::{FaultKind, InputFault};
+use am_json::pointer::JsonPointer;
+use am_json::reader::Object;
 use am_model::config::MAX_INTEGRATIONS;
 use std::alloc::Global;
 

@@ -26,9 +26,9 @@ use Rattle.am_paging.proofs.Dropped.{no_page_is_dropped}
 use Rattle.am_paging.proofs.DueTimes.{IsDueBy, due-later, due-step, due-within}
 use Rattle.am_paging.proofs.GroupSteps.{group_after}
 use Rattle.am_paging.proofs.Standing.{IsAsBegun, as-begun, ended-before, not-found_empty, not-missing, open-begun}
-use Rattle.am_rehearsal.specs.Play.{PlaysTo}
-use Rattle.am_rehearsal.specs.Scene.{Setting}
-use Rattle.am_rehearsal.specs.declared.limits.TheConstants.{BOARD_ID}
+use Rattle.am_simulation.specs.Play.{PlaysTo}
+use Rattle.am_simulation.specs.Scene.{Setting}
+use Rattle.am_simulation.specs.declared.limits.TheConstants.{BOARD_ID}
 use Rattle.am_terms.specs.declared.event.Event.{Event}
 use Rattle.am_terms.specs.declared.rehearsal.TimedAction.{TimedAction}
 use Rattle.am_plays.specs.PlaysRecover.{HearsFrom, IsRecovering, PagesComeAfterOutages, PlaysDeliverAfterOutages, Sends, SomeThenEach, StaysDue, recovered_by}

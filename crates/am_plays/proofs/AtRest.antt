@@ -17,9 +17,9 @@ use Rattle.am_model.proofs.looking_back.Pasts.{legal_past, replay_is_past, state
 use Rattle.am_model.proofs.looking_back.flushes.FlushesOnce.{open-group}
 use Rattle.am_paging.specs.InTime.{AtSome, ended_at, past_until}
 use Rattle.am_paging.proofs.Counted.{counts_past}
-use Rattle.am_rehearsal.specs.Play.{PlaysTo}
-use Rattle.am_rehearsal.specs.Scene.{Setting}
-use Rattle.am_rehearsal.specs.declared.limits.TheConstants.{BOARD_ID}
+use Rattle.am_simulation.specs.Play.{PlaysTo}
+use Rattle.am_simulation.specs.Scene.{Setting}
+use Rattle.am_simulation.specs.declared.limits.TheConstants.{BOARD_ID}
 use Rattle.am_terms.specs.declared.event.Event.{Event}
 use Rattle.am_terms.specs.declared.rehearsal.TimedAction.{TimedAction}
 use Rattle.am_plays.specs.Plays.{ComesBy, has_place}

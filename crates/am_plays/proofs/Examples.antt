@@ -27,11 +27,11 @@ use Rattle.am_board.specs.History.{state_at}
 use Rattle.am_paging.specs.InTime.{AtSome, HearsBy, IsOnTime, begun_by, is_finish_of, past_until}
 use Rattle.am_paging.specs.Paging.{is_due_a_page, reports_page}
 use Rattle.am_pool.specs.Sendings.{IsAnsweredBy}
-use Rattle.am_rehearsal.specs.Answers.{AreEndsOf}
-use Rattle.am_rehearsal.specs.Next.{next}
-use Rattle.am_rehearsal.specs.Play.{LeadsIn, PlaysTo, whole}
-use Rattle.am_rehearsal.specs.Scene.{Scene, SendingData, Setting, opening_scene, setting_with}
-use Rattle.am_rehearsal.specs.Steps.{Steps, after_finish, after_nothing, after_plan, after_taking, after_too_many, answers_for, with_sending}
+use Rattle.am_simulation.specs.Answers.{AreEndsOf}
+use Rattle.am_simulation.specs.Next.{next}
+use Rattle.am_simulation.specs.Play.{LeadsIn, PlaysTo, whole}
+use Rattle.am_simulation.specs.Scene.{Scene, SendingData, Setting, opening_scene, setting_with}
+use Rattle.am_simulation.specs.Steps.{Steps, after_finish, after_nothing, after_plan, after_taking, after_too_many, answers_for, with_sending}
 use Rattle.am_terms.specs.declared.event.Event.TheVariants.{Sent}
 use Rattle.am_terms.specs.declared.rehearsal.Action.TheVariants.{Insert}
 use Rattle.am_terms.specs.declared.rehearsal.Outage.{Outage}

@@ -36,12 +36,12 @@ use Rattle.am_model.specs.look_back.Laws.{IsOneFlushAtATime}
 use Rattle.am_model.specs.look_back.Past.{AtEach, begin_of, has_begun, is_flush, is_flush_of, notices_in, past_of, time_at}
 use Rattle.am_paging.specs.InTime.{is_finish_of}
 use Rattle.am_pool.specs.Sendings.{note_at}
-use Rattle.am_rehearsal.specs.Next.{next, none_left}
-use Rattle.am_rehearsal.specs.Planned.{call_of}
-use Rattle.am_rehearsal.specs.Play.{LeadsIn, PlaysTo}
-use Rattle.am_rehearsal.specs.Scene.{Scene, SendingData, Setting, opening_scene}
-use Rattle.am_rehearsal.specs.Steps.{IsBegun, IsReplied, Steps, after_end, after_end_of, after_finish, answers_for, is_success, ticket_of, with_call, with_note, with_report}
-use Rattle.am_rehearsal.specs.Taking.{cause_of_none}
+use Rattle.am_simulation.specs.Next.{next, none_left}
+use Rattle.am_simulation.specs.Planned.{call_of}
+use Rattle.am_simulation.specs.Play.{LeadsIn, PlaysTo}
+use Rattle.am_simulation.specs.Scene.{Scene, SendingData, Setting, opening_scene}
+use Rattle.am_simulation.specs.Steps.{IsBegun, IsReplied, Steps, after_end, after_end_of, after_finish, answers_for, is_success, ticket_of, with_call, with_note, with_report}
+use Rattle.am_simulation.specs.Taking.{cause_of_none}
 use Rattle.am_terms.specs.declared.event.Event.{Event}
 use Rattle.am_terms.specs.declared.rehearsal.Action.{Action}
 use Rattle.am_terms.specs.declared.rehearsal.Action.TheVariants.{Insert, Silence, Load}

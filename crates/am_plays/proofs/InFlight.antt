@@ -29,13 +29,13 @@ use Rattle.am_model.specs.Ticket.{TicketData, recorded, report_fault}
 use Rattle.am_model.specs.look_back.Laws.{has_open}
 use Rattle.am_model.specs.look_back.Past.{AtEach, past_of, time_at}
 use Rattle.am_paging.proofs.Standing.{one-is}
-use Rattle.am_rehearsal.proofs.Coming.{next_else, next_on}
-use Rattle.am_rehearsal.specs.Answers.{AreEndsOf, answer_of}
-use Rattle.am_rehearsal.specs.Next.{begins_on, comes_by, earlier, in_time, next, next_begin, next_but_begins, next_end, next_end_of, next_finish, next_of_all, next_of_others, next_plan, next_removal}
-use Rattle.am_rehearsal.specs.Play.{LeadsIn, PlaysTo}
-use Rattle.am_rehearsal.specs.Scene.{Scene, SendingData, Setting, opening_scene}
-use Rattle.am_rehearsal.specs.Steps.{IsBegun, IsReplied, Steps, after_end_of, answers_for, is_success, with_report}
-use Rattle.am_rehearsal.specs.Taking.{cause_of_none}
+use Rattle.am_simulation.proofs.Coming.{next_else, next_on}
+use Rattle.am_simulation.specs.Answers.{AreEndsOf, answer_of}
+use Rattle.am_simulation.specs.Next.{begins_on, comes_by, earlier, in_time, next, next_begin, next_but_begins, next_end, next_end_of, next_finish, next_of_all, next_of_others, next_plan, next_removal}
+use Rattle.am_simulation.specs.Play.{LeadsIn, PlaysTo}
+use Rattle.am_simulation.specs.Scene.{Scene, SendingData, Setting, opening_scene}
+use Rattle.am_simulation.specs.Steps.{IsBegun, IsReplied, Steps, after_end_of, answers_for, is_success, with_report}
+use Rattle.am_simulation.specs.Taking.{cause_of_none}
 use Rattle.am_terms.specs.declared.event.Event.{Event}
 use Rattle.am_terms.specs.declared.rehearsal.TimedAction.{TimedAction}
 use Rattle.am_plays.proofs.Moves.{IsMove, IsRecorded, IsSilent, flight}

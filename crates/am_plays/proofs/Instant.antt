@@ -22,8 +22,8 @@ use Rattle.am_model.proofs.lists.Distinct.{all-map}
 use Rattle.am_pool.proofs.Determined.{same_report}
 use Rattle.am_pool.specs.Sendings.{IsAnsweredBy, IsSentFrom, end_on}
 use Rattle.am_pool.specs.declared.courier.Sent.{Sent}
-use Rattle.am_rehearsal.specs.Answers.{IsOutcome, answer_of, covers, cut_short, is_for, is_over, sent_by, tried_by}
-use Rattle.am_rehearsal.specs.Steps.{is_success}
+use Rattle.am_simulation.specs.Answers.{IsOutcome, answer_of, covers, cut_short, is_for, is_over, sent_by, tried_by}
+use Rattle.am_simulation.specs.Steps.{is_success}
 use Rattle.am_terms.specs.declared.rehearsal.Outage.{Outage}
 use Rattle.am_plays.specs.PlaysInTime.{has_no_outage, runs_past}
 

@@ -25,12 +25,12 @@ use Rattle.am_model.specs.State.{FlushState, flush_numbered, time}
 use Rattle.am_model.specs.Ticket.{TicketData, recorded, report_fault}
 use Rattle.am_mute.specs.Silence.{silence_of}
 use Rattle.am_pool.specs.Sendings.{note_at}
-use Rattle.am_rehearsal.proofs.Loading.{load_taken, load_reply, no_cause}
-use Rattle.am_rehearsal.specs.Next.{next}
-use Rattle.am_rehearsal.specs.Planned.{call_of, refuses}
-use Rattle.am_rehearsal.specs.Scene.{Scene, SendingData, Setting}
-use Rattle.am_rehearsal.specs.Steps.{IsBegun, IsPlanDone, IsReplied, Steps, after_end, after_end_of, after_finish, after_maintenance, after_removal, is_success, with_call, with_note, with_report}
-use Rattle.am_rehearsal.specs.Taking.{cause_of_none}
+use Rattle.am_simulation.proofs.Loading.{load_taken, load_reply, no_cause}
+use Rattle.am_simulation.specs.Next.{next}
+use Rattle.am_simulation.specs.Planned.{call_of, refuses}
+use Rattle.am_simulation.specs.Scene.{Scene, SendingData, Setting}
+use Rattle.am_simulation.specs.Steps.{IsBegun, IsPlanDone, IsReplied, Steps, after_end, after_end_of, after_finish, after_maintenance, after_removal, is_success, with_call, with_note, with_report}
+use Rattle.am_simulation.specs.Taking.{cause_of_none}
 use Rattle.am_terms.specs.declared.rehearsal.Action.{Action}
 use Rattle.am_terms.specs.declared.rehearsal.Action.TheVariants.{Insert, Silence, Load}
 use Rattle.am_terms.specs.declared.rehearsal.TimedAction.{TimedAction}

@@ -15,8 +15,8 @@ use Rattle.am_model.proofs.looking_back.Pasts.{IsLegalPast, legal_past, replay_o
 use Rattle.am_paging.specs.InTime.{ended_at, is_finish_of}
 use Rattle.am_paging.proofs.GroupSteps.{Has, IsKept, group_after, group-step}
 use Rattle.am_paging.proofs.Standing.{ended-before}
-use Rattle.am_rehearsal.specs.Scene.{Setting}
-use Rattle.am_rehearsal.specs.declared.limits.TheConstants.{BOARD_ID}
+use Rattle.am_simulation.specs.Scene.{Setting}
+use Rattle.am_simulation.specs.declared.limits.TheConstants.{BOARD_ID}
 use Rattle.am_plays.specs.Plays.{BeginsWhenDue, ComesBy, EveryPlay, PassesOverNone, has_place}
 use Rattle.am_plays.proofs.Closing.{finished-now}
 use Rattle.am_plays.proofs.PassedOver.{nothing_due_is_passed_over}

@@ -23,11 +23,11 @@ use Rattle.am_paging.specs.Paging.{is_due_a_page, reports_page}
 use Rattle.am_pool.specs.Sendings.{IsAnsweredBy, end_on}
 use Rattle.am_pool.specs.declared.courier.Sent.{Sent as SentAttempt}
 use Rattle.am_pool.specs.Tries.{all_tried_for}
-use Rattle.am_rehearsal.specs.Answers.{AreEndsOf, IsOutcome, answer_of, tried_by}
-use Rattle.am_rehearsal.specs.Next.{next}
-use Rattle.am_rehearsal.specs.Play.{PlaysTo, whole}
-use Rattle.am_rehearsal.specs.Scene.{Scene, SendingData, Setting, opening_scene, setting_with}
-use Rattle.am_rehearsal.specs.Steps.{Steps, after_finish, after_nothing, after_plan, after_taking, answers_for, with_sending}
+use Rattle.am_simulation.specs.Answers.{AreEndsOf, IsOutcome, answer_of, tried_by}
+use Rattle.am_simulation.specs.Next.{next}
+use Rattle.am_simulation.specs.Play.{PlaysTo, whole}
+use Rattle.am_simulation.specs.Scene.{Scene, SendingData, Setting, opening_scene, setting_with}
+use Rattle.am_simulation.specs.Steps.{Steps, after_finish, after_nothing, after_plan, after_taking, answers_for, with_sending}
 use Rattle.am_terms.specs.declared.event.Event.TheVariants.{Sent}
 use Rattle.am_terms.specs.declared.rehearsal.Outage.{Outage}
 use Rattle.am_plays.specs.PlaysDeliver.{IsDueFromTo}

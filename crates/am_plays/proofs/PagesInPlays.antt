@@ -31,9 +31,9 @@ use Rattle.am_paging.specs.InTime.{AtSome, HearsBy, IsBegunFor, IsDueOnTime, IsO
 use Rattle.am_paging.specs.Paging.{HasHeard, is_due_a_page, reports_page}
 use Rattle.am_paging.proofs.DeliveredInTime.{pages_are_delivered_in_time}
 use Rattle.am_paging.proofs.PagesInTime.{pages_come_in_time}
-use Rattle.am_rehearsal.specs.Play.{PlaysTo}
-use Rattle.am_rehearsal.specs.Scene.{Setting}
-use Rattle.am_rehearsal.specs.declared.limits.TheConstants.{BOARD_ID}
+use Rattle.am_simulation.specs.Play.{PlaysTo}
+use Rattle.am_simulation.specs.Scene.{Setting}
+use Rattle.am_simulation.specs.declared.limits.TheConstants.{BOARD_ID}
 use Rattle.am_terms.specs.declared.event.Event.{Event}
 use Rattle.am_terms.specs.declared.rehearsal.TimedAction.{TimedAction}
 use Rattle.am_plays.specs.Plays.{EveryPlay}

@@ -23,11 +23,11 @@ use Rattle.am_model.specs.State.{FlushState, GroupState, State, is_flushing, is_
 use Rattle.am_model.specs.look_back.Laws.{has_open}
 use Rattle.am_model.specs.look_back.Past.{AtEach, past_of, replay_past, time_at}
 use Rattle.am_paging.proofs.Counted.{counts_past}
-use Rattle.am_rehearsal.proofs.Coming.{next_none}
-use Rattle.am_rehearsal.specs.Next.{next}
-use Rattle.am_rehearsal.specs.Play.{LeadsIn, PlaysTo}
-use Rattle.am_rehearsal.specs.Scene.{Scene, SendingData, Setting, opening_scene}
-use Rattle.am_rehearsal.specs.Steps.{Steps}
+use Rattle.am_simulation.proofs.Coming.{next_none}
+use Rattle.am_simulation.specs.Next.{next}
+use Rattle.am_simulation.specs.Play.{LeadsIn, PlaysTo}
+use Rattle.am_simulation.specs.Scene.{Scene, SendingData, Setting, opening_scene}
+use Rattle.am_simulation.specs.Steps.{Steps}
 use Rattle.am_terms.specs.declared.event.Event.{Event}
 use Rattle.am_terms.specs.declared.rehearsal.TimedAction.{TimedAction}
 use Rattle.am_plays.specs.Plays.{ComesBy, EveryPlay, NothingDueIsLeft, NothingDueIsPassedOver, PassesOverNone, has_place}

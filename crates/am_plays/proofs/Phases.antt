@@ -35,7 +35,7 @@ use Rattle.am_paging.proofs.GroupSteps.{group_after}
 use Rattle.am_paging.proofs.OpenFlushes.{neither, open-has}
 use Rattle.am_paging.proofs.Standing.{IsAsBegun, alive, as-begun, not-found_empty, not-missing}
 use Rattle.am_paging.proofs.Unresolved.{fires-there}
-use Rattle.am_rehearsal.specs.Scene.{Setting}
+use Rattle.am_simulation.specs.Scene.{Setting}
 use Rattle.am_plays.specs.PlaysDeliver.{reports_delivered}
 use Rattle.am_plays.specs.PlaysRecover.{HearsFrom, OfFinish, Sends, SomeThenEach, StaysDue, is_all_delivered}
 use Rattle.am_plays.specs.Plays.{ComesBy}

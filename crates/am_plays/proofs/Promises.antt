@@ -16,9 +16,9 @@ use Rattle.am_model.specs.Notice.{NoticeData}
 use Rattle.am_model.specs.State.{GroupState, State}
 use Rattle.am_model.proofs.lists.Distinct.{all-map}
 use Rattle.am_pool.specs.Sendings.{end_on}
-use Rattle.am_rehearsal.specs.Answers.{AreEndsOf, IsOutcome, answer_of}
-use Rattle.am_rehearsal.specs.Scene.{Setting}
-use Rattle.am_rehearsal.specs.Steps.{is_success}
+use Rattle.am_simulation.specs.Answers.{AreEndsOf, IsOutcome, answer_of}
+use Rattle.am_simulation.specs.Scene.{Setting}
+use Rattle.am_simulation.specs.Steps.{is_success}
 use Rattle.am_plays.proofs.Instant.{all-of}
 
 -- the deadline of a flush of a group that is begun at a time

@@ -12,9 +12,9 @@ use Rattle.am_model.specs.Notice.{NoticeData}
 use Rattle.am_model.specs.look_back.Past.{AtEach, past_of, time_at}
 use Rattle.am_paging.specs.InTime.{is_finish_of}
 use Rattle.am_pool.specs.Sendings.{end_on}
-use Rattle.am_rehearsal.specs.Answers.{IsOutcome, answer_of}
-use Rattle.am_rehearsal.specs.Scene.{Setting}
-use Rattle.am_rehearsal.specs.Steps.{is_success}
+use Rattle.am_simulation.specs.Answers.{IsOutcome, answer_of}
+use Rattle.am_simulation.specs.Scene.{Setting}
+use Rattle.am_simulation.specs.Steps.{is_success}
 use Rattle.am_plays.specs.Plays.{EveryPlay}
 use Rattle.am_plays.specs.PlaysInTime.{runs_past}
 use Rattle.am_plays.specs.PlaysRecover.{EndsSoon, FlushesComeThrough, IsRecovering, OfFinish, recovered_by}

@@ -24,8 +24,8 @@ use Rattle.am_pool.specs.Delivery.{is_starved}
 use Rattle.am_pool.specs.Sendings.{IsAnsweredBy, end_on}
 use Rattle.am_pool.specs.Tries.{all_tried_for, tried_for}
 use Rattle.am_pool.specs.declared.courier.Sent.{Sent}
-use Rattle.am_rehearsal.specs.Answers.{IsOutcome, answer_of, covers, cut_short, is_for, is_over, sent_by, tried_by, tried_until}
-use Rattle.am_rehearsal.specs.Steps.{is_success}
+use Rattle.am_simulation.specs.Answers.{IsOutcome, answer_of, covers, cut_short, is_for, is_over, sent_by, tried_by, tried_until}
+use Rattle.am_simulation.specs.Steps.{is_success}
 use Rattle.am_terms.specs.declared.rehearsal.Outage.{Outage}
 use Rattle.am_plays.specs.PlaysInTime.{runs_past}
 use Rattle.am_plays.specs.PlaysRecover.{SendingsComeThrough, recovered_by, recovers}

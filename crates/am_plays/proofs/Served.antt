@@ -22,11 +22,11 @@ use Rattle.am_model.specs.look_back.Past.{AtEach, begin_of, is_flush, notices_in
 use Rattle.am_model.proofs.looking_back.Pasts.{IsLegalPast, legal_past}
 use Rattle.am_paging.specs.InTime.{IsOnTime, ended_at, is_finish_of}
 use Rattle.am_pool.specs.Sendings.{end_on}
-use Rattle.am_rehearsal.specs.Answers.{IsOutcome, answer_of, tried_until}
-use Rattle.am_rehearsal.specs.Play.{PlaysTo}
-use Rattle.am_rehearsal.specs.Scene.{Setting}
-use Rattle.am_rehearsal.specs.Steps.{is_success}
-use Rattle.am_rehearsal.specs.declared.limits.TheConstants.{BOARD_ID}
+use Rattle.am_simulation.specs.Answers.{IsOutcome, answer_of, tried_until}
+use Rattle.am_simulation.specs.Play.{PlaysTo}
+use Rattle.am_simulation.specs.Scene.{Setting}
+use Rattle.am_simulation.specs.Steps.{is_success}
+use Rattle.am_simulation.specs.declared.limits.TheConstants.{BOARD_ID}
 use Rattle.am_terms.specs.declared.event.Event.{Event}
 use Rattle.am_terms.specs.declared.rehearsal.TimedAction.{TimedAction}
 use Rattle.am_plays.specs.Plays.{ComesBy, EveryPlay}

@@ -22,12 +22,12 @@ use Rattle.am_model.specs.Laws.{IsConsistent}
 use Rattle.am_model.specs.Records.{entry}
 use Rattle.am_model.specs.Replay.{IsLegal, after_call, reply as reply_to}
 use Rattle.am_model.specs.State.{State, time}
-use Rattle.am_rehearsal.specs.Next.{next}
-use Rattle.am_rehearsal.specs.Play.{LeadsIn}
-use Rattle.am_rehearsal.specs.Scene.{Scene, Setting, opening_scene}
-use Rattle.am_rehearsal.specs.Steps.{Steps}
-use Rattle.am_rehearsal.specs.Taking.{cause_of_none}
-use Rattle.am_rehearsal.specs.declared.limits.TheConstants.{BOARD_ID}
+use Rattle.am_simulation.specs.Next.{next}
+use Rattle.am_simulation.specs.Play.{LeadsIn}
+use Rattle.am_simulation.specs.Scene.{Scene, Setting, opening_scene}
+use Rattle.am_simulation.specs.Steps.{Steps}
+use Rattle.am_simulation.specs.Taking.{cause_of_none}
+use Rattle.am_simulation.specs.declared.limits.TheConstants.{BOARD_ID}
 use Rattle.am_terms.specs.declared.rehearsal.TimedAction.{TimedAction}
 use Rattle.am_plays.specs.Plays.{EveryPlay, IsLegalPlay, NothingBlocks}
 use Rattle.am_plays.proofs.Words.{some_of}

@@ -5,11 +5,11 @@ use Rattle.std.specs.Option.{IfSome, IsSomeAnd}
 use Rattle.std.proofs.lemmas.Bool.{and_parts, leb-true}
 use Rattle.am_board.specs.History.{state_at}
 use Rattle.am_model.specs.Begin.{next_due}
-use Rattle.am_rehearsal.proofs.Coming.{next_else, next_on, removal_keeps}
-use Rattle.am_rehearsal.specs.Next.{begin_due, begins_on, earlier, in_time, next, next_at, next_begin, next_but_begins, next_end, next_end_of, next_finish, next_of_all, next_of_others, next_plan, next_removal, none_left}
-use Rattle.am_rehearsal.specs.Scene.{Scene, SendingData, Setting}
-use Rattle.am_rehearsal.specs.Steps.{IsBegun, IsDone, IsPlanDone, Steps, after_end, after_finish, after_maintenance, after_removal}
-use Rattle.am_rehearsal.specs.Taking.{cause_of_none}
+use Rattle.am_simulation.proofs.Coming.{next_else, next_on, removal_keeps}
+use Rattle.am_simulation.specs.Next.{begin_due, begins_on, earlier, in_time, next, next_at, next_begin, next_but_begins, next_end, next_end_of, next_finish, next_of_all, next_of_others, next_plan, next_removal, none_left}
+use Rattle.am_simulation.specs.Scene.{Scene, SendingData, Setting}
+use Rattle.am_simulation.specs.Steps.{IsBegun, IsDone, IsPlanDone, Steps, after_end, after_finish, after_maintenance, after_removal}
+use Rattle.am_simulation.specs.Taking.{cause_of_none}
 use Rattle.am_terms.specs.declared.rehearsal.TimedAction.{TimedAction}
 use Rattle.am_plays.proofs.Words.{if_same, said, some_both}
 

@@ -13,10 +13,10 @@ use Rattle.am_model.specs.Finish.{is_delivered}
 use Rattle.am_model.specs.Notice.{NoticeData, has_something_for, is_nothing}
 use Rattle.am_model.specs.Ticket.{TicketData, is_of_ticket, outcome_of, recorded, report_fault}
 use Rattle.am_pool.specs.declared.courier.Sent.{Sent}
-use Rattle.am_rehearsal.specs.Answers.{AreEndsOf, IsOutcome}
-use Rattle.am_rehearsal.specs.Next.{none_left}
-use Rattle.am_rehearsal.specs.Scene.{SendingData}
-use Rattle.am_rehearsal.specs.Steps.{after_end_of, is_success, with_report}
+use Rattle.am_simulation.specs.Answers.{AreEndsOf, IsOutcome}
+use Rattle.am_simulation.specs.Next.{none_left}
+use Rattle.am_simulation.specs.Scene.{SendingData}
+use Rattle.am_simulation.specs.Steps.{after_end_of, is_success, with_report}
 use Rattle.am_plays.specs.PlaysDeliver.{reports_delivered}
 use Rattle.am_plays.proofs.Words.{all-get, all-remove}
 

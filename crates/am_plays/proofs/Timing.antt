@@ -9,9 +9,9 @@ use Rattle.am_model.specs.declared.group.GroupName.{GroupName}
 use Rattle.am_model.specs.declared.notice.TheConstants.{MAX_DEADLINE}
 use Rattle.am_model.specs.Begin.{next_due}
 use Rattle.am_model.specs.State.{GroupState, is_named, is_flushing}
-use Rattle.am_rehearsal.proofs.Coming.{next_else, next_on}
-use Rattle.am_rehearsal.specs.Next.{begin_due, begins_on, earlier, in_time, next, next_at, next_begin, next_but_begins, next_of_all}
-use Rattle.am_rehearsal.specs.Scene.{Scene, Setting}
+use Rattle.am_simulation.proofs.Coming.{next_else, next_on}
+use Rattle.am_simulation.specs.Next.{begin_due, begins_on, earlier, in_time, next, next_at, next_begin, next_but_begins, next_of_all}
+use Rattle.am_simulation.specs.Scene.{Scene, Setting}
 use Rattle.am_plays.proofs.FirstDue.{due-first}
 use Rattle.am_plays.proofs.Words.{if_same, if_weaker, some_of}
 

@@ -11,9 +11,9 @@ use Rattle.am_model.specs.look_back.Laws.{has_open}
 use Rattle.am_model.specs.look_back.Past.{Past, AtEach, past_of, replay_past, time_at}
 use Rattle.am_board.specs.History.{BoardData}
 use Rattle.am_paging.specs.InTime.{ended_at}
-use Rattle.am_rehearsal.specs.declared.limits.TheConstants.{BOARD_ID}
-use Rattle.am_rehearsal.specs.Play.{PlaysTo, Reaches}
-use Rattle.am_rehearsal.specs.Scene.{Scene, Setting, opening_scene}
+use Rattle.am_simulation.specs.declared.limits.TheConstants.{BOARD_ID}
+use Rattle.am_simulation.specs.Play.{PlaysTo, Reaches}
+use Rattle.am_simulation.specs.Scene.{Scene, Setting, opening_scene}
 use Rattle.am_terms.specs.declared.event.Event.{Event}
 use Rattle.am_terms.specs.declared.rehearsal.TimedAction.{TimedAction}
 

@@ -15,7 +15,7 @@ use Rattle.am_model.specs.Ticket.{outcome_of}
 use Rattle.am_model.specs.look_back.Past.{AtEach, Past, begin_of, notices_in, past_of, time_at}
 use Rattle.am_paging.specs.InTime.{AtSome, HearsBy, begun_by, is_finish_of, past_until}
 use Rattle.am_paging.specs.Paging.{is_due_a_page}
-use Rattle.am_rehearsal.specs.Scene.{Setting}
+use Rattle.am_simulation.specs.Scene.{Setting}
 use Rattle.am_plays.specs.PlaysInTime.{IsServed}
 
 -- whether outcomes report a notice delivered, or it has nothing to send

@@ -11,7 +11,7 @@ use Rattle.am_model.specs.Configured.{route_of}
 use Rattle.am_model.specs.look_back.Past.{AtEach, past_of, time_at}
 use Rattle.am_paging.specs.InTime.{AtSome, IsBegunFor, IsOnTime, begun_by, past_until}
 use Rattle.am_paging.specs.Paging.{is_due_a_page}
-use Rattle.am_rehearsal.specs.Scene.{Setting}
+use Rattle.am_simulation.specs.Scene.{Setting}
 use Rattle.am_terms.specs.declared.rehearsal.Outage.{Outage}
 
 -- whether no outage is of a receiver

@@ -19,9 +19,9 @@ use Rattle.am_model.specs.look_back.Past.{AtEach, Past, begin_of, notices_in, pa
 use Rattle.am_paging.specs.InTime.{AtSome, HearsBy, begun_by, is_finish_of, past_until}
 use Rattle.am_paging.specs.Paging.{HasHeard, is_due_a_page, pages, reports_page}
 use Rattle.am_pool.specs.Sendings.{end_on}
-use Rattle.am_rehearsal.specs.Answers.{IsOutcome, answer_of, is_over}
-use Rattle.am_rehearsal.specs.Scene.{Setting}
-use Rattle.am_rehearsal.specs.Steps.{is_success}
+use Rattle.am_simulation.specs.Answers.{IsOutcome, answer_of, is_over}
+use Rattle.am_simulation.specs.Scene.{Setting}
+use Rattle.am_simulation.specs.Steps.{is_success}
 use Rattle.am_terms.specs.declared.rehearsal.Outage.{Outage}
 use Rattle.am_plays.specs.PlaysDeliver.{IsDueFromTo, reports_delivered}
 use Rattle.am_plays.specs.PlaysInTime.{runs_past}

@@ -2,14 +2,14 @@
 use Rattle.std.proofs.Common.{◌≡◌, ◌≢◌, inl, inr, Result, Ok, Err, arith, refl, subst}
 use Rattle.std.specs.Prelude.{IfErr, IsTrue, OnOk, ◌↔◌}
 use Rattle.serde_json.specs.Data.{Data}
-use Rattle.am_command.specs.declared.exit_status.ExitStatus.{ExitStatus}
-use Rattle.am_command.specs.declared.exit_status.ExitStatus.TheVariants as status
+use Rattle.am_command_line.specs.declared.exit_status.ExitStatus.{ExitStatus}
+use Rattle.am_command_line.specs.declared.exit_status.ExitStatus.TheVariants as status
 use Rattle.am_console.specs.Complaints.{is_rejection}
 use Rattle.am_input.specs.declared.input.Changes.{Changes}
-use Rattle.am_rehearse.specs.Ended.{EndsWith, FaultEndsWith, IsRefused}
-use Rattle.am_rehearse.specs.Faults.{Refuses, status_of}
-use Rattle.am_rehearse.specs.declared.fault.RehearseFault.{RehearseFault}
-use Rattle.am_rehearse.specs.declared.fault.RehearseFault.TheVariants as rehearse
+use Rattle.am_rehearse.specs.Ended.{EndsWith, IsRefused}
+use Rattle.am_render.specs.Faults.{FaultEndsWith, Refuses, status_of}
+use Rattle.am_render.specs.declared.fault.RehearseFault.{RehearseFault}
+use Rattle.am_render.specs.declared.fault.RehearseFault.TheVariants as rehearse
 
 -- the status of a rejection is none of these
 pub no_done : (s : ExitStatus) → IsTrue (is_rejection s) → s ≡ status.Done → ⊥

@@ -1,9 +1,9 @@
 -- Tallies: what the status of several stories says of each.
 use Rattle.std.proofs.Common.{◌≡◌, ◌≢◌, ◌⊎◌, ◌+◌, ◌∙◌, inl, inr, ℕ, Bool, true, false, ◌&&◌, List, add-one, refl, subst, sym}
 use Rattle.std.specs.Prelude.{if◌then◌else◌}
-use Rattle.am_command.specs.declared.exit_status.ExitStatus.{ExitStatus}
-use Rattle.am_command.specs.declared.exit_status.ExitStatus.TheVariants as status
-use Rattle.am_command.specs.declared.request.PlayRequest.{PlayRequest}
+use Rattle.am_command_line.specs.declared.exit_status.ExitStatus.{ExitStatus}
+use Rattle.am_command_line.specs.declared.exit_status.ExitStatus.TheVariants as status
+use Rattle.am_command_line.specs.declared.request.PlayRequest.{PlayRequest}
 use Rattle.am_input.specs.declared.input.Changes.{Changes}
 use Rattle.am_rehearse.specs.Ended.{IsHeaded, PlaysEach, PlaysFile, PlaysOne, joined_status}
 

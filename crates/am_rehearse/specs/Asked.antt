@@ -3,7 +3,7 @@ use Rattle.std.specs.Prelude.{◌≡◌, ◌≤◌, ◌<◌, ℕ, Bool, true, no
 use Rattle.std.specs.Prelude.{if◌then◌else◌, is_some, option_map, unwrap_or}
 use Rattle.std.specs.Str.{bytes_eq}
 use Rattle.am_alerts.specs.Duration.{duration_of}
-use Rattle.am_command.specs.declared.request.PlayRequest.{PlayRequest}
+use Rattle.am_command_line.specs.declared.request.PlayRequest.{PlayRequest}
 use Rattle.am_console.specs.MatcherWords.{WriteMatchers}
 use Rattle.am_input.specs.Request.{output_named}
 use Rattle.am_input.specs.declared.input.Output.{Output}
@@ -12,7 +12,7 @@ use Rattle.am_input.specs.declared.input.Overrides.{Overrides}
 use Rattle.am_terms.specs.declared.rehearsal.TheConstants.{MAX_UNTIL}
 use Rattle.am_rehearse.specs.declared.asked.RequestFault.{RequestFault}
 use Rattle.am_rehearse.specs.declared.asked.RequestFault.TheVariants.{NotNotices, NotTimeline, NoEnd}
-use Rattle.am_rehearse.specs.declared.output_options.OutputOptions.{OutputOptions}
+use Rattle.am_render.specs.declared.output_options.OutputOptions.{OutputOptions}
 
 -- the name that `--output` gives, if it is given
 abbrev pub output_text : PlayRequest → Option (List ℕ)

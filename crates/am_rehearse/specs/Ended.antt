@@ -1,16 +1,16 @@
 -- Ended: how the play of a story ends, and why.
-use Rattle.std.specs.Prelude.{◌≡◌, ◌==◌, ◌<◌, ◌⊎◌, ◌&&◌, ◌||◌, ◌++◌, ℕ, zero, suc, Bool, true, false, not, List, [], codes, map}
+use Rattle.std.specs.Prelude.{◌≡◌, ◌==◌, ◌<◌, ◌⊎◌, ◌&&◌, ◌||◌, ◌++◌, ℕ, zero, suc, Bool, true, false, not, List, [], codes, length, map}
 use Rattle.std.specs.Prelude.{None, Some, Result, Ok, Err, IsSomeAnd, if◌then◌else◌, is_some, nat_lt, option_and_then}
 use Rattle.std.specs.List.{list_any}
 use Rattle.std.specs.Str.{bytes_eq}
 use Rattle.serde_json.specs.Data.{Data}
 use Rattle.serde_json.specs.Find.{as_str, get}
 use Rattle.am_alerts.specs.RoutingTree.{routes_in}
-use Rattle.am_command.specs.ExitStatus.{code_of}
-use Rattle.am_command.specs.declared.exit_status.ExitStatus.{ExitStatus}
-use Rattle.am_command.specs.declared.exit_status.ExitStatus.TheVariants as status
-use Rattle.am_command.specs.declared.request.PlayRequest.{PlayRequest}
-use Rattle.am_command.specs.declared.request.Selection.{Selection}
+use Rattle.am_command_line.specs.ExitStatus.{code_of}
+use Rattle.am_command_line.specs.declared.exit_status.ExitStatus.{ExitStatus}
+use Rattle.am_command_line.specs.declared.exit_status.ExitStatus.TheVariants as status
+use Rattle.am_command_line.specs.declared.request.PlayRequest.{PlayRequest}
+use Rattle.am_command_line.specs.declared.request.Selection.{Selection}
 use Rattle.am_console.specs.MatcherWords.{HasNoMatcher}
 use Rattle.am_input.specs.Request.{IsRequestIn}
 use Rattle.am_input.specs.declared.input.Changes.{Changes}
@@ -20,21 +20,13 @@ use Rattle.am_model.specs.Config.{has_receiver}
 use Rattle.am_model.specs.declared.config.Config.{Config}
 use Rattle.am_plans.specs.Configs.{configs_of}
 use Rattle.am_rehearse.specs.Asked.{AsksFor, AsksToSee}
-use Rattle.am_rehearse.specs.Faults.{Refuses, status_of}
-use Rattle.am_rehearse.specs.Printed.{WritesOutput}
-use Rattle.am_rehearse.specs.declared.fault.RehearseFault.{RehearseFault}
-use Rattle.am_rehearse.specs.declared.fault.RehearseFault.TheVariants as rehearse
-use Rattle.am_rehearse.specs.declared.output_options.OutputOptions.{OutputOptions}
+use Rattle.am_render.specs.Faults.{FaultEndsWith, Refuses, status_of}
+use Rattle.am_render.specs.Printed.{WritesOutput}
+use Rattle.am_render.specs.declared.fault.RehearseFault.{RehearseFault}
+use Rattle.am_render.specs.declared.fault.RehearseFault.TheVariants as rehearse
+use Rattle.am_render.specs.declared.output_options.OutputOptions.{OutputOptions}
 
--- a fault ends with this status. Memory can lack for complaints, and for the report on expectations
-abbrev pub FaultEndsWith : RehearseFault → ExitStatus → Type 0
-FaultEndsWith (rehearse.Refused pointer fault_kind) end = (end ≡ status.Rejected) ⊎ (end ≡ status.NoMemory)
-FaultEndsWith (rehearse.AllRefused faults) end = (end ≡ status.Rejected) ⊎ (end ≡ status.NoMemory)
-FaultEndsWith rehearse.NoMemory end = end ≡ status.NoMemory
-FaultEndsWith rehearse.Unwritable end = end ≡ status.Unwritable
-FaultEndsWith rehearse.Unmet end = (end ≡ status.Unmet) ⊎ (end ≡ status.NoMemory)
-
--- and so does what a run of a story came to
+-- what a run of a story came to ends with this status
 abbrev pub EndsWith : {X : Type 0} → Result X RehearseFault → ExitStatus → Type 0
 EndsWith (Ok done) end = (end ≡ status.Done) ⊎ (end ≡ status.NoMemory)
 EndsWith (Err fault) end = FaultEndsWith fault end
@@ -131,10 +123,10 @@ pub record PlaysUnder (request : PlayRequest) (overrides : Overrides) (is_alone 
   pub configured : is_some changes.config ≡ is_some request.config
   pub plays : PlaysEach request changes is_alone met stories taken_before taken
 
--- what a command line asks for: the output of one story at least
+-- what a command line asks for: the output of each story that it names, and of more where one is a folder of several
 pub record PlaysAll (request : PlayRequest) (met : Bool) (taken_before taken : List ℕ) : Type 0 where
   pub overrides : Overrides
   pub asked : AsksFor request overrides
   pub stories : ℕ
-  pub some : 0 < stories
+  pub each : length request.others.items < stories
   pub plays : PlaysUnder request overrides (stories == 1) met stories taken_before taken

@@ -1,10 +1,6 @@
 -- what the command line of `play` asks for
 pub mod Asked
+-- what is said of one story under two configurations
+pub mod Compared
 -- how the play of a story ends
 pub mod Ended
--- how a rehearsal ends without its output, or with an expectation that isn't met
-pub mod Faults
--- the line between what two dispatchers did
-pub mod Head
--- what is printed of a rehearsal that ran
-pub mod Printed

@@ -3,7 +3,7 @@ ghost use Rattle.std.specs.Prelude.{◌≡◌, IfErr, IfOk, option_map};
 ghost use Rattle.am_rehearse.specs.Asked.{AsksFor, IsEnd, IsWrongEnd, IsWrongIn, IsWrongOutput, is_no_other, named_output, output_asked};
 
 use am_alerts::duration::read_duration;
-use am_command::request::PlayRequest;
+use am_command_line::request::PlayRequest;
 use am_input::input::{Output, Overrides};
 use am_terms::rehearsal::MAX_UNTIL;
 

@@ -1,13 +1,13 @@
 //! What `play` says of a story that doesn't run, or isn't as expected.
-ghost use Rattle.am_rehearse.specs.Ended.{FaultEndsWith};
+ghost use Rattle.am_render.specs.Faults.{FaultEndsWith};
 
-use crate::fault::RehearseFault;
 use crate::play::Run;
-use am_cli::fault::InputFault;
-use am_cli::faults::Refusal;
-use am_command::exit_status::ExitStatus;
+use am_command_line::exit_status::ExitStatus;
 use am_commands::faults::complain_of_story;
 use am_console::console::{Console, Document};
+use am_json::fault::InputFault;
+use am_json::faults::Refusal;
+use am_render::fault::RehearseFault;
 use std::rt::Files;
 
 /// Complains of what ended the run of a story, and returns the status.

@@ -1,7 +1,7 @@
 //! `am-rehearse` runs alerts, silences and outages against a configuration on a simulated clock. It
 //! prints which notice is sent when, to whom and why, and why others aren't.
 //!
-//! `am_command` reads its command line. Without any word it plays the story on standard input. It
+//! `am_command_line` reads its command line. Without any word it plays the story on standard input. It
 //! prints each fault to standard error, with file, line and column, and ends with the fault's status.
 //! `play` and `compare` draw a seed for their hashes.
 #![tactic(auto)]
@@ -9,15 +9,9 @@
 mod asked;
 mod compare;
 mod complaints;
-mod fault;
-mod head;
-mod output_options;
 mod overheard;
-mod picture;
 mod play;
 mod play_options;
-mod render;
-mod run;
 mod story_files;
 mod suites;
 mod tally;
@@ -25,11 +19,10 @@ mod unknown;
 
 use crate::compare::compare;
 use crate::play::play;
-use am_cli::device::{StandardInput, StandardOutput};
-use am_command::completions::completions;
-use am_command::exit_status::ExitStatus;
-use am_command::manual::manual;
-use am_command::request::{
+use am_command_line::completions::completions;
+use am_command_line::exit_status::ExitStatus;
+use am_command_line::manual::manual;
+use am_command_line::request::{
     Color, CompareRequest, FaultFormat, PlayRequest, Request, StoryRequest, Style, read_request,
 };
 use am_commands::check::check;
@@ -38,6 +31,7 @@ use am_commands::routes::{RoutesRequest, routes};
 use am_commands::story::story;
 use am_console::console::Console;
 use am_console::files::PaintedOutput;
+use am_json::device::{StandardInput, StandardOutput};
 use am_seed::Seed;
 use clap::error::ErrorKind;
 use std::alloc::AllocError;

@@ -1,25 +1,24 @@
 //! `am-rehearse play`: simulates stories.
+//!
+//! `play` finds their files, `play_file` reads one, and `play_story` has it played and printed (`run::play_value`). Each complains of
+//! what is wrong, and returns the status.
 ghost use Rattle.std.specs.Prelude.{◌≡◌, ◌≢◌, ◌⊎◌, ◌<◌, ◌↔◌, false, true, length, IfErr, IfOk, IsTrue, OnOk};
 ghost use Rattle.serde_json.specs.View.{view};
 ghost use Rattle.am_console.specs.Complaints.{is_rejection};
 ghost use Rattle.am_rehearse.specs.Ended.{EndsWith, IsHeaded, IsPageOfSeveral, PlaysAll, PlaysEach, PlaysFile, PlaysStory, PlaysUnder};
 ghost use Rattle.am_rehearse.specs.Ended.{RejectsStory, is_stop};
-ghost use Rattle.am_rehearse.specs.Faults.{Refuses, status_of};
-ghost use Rattle.am_rehearse.specs.Printed.{WritesOutput};
+ghost use Rattle.am_render.specs.Faults.{Refuses, status_of};
+ghost use Rattle.am_render.specs.Printed.{WritesOutput};
 
 use crate::complaints::{complain_of_fault, point_at_unmet};
-use crate::fault::RehearseFault;
-use crate::output_options::OutputOptions;
 use crate::overheard::Overheard;
 use crate::play_options::{options_of, overrides_of};
-use crate::run::{Judgement, Report, play_value};
 use crate::story_files::story_files;
 use crate::suites::Suites;
 use crate::tally::Tally;
 use crate::unknown::refuse_unknown;
-use am_cli::device::Sink;
-use am_command::exit_status::ExitStatus;
-use am_command::request::PlayRequest;
+use am_command_line::exit_status::ExitStatus;
+use am_command_line::request::PlayRequest;
 use am_commands::ignored::say_ignored;
 use am_commands::reload_files::read_reload_files;
 use am_commands::system_zones::SystemZones;
@@ -28,6 +27,10 @@ use am_console::console::{Console, Document, shown};
 use am_console::files::PaintedOutput;
 use am_console::progress::Progress;
 use am_input::input::Changes;
+use am_json::device::Sink;
+use am_render::fault::RehearseFault;
+use am_render::output_options::OutputOptions;
+use am_render::run::{Judgement, Order, Report, play_value};
 use am_seed::Seed;
 use am_yaml::document::read_document;
 use serde_json::Value;
@@ -48,6 +51,13 @@ pub struct Run<'r> {
     pub config: Option<&'r Document<'r>>,
     /// What takes the place of a story's own.
     pub changes: Changes<'r>,
+}
+
+/// How the run of a story ended, and what became of its expectations.
+#[derive(Drop)]
+struct Ended {
+    result: Result<(), RehearseFault>,
+    judgement: Judgement,
 }
 
 /// Simulates stories, and returns the status: of several the least that isn't 0. Hashes start from this seed.
@@ -136,11 +146,11 @@ fn play_each<R: Files + Eprint + AllocGlobal + Clock>(
     run: Run<'_>,
     paths: &[String],
 ) -> Result<ExitStatus, ExitStatus>
-    ensures done { IfOk result (λ status. status ≡ ExitStatus.Done → PlaysEach run.entry.request.now run.entry.changes run.entry.is_alone true
-        (length paths.now) (⟦<PaintedOutput as Sink>⟧.taken console.old.output)
+    ensures done { IfOk result (λ status. status ≡ ExitStatus.Done → PlaysEach run.entry.request.now run.entry.changes
+        run.entry.is_alone true (length paths.now) (⟦<PaintedOutput as Sink>⟧.taken console.old.output)
         (⟦<PaintedOutput as Sink>⟧.taken console.new.output)) }
-    ensures unmet { IfOk result (λ status. status ≡ ExitStatus.Unmet → PlaysEach run.entry.request.now run.entry.changes run.entry.is_alone false
-        (length paths.now) (⟦<PaintedOutput as Sink>⟧.taken console.old.output)
+    ensures unmet { IfOk result (λ status. status ≡ ExitStatus.Unmet → PlaysEach run.entry.request.now run.entry.changes
+        run.entry.is_alone false (length paths.now) (⟦<PaintedOutput as Sink>⟧.taken console.old.output)
         (⟦<PaintedOutput as Sink>⟧.taken console.new.output)) }
     ensures stops { IfErr result (λ status. IsTrue (is_stop status)) }
 {
@@ -292,7 +302,11 @@ pub fn play_story<R: Files + Eprint + AllocGlobal + Clock>(
     let mut report = Report::nothing(rt.alloc());
     let ended = play_document(rt, console, run, story, &options, &mut report);
     say_ignored(rt, run.request.config.unwrap_or(run.path), report.ignored);
-    conclude(rt, console, run, story, &report.judgement, ended, suites)
+    let ended = Ended {
+        result: ended,
+        judgement: report.judgement,
+    };
+    conclude(rt, console, run, story, ended, suites)
 }
 
 /// Plays the value of a document, which it lets go before the play. Where that ends at a limit it is read again, for complaints.
@@ -315,14 +329,16 @@ fn play_document<R: Files + Eprint + AllocGlobal + Clock>(
         (⟦<PaintedOutput as Sink>⟧.taken console.old.output) (⟦<PaintedOutput as Sink>⟧.taken console.new.output)) }
     ensures refused { IfErr result (λ fault. status_of fault ≡ 2 → Refuses run.entry.changes (view story.old.value) fault) }
 {
-    let changes = run.changes;
+    let order = Order {
+        alloc: rt.alloc(),
+        changes: run.changes,
+        options,
+    };
     let mut files = SystemZones::new(rt);
     let mut watch = Progress::begin(rt, console.is_terminal);
     let ended = play_value(
-        rt.alloc(),
+        order,
         &mut story.value,
-        changes,
-        options,
         &mut files,
         &mut watch,
         &mut console.output,
@@ -360,21 +376,21 @@ fn conclude<R: Files + Eprint + AllocGlobal>(
     console: &Console,
     run: Run<'_>,
     story: &Document<'_>,
-    judgement: &Judgement,
-    ended: Result<(), RehearseFault>,
+    ended: Ended,
     suites: &mut Suites,
 ) -> ExitStatus
-    ensures { EndsWith ended result }
+    ensures { EndsWith ended.result result }
 {
-    match ended {
+    let Ended { result, judgement } = ended;
+    match result {
         Ok(()) => {
-            say_found(rt, judgement);
-            add_suite(rt, console, story, judgement, ExitStatus::Done, suites)
+            say_found(rt, &judgement);
+            add_suite(rt, console, story, &judgement, ExitStatus::Done, suites)
         }
         Err(RehearseFault::Unmet) => {
-            say_found(rt, judgement);
+            say_found(rt, &judgement);
             point_at_unmet(rt, console, story, judgement.unmet.as_slice());
-            add_suite(rt, console, story, judgement, ExitStatus::Unmet, suites)
+            add_suite(rt, console, story, &judgement, ExitStatus::Unmet, suites)
         }
         Err(fault) => complain_of_fault(rt, console, run, story, fault),
     }

@@ -2,18 +2,18 @@
 ghost use Rattle.std.specs.Prelude.{◌≡◌, IfErr, IfOk, IsTrue, map, option_map};
 ghost use Rattle.am_console.specs.Complaints.{is_rejection};
 ghost use Rattle.am_console.specs.MatcherWords.{HasNoMatcher, WriteMatchers};
-ghost use Rattle.am_rehearse.specs.Asked.{AsksFor, AsksToSee, IsWrong};
+ghost use Rattle.am_rehearse.specs.Asked.{AsksFor, AsksToSee, IsEnd, IsWrong};
 
 use crate::asked::{RequestFault, overrides_asked, until_asked};
-use crate::output_options::OutputOptions;
 use am_alerts::sequence::Sequence;
 use am_alerts::text::Text;
-use am_command::exit_status::ExitStatus;
-use am_command::request::{PlayRequest, STANDARD_INPUT, Selection};
+use am_command_line::exit_status::ExitStatus;
+use am_command_line::request::{PlayRequest, STANDARD_INPUT, Selection};
 use am_commands::matchers::matchers_of;
 use am_console::bounds::bounds;
 use am_console::console::Console;
 use am_input::input::Overrides;
+use am_render::output_options::OutputOptions;
 use am_seed::Seed;
 use am_timeline::filtered::Filter;
 
@@ -141,7 +141,10 @@ fn text_or_complain<R: Eprint + AllocGlobal>(
 }
 
 /// Returns the end that the command line gives. The error is the status.
-pub(crate) fn until_of<R: Eprint>(rt: &R, until: Option<&str>) -> Result<Option<u64>, ExitStatus> {
+pub(crate) fn until_of<R: Eprint>(rt: &R, until: Option<&str>) -> Result<Option<u64>, ExitStatus>
+    ensures asked { IfOk result (IsEnd (option_map (λ text. text.now) until.entry)) }
+    ensures refused { IfErr result (λ status. status ≡ ExitStatus.Rejected) }
+{
     match until_asked(until) {
         Ok(until) => Ok(until),
         Err(fault) => Err(refuse_request(rt, fault)),

@@ -1,9 +1,9 @@
 //! The files of the stories that a command line names: files, and those of folders.
-ghost use Rattle.std.specs.Prelude.{◌<◌, IfErr, IfOk, IsTrue, vec_len};
+ghost use Rattle.std.specs.Prelude.{◌<◌, IfErr, IfOk, IsTrue, length, vec_len};
 ghost use Rattle.am_console.specs.Complaints.{is_complaint, is_rejection};
 
-use am_command::exit_status::ExitStatus;
-use am_command::request::PlayRequest;
+use am_command_line::exit_status::ExitStatus;
+use am_command_line::request::PlayRequest;
 use am_commands::folders::add_files;
 use am_commands::once::accept_inputs;
 use am_console::console::Console;
@@ -16,7 +16,7 @@ pub(crate) fn story_files<R: Files + Eprint + AllocGlobal + Clone + Drop>(
     console: &Console,
     request: &PlayRequest<'_>,
 ) -> Result<Vec<String>, ExitStatus>
-    ensures some { IfOk result (λ files. 0 < vec_len files) }
+    ensures each { IfOk result (λ files. length request.now.others.items < vec_len files) }
     ensures complains { IfErr result (λ status. IsTrue (is_complaint status)) }
 {
     accept_all(rt, console, request)?;

@@ -2,7 +2,7 @@
 ghost use Rattle.std.specs.Prelude.{◌≡◌};
 ghost use Rattle.am_rehearse.specs.Ended.{joined_status};
 
-use am_command::exit_status::ExitStatus;
+use am_command_line::exit_status::ExitStatus;
 
 /// What became of the stories so far.
 #[derive(Clone, Copy)]

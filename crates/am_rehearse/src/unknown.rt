@@ -9,9 +9,9 @@ ghost use Rattle.am_plans.specs.Configs.{configs_of};
 ghost use Rattle.am_rehearse.specs.Ended.{LacksName, NamesUnknown, has_route, some_has_receiver, some_has_route};
 
 use am_alerts::route::Child;
-use am_command::exit_status::ExitStatus;
-use am_command::request::Selection;
-use am_command::spelling::Nearest;
+use am_command_line::exit_status::ExitStatus;
+use am_command_line::request::Selection;
+use am_command_line::spelling::Nearest;
 use am_commands::system_zones::SystemZones;
 use am_console::console::{Console, Document};
 use am_input::input::{Changes, Input, read_input};

@@ -2,10 +2,10 @@
 use Rattle.std.proofs.Common.{◌≡◌, ℕ, List, Result, Ok, Err, refl, subst, sym}
 use Rattle.std.specs.Prelude.{IfErr, IsTrue}
 use Rattle.std.specs.Result.{IsErrAnd}
-use Rattle.am_cli.specs.Read.{IsJson, IsRefusedBy, is_refusal}
-use Rattle.am_cli.specs.declared.fault.FaultKind.TheVariants.{Full}
-use Rattle.am_cli.specs.declared.fault.InputFault.{InputFault}
-use Rattle.am_cli.specs.declared.fault.InputFault.TheVariants.{NoMemory, Refused}
+use Rattle.am_json.specs.Read.{IsJson, IsRefusedBy, is_refusal}
+use Rattle.am_json.specs.declared.fault.FaultKind.TheVariants.{Full}
+use Rattle.am_json.specs.declared.fault.InputFault.{InputFault}
+use Rattle.am_json.specs.declared.fault.InputFault.TheVariants.{NoMemory, Refused}
 use Rattle.am_run.specs.Faults.{Refuses, IsStuckInput, fault_of_input}
 use Rattle.am_run.specs.declared.run.TheConstants.{BOARD_ID}
 use Rattle.am_run.specs.declared.fault.RunFault.{RunFault}

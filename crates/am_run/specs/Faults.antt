@@ -1,13 +1,13 @@
 -- How a run ends without its report.
 use Rattle.std.specs.Prelude.{◌≡◌, ℕ, IsTrue, List}
-use Rattle.am_cli.specs.Read.{IsJson, IsNoJson}
-use Rattle.am_cli.specs.declared.fault.FaultKind.TheVariants.{Full}
-use Rattle.am_cli.specs.declared.fault.InputFault.{InputFault}
-use Rattle.am_cli.specs.declared.fault.InputFault.TheVariants as input
-use Rattle.am_cli.specs.declared.fault.ParseFault.{ParseFault}
-use Rattle.am_cli.specs.declared.fault.ParseFault.TheVariants as parse
-use Rattle.am_cli.specs.declared.transfer.ReadFault.{ReadFault}
-use Rattle.am_cli.specs.declared.transfer.ReadFault.TheVariants as read
+use Rattle.am_json.specs.Read.{IsJson, IsNoJson}
+use Rattle.am_json.specs.declared.fault.FaultKind.TheVariants.{Full}
+use Rattle.am_json.specs.declared.fault.InputFault.{InputFault}
+use Rattle.am_json.specs.declared.fault.InputFault.TheVariants as input
+use Rattle.am_json.specs.declared.fault.ParseFault.{ParseFault}
+use Rattle.am_json.specs.declared.fault.ParseFault.TheVariants as parse
+use Rattle.am_json.specs.declared.transfer.ReadFault.{ReadFault}
+use Rattle.am_json.specs.declared.transfer.ReadFault.TheVariants as read
 use Rattle.am_run.specs.IsCauseOfFull.{IsStuck}
 use Rattle.am_run.specs.declared.run.TheConstants.{BOARD_ID}
 use Rattle.am_run.specs.declared.fault.RunFault.{RunFault}

@@ -1,6 +1,6 @@
 //! Why a run ends without its report, and with which status.
-use am_cli::fault::{FaultKind, InputFault, ParseFault};
-use am_cli::transfer::{ReadFault, Unwritable};
+use am_json::fault::{FaultKind, InputFault, ParseFault};
+use am_json::transfer::{ReadFault, Unwritable};
 use thiserror::Error;
 
 /// Why a run ends without its report.

@@ -22,7 +22,7 @@ mod report;
 mod run;
 mod sending;
 
-use am_cli::device::{StandardInput, StandardOutput};
+use am_json::device::{StandardInput, StandardOutput};
 use am_seed::Seed;
 use run::run_scenario;
 use std::process::ExitCode;

@@ -13,7 +13,7 @@ ghost use Rattle.std.specs.Prelude.{◌≡◌, ◌<◌, ◌≤◌, ◌+◌, ◌+
 ghost use Rattle.std.specs.Prelude.{true, All, IfErr, IfOk, IsTrue, OnOk, Ok, length, map, vec_len};
 ghost use Rattle.std.specs.List.{AllZip, range_with_len};
 ghost use Rattle.am_alerts.specs.declared.limits.TheConstants.{MAX_TIME};
-ghost use Rattle.am_cli.specs.Read.{IsRefusedBy, is_refusal};
+ghost use Rattle.am_json.specs.Read.{IsRefusedBy, is_refusal};
 ghost use Rattle.am_desk.specs.Desks.{AreFresh, IsPrefixViewOf};
 ghost use Rattle.am_desk.specs.History.{made};
 ghost use Rattle.am_desk.specs.Terms.{terms_of};
@@ -34,8 +34,8 @@ use crate::sending::{end_on, has_succeeded, jobs_of, last_end, none_starved};
 use am_board::begin::Begun;
 use am_board::fault::{Fault, NoteFault};
 use am_board::notice::Report;
-use am_cli::fault::{FaultKind, InputFault};
 use am_desk::{CloseFault, Closed, Desk, Name, NotOpen, OwnTicket, Pass};
+use am_json::fault::{FaultKind, InputFault};
 use am_pool::PoolFault;
 use am_scenario::scenario::{Lane, Phase};
 use std::alloc::Global;

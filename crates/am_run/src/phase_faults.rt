@@ -4,12 +4,12 @@
 //! comes before all. An ending that fails counts as out of memory: a report, a note or a finish, all
 //! jobs of a phase, or the close. None ever fails, but no contract says so.
 ghost use Rattle.std.specs.Prelude.{◌≡◌, ◌≢◌, ◌↔◌, true, IfErr, IsOk, IsTrue};
-ghost use Rattle.am_cli.specs.Read.{IsRefusedBy, is_refusal};
+ghost use Rattle.am_json.specs.Read.{IsRefusedBy, is_refusal};
 ghost use Rattle.am_run.specs.PhaseFaults.{EndsAsFull, HasNoFault};
 
 use am_board::fault::Fault;
-use am_cli::fault::{FaultKind, InputFault};
-use am_cli::pointer::JsonPointer;
+use am_json::fault::{FaultKind, InputFault};
+use am_json::pointer::JsonPointer;
 use std::alloc::Global;
 
 /// Which call of a phase was refused.

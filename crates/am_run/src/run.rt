@@ -25,7 +25,7 @@
 //!   just what came before the phase, and its begins.
 ghost use Rattle.std.specs.Prelude.{◌≡◌, ◌≢◌, ◌≤◌, ◌<◌, ◌+◌, ◌++◌, ◌⊎◌, ◌↔◌, All, List, ℕ, length, vec_len};
 ghost use Rattle.std.specs.Prelude.{IfErr, IfOk, IsTrue, None, OnOk, string_bytes};
-ghost use Rattle.am_cli.specs.Read.{IsRefusedBy, is_refusal};
+ghost use Rattle.am_json.specs.Read.{IsRefusedBy, is_refusal};
 ghost use Rattle.am_desk.specs.Desks.{AreFresh};
 ghost use Rattle.am_desk.specs.Terms.{terms};
 ghost use Rattle.am_model.specs.Config.{config_fault};
@@ -47,12 +47,12 @@ use crate::phase::Run;
 use crate::report::report_text;
 use am_board::config::Config;
 use am_board::notice::Report;
-use am_cli::device::{Sink, Source};
-use am_cli::fault::{FaultKind, InputFault};
-use am_cli::pointer::JsonPointer;
-use am_cli::reader::parse;
-use am_cli::transfer::{read_all, write_all};
 use am_desk::{Blank, BlankFault, Brand, Closed, Desk, Name, OpenFault, Pass};
+use am_json::device::{Sink, Source};
+use am_json::fault::{FaultKind, InputFault};
+use am_json::pointer::JsonPointer;
+use am_json::reader::parse;
+use am_json::transfer::{read_all, write_all};
 use am_scenario::scenario::{Phase, Scenario, read_scenario};
 use am_seed::Seed;
 use std::alloc::{AllocError, Global};

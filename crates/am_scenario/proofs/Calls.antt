@@ -10,11 +10,11 @@ use Rattle.am_alerts.specs.Matcher.{compare_texts}
 use Rattle.am_alerts.specs.declared.alert.AlertFault.TheVariants.{BadTime, EndBeforeStart, NoLabels}
 use Rattle.am_alerts.specs.declared.labels.Label.{Label}
 use Rattle.am_alerts.specs.declared.limits.TheConstants.{MAX_TIME}
-use Rattle.am_cli.proofs.Once.{IsOne, one_matcher_list, one_or, one_pairs, one_read, one_there, one_there_with}
-use Rattle.am_cli.specs.Configured.{DecodesToLabels, DecodesToMatcher}
-use Rattle.am_cli.specs.Decoding.{Has, HasIf, HasOr, IsList, IsNumber}
-use Rattle.am_cli.specs.Read.{number_in}
-use Rattle.am_cli.specs.declared.reader.Mode.{Mode}
+use Rattle.am_json.proofs.Once.{IsOne, one_matcher_list, one_or, one_pairs, one_read, one_there, one_there_with}
+use Rattle.am_json.specs.Configured.{DecodesToLabels, DecodesToMatcher}
+use Rattle.am_json.specs.Decoding.{Has, HasIf, HasOr, IsList, IsNumber}
+use Rattle.am_json.specs.Read.{number_in}
+use Rattle.am_json.specs.declared.reader.Mode.{Mode}
 use Rattle.am_mute.specs.Silence.{SilenceData}
 use Rattle.am_scenario.specs.Decoding.{DecodesToAlert, DecodesToSilence, HasCall, HasSilence, IsEnd, call_compares_texts}
 use Rattle.am_scenario.specs.declared.scenario.call.LaneCall.{LaneCall}

@@ -4,10 +4,10 @@ use Rattle.std.specs.Prelude.{IfErr, IfOk, IsErrAnd, IsTrue}
 use Rattle.std.specs.Result.{result_ok}
 use Rattle.serde_json.specs.Data.{Data, Items, Members, null, boolean, number, string, array, object}
 use Rattle.serde_json.specs.Find.{as_array, as_object, get, get_member}
-use Rattle.am_cli.proofs.Decoding.{found}
-use Rattle.am_cli.specs.Decoding.{DecodeEach, IsList}
-use Rattle.am_cli.specs.Read.{Excludes, is_refusal}
-use Rattle.am_cli.specs.declared.fault.InputFault.{InputFault}
+use Rattle.am_json.proofs.Decoding.{found}
+use Rattle.am_json.specs.Decoding.{DecodeEach, IsList}
+use Rattle.am_json.specs.Read.{Excludes, is_refusal}
+use Rattle.am_json.specs.declared.fault.InputFault.{InputFault}
 
 -- the items of an array say a list
 pub as_list : {X : Type 0} (decodes_to : Data → X → Type 0) (value : Data) (items : Items) (xs : List X) → Some items ≡ as_array value

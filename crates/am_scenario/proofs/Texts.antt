@@ -4,10 +4,10 @@ use Rattle.std.specs.Prelude.{IsTrue}
 use Rattle.serde_json.specs.Data.{Data, Members}
 use Rattle.serde_json.specs.Find.{as_object, get_member}
 use Rattle.serde_json.specs.Read.{read}
-use Rattle.am_cli.specs.Configured.{DecodesToConfig}
-use Rattle.am_cli.specs.Read.{Excludes, is_refusal}
-use Rattle.am_cli.specs.declared.fault.InputFault.{InputFault}
-use Rattle.am_cli.specs.declared.reader.Mode.TheVariants.{Lenient}
+use Rattle.am_json.specs.Configured.{DecodesToConfig}
+use Rattle.am_json.specs.Read.{Excludes, is_refusal}
+use Rattle.am_json.specs.declared.fault.InputFault.{InputFault}
+use Rattle.am_json.specs.declared.reader.Mode.TheVariants.{Lenient}
 use Rattle.am_model.specs.Config.{config_fault}
 use Rattle.am_model.specs.declared.config.Config.{Config}
 use Rattle.am_scenario.specs.Decoding.{DecodesToScenario, HasScenario, IsScenarioIn, scenario_compares_texts}

@@ -7,10 +7,10 @@ use Rattle.serde_json.specs.Read.{read}
 use Rattle.am_alerts.specs.AlertData.{AlertData, alert_fault}
 use Rattle.am_alerts.specs.Matcher.{compare_texts}
 use Rattle.am_alerts.specs.declared.limits.TheConstants.{MAX_DURATION}
-use Rattle.am_cli.specs.Configured.{DecodesToConfig, DecodesToLabels, DecodesToMatcher, config_compares_texts, most_matchers}
-use Rattle.am_cli.specs.Decoding.{IsFlag, IsList, IsNumber, IsObject, Has, HasNone, HasOr, answer_text}
-use Rattle.am_cli.specs.declared.reader.Mode.{Mode}
-use Rattle.am_cli.specs.declared.reader.Mode.TheVariants.{Lenient}
+use Rattle.am_json.specs.Configured.{DecodesToConfig, DecodesToLabels, DecodesToMatcher, config_compares_texts, most_matchers}
+use Rattle.am_json.specs.Decoding.{IsFlag, IsList, IsNumber, IsObject, Has, HasNone, HasOr, answer_text}
+use Rattle.am_json.specs.declared.reader.Mode.{Mode}
+use Rattle.am_json.specs.declared.reader.Mode.TheVariants.{Lenient}
 use Rattle.am_mute.specs.Silence.{SilenceData, silence_fault}
 use Rattle.am_scenario.specs.declared.scenario.Lane.{Lane}
 use Rattle.am_scenario.specs.declared.scenario.Phase.{Phase}

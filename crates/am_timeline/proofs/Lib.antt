@@ -40,3 +40,7 @@ pub mod ExpiredTable
 pub mod Tallies
 -- the outcomes after a record, by the place of the first finish
 pub mod Finished
+-- lists of the same elements, sorted by an order in which only equal ones tie, are one list
+pub mod Sorted
+-- delivered notices in their order
+pub mod Comparisons

@@ -26,6 +26,8 @@ pub mod Alike
 pub mod Runs
 -- the lines of the timeline on notices alone, with those that failed or without
 pub mod Notices
+-- the notices that a rehearsal delivered, and when two rehearsals delivered the same
+pub mod Comparison
 -- what each receiver got, a line for each
 pub mod Table
 -- what a receiver got by some events

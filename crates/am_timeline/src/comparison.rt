@@ -5,15 +5,14 @@
 //! paired first. Of what is left the first of one rehearsal is paired with the first of the other, and so on: these have
 //! moved. An alert is reported if a delivered notice has it, as firing or as resolved, as for `am_undelivered`. Cost: the
 //! notices of both, sorted.
-use crate::alerts::push_alerts;
-use crate::groups::push_integration;
-use crate::line::push_sent_reason;
+ghost use Rattle.std.specs.Prelude.{◌≡◌, ◌↔◌, false, length, IfOk, string_bytes};
+ghost use Rattle.am_timeline.specs.Comparison.{SameNotices, delivered_notices, no_difference_text};
+
 use crate::playback::Playback;
-use crate::sent::{Sent, expiry_before, sent_of};
-use crate::shown::{push_set, push_text};
-use am_alerts::alert::Alert;
-use am_model::notice::Notice;
-use am_terms::clock::{TimeFormat, push_column};
+use crate::sent_notice::{
+    ListedAlert, SentNotice, Side, are_same, by_content_and_side, is_same, notices_of,
+};
+use am_terms::clock::{TimeFormat, push_column, push_number};
 use std::alloc::{AllocError, Global};
 use std::cmp::Ordering;
 
@@ -30,39 +29,11 @@ pub struct Comparison {
     pub differs: bool,
 }
 
-/// Which of the two rehearsals.
-#[derive(Clone, Copy, PartialEq, Eq)]
-enum Side {
-    Old,
-    New,
-}
-
-/// A delivered notice.
-#[derive(Drop)]
-struct SentNotice {
-    side: Side,
-    /// When its sending ended, in milliseconds.
-    at: u64,
-    receiver: String,
-    /// The receiver and the integration's name, as they are printed.
-    target: String,
-    alerts: String,
-    /// Why it was sent.
-    reason: String,
-}
-
 /// A line on a notice that differs.
 #[derive(Drop)]
 struct Difference {
     at: u64,
     line: String,
-}
-
-/// An alert that a delivered notice says, as firing or as resolved.
-#[derive(Drop)]
-struct ListedAlert {
-    side: Side,
-    alert: String,
 }
 
 /// How many notices each of the two rehearsals has.
@@ -95,61 +66,74 @@ struct AlertCounts<'t> {
     counts: Counts,
 }
 
-/// Returns what the delivered notices of two rehearsals differ in.
+/// Returns what the delivered notices of two rehearsals differ in. They don't differ exactly if both rehearsals delivered the same
+/// notices at the same times, each as often.
 pub fn compare_notices<C: TimeFormat>(
     alloc: Global,
     old: &Playback<'_>,
     new: &Playback<'_>,
     clock: &C,
-) -> Result<Comparison, AllocError> {
-    let mut sent_notices = Vec::new(alloc);
+) -> Result<Comparison, AllocError>
+    ensures differs { IfOk result (λ compared. (compared.differs ≡ false) ↔ SameNotices old.now new.now) }
+    ensures text { IfOk result (λ compared. compared.differs ≡ false
+        → string_bytes compared.text ≡ no_difference_text (length (delivered_notices old.now))) }
+{
     let mut listed_alerts = Vec::new(alloc);
-    add_notices(
-        alloc,
-        Side::Old,
-        old,
-        clock,
-        &mut sent_notices,
-        &mut listed_alerts,
-    )?;
-    add_notices(
-        alloc,
-        Side::New,
-        new,
-        clock,
-        &mut sent_notices,
-        &mut listed_alerts,
-    )?;
-    sent_notices.sort_unstable_by(by_content);
-    let differences = differences_of(alloc, sent_notices.as_slice(), clock)?;
-    let differs = !differences.is_empty();
-    let mut text = String::new(alloc);
-    if differs {
-        push_differences(differences, &mut text)?;
-        let mut summary = String::new(alloc);
-        sent_notices.sort_unstable_by(by_receiver);
-        push_receivers(alloc, sent_notices.as_slice(), clock, &mut summary)?;
-        listed_alerts.sort_unstable_by(by_alert);
-        push_listed(alloc, listed_alerts.as_slice(), &mut summary)?;
-        if !summary.is_empty() {
-            text.push('\n')?;
-            text.push_str(summary.as_str())?;
-        }
-    } else {
-        let count = sent_notices.len() / 2;
-        write!(text, "no difference in {count} notices\n")?;
+    let old_notices = notices_of(alloc, Side::Old, old, clock, &mut listed_alerts)?;
+    let new_notices = notices_of(alloc, Side::New, new, clock, &mut listed_alerts)?;
+    let old_slice = old_notices.as_slice();
+    let new_slice = new_notices.as_slice();
+    let same = are_same(alloc, old_slice, new_slice)?;
+    if same {
+        let text = no_difference(alloc, old_slice.len())?;
+        return Ok(Comparison {
+            text,
+            differs: false,
+        });
     }
-    Ok(Comparison { text, differs })
+    let text = differences_text(alloc, old_notices, new_notices, listed_alerts, clock)?;
+    Ok(Comparison {
+        text,
+        differs: true,
+    })
 }
 
-/// The same notices follow each other by time, and of one time the old ones come first.
-fn by_content(one: &SentNotice, other: &SentNotice) -> Ordering {
-    one.target
-        .as_str()
-        .cmp(other.target.as_str())
-        .then(one.alerts.as_str().cmp(other.alerts.as_str()))
-        .then(one.at.cmp(&other.at))
-        .then(number(one.side).cmp(&number(other.side)))
+/// Says that so many notices don't differ.
+fn no_difference(alloc: Global, count: usize) -> Result<String, AllocError>
+    ensures { IfOk result (λ text. string_bytes text ≡ no_difference_text count) }
+{
+    let mut text = String::new(alloc);
+    text.push_str("no difference in ")?;
+    push_number(count as u64, &mut text)?;
+    text.push_str(" notices\n")?;
+    Ok(text)
+}
+
+/// Says what notices differ in, and what follows for receivers and alerts.
+fn differences_text<C: TimeFormat>(
+    alloc: Global,
+    old_notices: Vec<SentNotice>,
+    new_notices: Vec<SentNotice>,
+    listed_alerts: Vec<ListedAlert>,
+    clock: &C,
+) -> Result<String, AllocError> {
+    let (mut sent_notices, mut new_notices) = (old_notices, new_notices);
+    let mut listed_alerts = listed_alerts;
+    sent_notices.append(&mut new_notices)?;
+    sent_notices.sort_unstable_by(by_content_and_side);
+    let differences = differences_of(alloc, sent_notices.as_slice(), clock)?;
+    let mut text = String::new(alloc);
+    push_differences(differences, &mut text)?;
+    let mut summary = String::new(alloc);
+    sent_notices.sort_unstable_by(by_receiver);
+    push_receivers(alloc, sent_notices.as_slice(), clock, &mut summary)?;
+    listed_alerts.sort_unstable_by(by_alert);
+    push_listed(alloc, listed_alerts.as_slice(), &mut summary)?;
+    if !summary.is_empty() {
+        text.push('\n')?;
+        text.push_str(summary.as_str())?;
+    }
+    Ok(text)
 }
 
 fn by_receiver(one: &SentNotice, other: &SentNotice) -> Ordering {
@@ -169,99 +153,7 @@ fn by_alert(one: &ListedAlert, other: &ListedAlert) -> Ordering {
     one.alert.as_str().cmp(other.alert.as_str())
 }
 
-fn number(side: Side) -> u8 {
-    match side {
-        Side::Old => 0,
-        Side::New => 1,
-    }
-}
-
-/// Adds the delivered notices of a rehearsal, and the alerts that they say.
-fn add_notices<C: TimeFormat>(
-    alloc: Global,
-    side: Side,
-    playback: &Playback<'_>,
-    clock: &C,
-    sent_notices: &mut Vec<SentNotice>,
-    listed_alerts: &mut Vec<ListedAlert>,
-) -> Result<(), AllocError> {
-    for event in playback.events {
-        if let Some(sent) = sent_of(playback, event) {
-            if sent.is_delivered() {
-                sent_notices.push(sent_notice_by(alloc, side, playback, clock, &sent)?)?;
-                add_listed(alloc, side, sent.notice, listed_alerts)?;
-            }
-        }
-    }
-    Ok(())
-}
-
-fn sent_notice_by<C: TimeFormat>(
-    alloc: Global,
-    side: Side,
-    playback: &Playback<'_>,
-    clock: &C,
-    sent: &Sent<'_>,
-) -> Result<SentNotice, AllocError> {
-    let config = playback.config;
-    let notice = sent.notice;
-    let index = notice.integration as usize;
-    let mut receiver = String::new(alloc);
-    push_text(
-        config.route_of(&notice.group).receiver.as_str(),
-        &mut receiver,
-    )?;
-    let mut target = receiver.clone()?;
-    target.push(' ')?;
-    push_integration(config, &notice.group, index, &mut target)?;
-    let mut alerts = String::new(alloc);
-    push_alerts("; firing ", notice.firing.as_slice(), &mut alerts)?;
-    push_alerts("; resolved ", notice.resolved.as_slice(), &mut alerts)?;
-    let mut reason = String::new(alloc);
-    if let Some(why) = sent.begin.preview.reasons().get(index) {
-        push_sent_reason(clock, expiry_before(playback, sent), why, &mut reason)?;
-    }
-    Ok(SentNotice {
-        side,
-        at: sent.report.ended,
-        receiver,
-        target,
-        alerts,
-        reason,
-    })
-}
-
-/// Adds the alerts that a delivered notice says, as firing and as resolved.
-fn add_listed(
-    alloc: Global,
-    side: Side,
-    notice: &Notice,
-    listed_alerts: &mut Vec<ListedAlert>,
-) -> Result<(), AllocError> {
-    add_alerts(alloc, side, notice.firing.as_slice(), listed_alerts)?;
-    add_alerts(alloc, side, notice.resolved.as_slice(), listed_alerts)
-}
-
-fn add_alerts(
-    alloc: Global,
-    side: Side,
-    alerts: &[Alert],
-    listed_alerts: &mut Vec<ListedAlert>,
-) -> Result<(), AllocError> {
-    for alert in alerts {
-        let mut text = String::new(alloc);
-        push_set(alert.labels(), &mut text)?;
-        listed_alerts.push(ListedAlert { side, alert: text })?;
-    }
-    Ok(())
-}
-
-/// Returns whether two notices are the same, at whatever time.
-fn is_same(one: &SentNotice, other: &SentNotice) -> bool {
-    one.target.as_str() == other.target.as_str() && one.alerts.as_str() == other.alerts.as_str()
-}
-
-/// Returns the lines on what differs among notices in the order of `by_content`.
+/// Returns the lines on what differs among notices in the order of `by_content_and_side`.
 fn differences_of<C: TimeFormat>(
     alloc: Global,
     sent_notices: &[SentNotice],

@@ -33,6 +33,7 @@ mod remark;
 mod remarks;
 mod runs;
 pub mod sent;
+mod sent_notice;
 pub mod short_timeline;
 pub mod shown;
 pub mod table;

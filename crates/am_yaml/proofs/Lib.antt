@@ -2,3 +2,5 @@
 mod Depths
 -- lines and columns behind one more byte, and locations behind a byte order mark
 mod Locations
+-- what single values are seen as
+mod Views

@@ -3,6 +3,7 @@ use crate::fault::{Reason, Stop};
 use crate::members::{Key, Members};
 use crate::parser::{Parser, Properties, depth_at};
 use crate::plain::ScalarContext;
+use crate::rows::Kind;
 use serde_json::Value;
 
 /// What is before a node.
@@ -56,7 +57,7 @@ impl Parser<'_> {
                 at,
                 reason: Reason::Tag,
             }),
-            _ => Ok(self.empty_value(properties)),
+            _ => self.empty_value(properties),
         }
     }
 
@@ -74,7 +75,7 @@ impl Parser<'_> {
     #[cycle(block)]
     fn node_below(&mut self, lead: Lead, floor: usize, levels: usize) -> Result<Value, Stop> {
         let Some(column) = self.cursor.content_column() else {
-            return Ok(Value::Null);
+            return self.no_value();
         };
         if column >= floor {
             return self.block(floor, levels);
@@ -84,7 +85,7 @@ impl Parser<'_> {
             self.path.meet(self.cursor.at());
             return self.block_sequence(column, levels);
         }
-        Ok(Value::Null)
+        self.no_value()
     }
 
     /// Reads the node that starts here, where a block collection can start.
@@ -116,10 +117,11 @@ impl Parser<'_> {
             let is_entered = self
                 .path
                 .enter_item(depth_at(levels), items.len(), self.cursor.at());
-            self.cursor.step();
+            self.sign(Kind::Dash)?;
             items.push(self.node(Lead::Dash, column.saturating_add(1), below)?)?;
             self.path.leave(is_entered);
         }
+        self.end_block()?;
         Ok(Value::Array(items))
     }
 
@@ -143,10 +145,19 @@ impl Parser<'_> {
             members.add(key, value)?;
             match self.next_key(column)? {
                 Some(next) => key = next,
-                None => return members.end(),
+                None => {
+                    self.end_block()?;
+                    return members.end();
+                }
             }
         }
         Err(self.cursor.stop(Reason::Unexpected))
+    }
+
+    /// Notes the end of a collection.
+    fn end_block(&mut self) -> Result<(), Stop> {
+        let at = self.cursor.at();
+        self.rows.add(Kind::End, at, at)
     }
 
     /// Reads the next key of a mapping whose keys are in a column, if there is one.
@@ -166,7 +177,7 @@ impl Parser<'_> {
             b'|' | b'>' => return Ok(Value::String(self.block_scalar(floor)?)),
             b'[' | b'{' => self.flow_node(floor, levels)?,
             b'*' => self.alias(levels)?,
-            b'\'' | b'"' => Value::String(self.quoted()?),
+            b'\'' | b'"' => self.quoted_value()?,
             b'&' => return Err(self.cursor.stop(Reason::Anchor)),
             b'!' => return Err(self.cursor.stop(Reason::Tag)),
             _ => self.plain_value(ScalarContext::Block { floor })?,

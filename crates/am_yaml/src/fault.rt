@@ -54,6 +54,8 @@ pub enum Reason {
     Octal,
     /// In a flow collection, what isn't a key with a value, or an item.
     Flow,
+    /// A text that the check of what was read doesn't confirm. None is known.
+    Unconfirmed,
 }
 
 /// Why nothing is made of a text.
@@ -97,18 +99,19 @@ impl fmt::Display for Reason {
     fn fmt<W: fmt::Write>(&self, f: &mut fmt::Formatter<W>) -> fmt::Result {
         f.write_str(match self {
             Reason::Character => "a character that YAML doesn't allow here",
-            Reason::Tab => "a tab where only spaces may indent",
+            Reason::Tab => "a tab in the indentation; write spaces",
             Reason::Unexpected => "this isn't expected here; is the indentation right?",
             Reason::Document => "a second document; a file has one",
             Reason::Directive => "a directive; leave it out",
             Reason::Tag => "a tag; leave it out",
             Reason::Anchor => "an anchor that can't be here",
-            Reason::Alias => "an alias of no anchor above it",
+            Reason::Alias => "no anchor of this name ends above this alias",
             Reason::Untold =>
                 "an alias of a flag or a number where a text is wanted; write the text in quotes",
             Reason::Key => "a key that isn't a text on one line",
-            Reason::Duplicate => "a key that the mapping has already",
-            Reason::Merge => "a merge that YAML's readers understand differently",
+            Reason::Duplicate => "the mapping has this key already; remove one of the two",
+            Reason::Merge =>
+                "a merge that YAML's readers understand differently; write its fields out",
             Reason::Joined =>
                 "Alertmanager adds these matchers to those of the merge; write them all in one list, without the merge's",
             Reason::Expansion => "aliases that make more than 4 MiB of copies",
@@ -122,6 +125,7 @@ impl fmt::Display for Reason {
             Reason::Number => "a number that JSON can't hold; write it in quotes if it is a text",
             Reason::Octal => "a number with a leading zero; write it in quotes if it is a text",
             Reason::Flow => "this isn't expected between brackets",
+            Reason::Unconfirmed => "this can't be confirmed",
         })
     }
 }

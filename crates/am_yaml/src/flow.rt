@@ -4,6 +4,7 @@ use crate::fault::{Reason, Stop};
 use crate::members::{Key, Members};
 use crate::parser::{Parser, depth_at};
 use crate::plain::ScalarContext;
+use crate::rows::Kind;
 use serde_json::Value;
 
 impl Cursor<'_> {
@@ -37,7 +38,8 @@ impl Parser<'_> {
         let properties = self.properties()?;
         self.check_properties(properties)?;
         if properties.tag.is_some() && is_flow(self.cursor.byte()) {
-            return self.anchored(properties.anchor, self.empty_value(properties));
+            let value = self.empty_value(properties)?;
+            return self.anchored(properties.anchor, value);
         }
         let before = self.begin_tagged(properties);
         let value = self.flow_content(floor, levels)?;
@@ -52,7 +54,7 @@ impl Parser<'_> {
             b'[' => self.flow_sequence(floor, levels),
             b'{' => self.flow_mapping(floor, levels),
             b'*' => self.alias(levels),
-            b'\'' | b'"' => Ok(Value::String(self.quoted()?)),
+            b'\'' | b'"' => self.quoted_value(),
             END => Err(self.cursor.stop(Reason::Flow)),
             _ => self.plain_value(ScalarContext::Flow { floor }),
         }
@@ -67,11 +69,11 @@ impl Parser<'_> {
         let outer = self.open;
         self.open = Some(self.cursor);
         let mut items = Vec::new(self.alloc);
-        self.cursor.step();
+        self.sign(Kind::Bracket)?;
         for _ in self.cursor.at()..=self.cursor.len() {
             self.cursor.skip_flow_gap()?;
             if self.cursor.byte() == b']' {
-                self.cursor.step();
+                self.sign(Kind::Close)?;
                 self.open = outer;
                 return Ok(Value::Array(items));
             }
@@ -94,11 +96,11 @@ impl Parser<'_> {
         let outer = self.open;
         self.open = Some(self.cursor);
         let mut members = Members::new(self.alloc);
-        self.cursor.step();
+        self.sign(Kind::Brace)?;
         for _ in self.cursor.at()..=self.cursor.len() {
             self.cursor.skip_flow_gap()?;
             if self.cursor.byte() == b'}' {
-                self.cursor.step();
+                self.sign(Kind::Close)?;
                 self.open = outer;
                 return members.end();
             }
@@ -122,7 +124,7 @@ impl Parser<'_> {
     fn flow_value(&mut self, floor: usize, levels: usize) -> Result<Value, Stop> {
         self.cursor.skip_flow_gap()?;
         match self.cursor.byte() {
-            b',' | b'}' => Ok(Value::Null),
+            b',' | b'}' => self.no_value(),
             _ => self.flow_node(floor, levels),
         }
     }
@@ -138,6 +140,7 @@ impl Parser<'_> {
             return Err(self.cursor.stop(Reason::Flow));
         }
         self.refuse_key(start, &key)?;
+        self.rows.add(Kind::Key, key.at, key.to)?;
         self.cursor.step();
         Ok(key)
     }
@@ -147,8 +150,7 @@ impl Parser<'_> {
         self.cursor.skip_flow_gap()?;
         let byte = self.cursor.byte();
         if byte == b',' {
-            self.cursor.step();
-            Ok(())
+            self.sign(Kind::Comma)
         } else if byte == end {
             Ok(())
         } else {

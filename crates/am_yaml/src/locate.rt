@@ -1,5 +1,5 @@
 //! Where values are in a text.
-ghost use Rattle.std.specs.Prelude.{IfOk};
+ghost use Rattle.std.specs.Prelude.{◌≡◌, ◌≤◌, ℕ, drop, length, IfOk};
 ghost use Rattle.am_yaml.specs.Location.{IsLocationIn};
 
 use crate::fault::Stop;
@@ -23,10 +23,20 @@ pub fn locate(alloc: Global, text: &str, pointer: &str, part: Part) -> Result<Lo
     ensures { IfOk result (λ location. IsLocationIn text.now location.line location.column) }
 {
     let steps = steps_of(alloc, pointer)?;
-    let text = without_mark(text);
+    let text = behind_mark(text);
     let at = offset_in_lines(alloc, text, steps.as_slice(), part)?;
     let end = at.min(text.len());
     Ok(Location::behind(&text.as_bytes()[..end]))
+}
+
+/// Returns the text behind a byte order mark, if it begins with one.
+fn behind_mark(text: &str) -> &str
+    ensures { (mark : ℕ) × (mark ≤ 3) × (mark ≤ length text.now) × (result.now ≡ drop mark text.now) }
+{
+    match without_mark(text) {
+        Some(rest) => rest,
+        None => text,
+    }
 }
 
 /// Returns the offset in a text whose lines end as they do on Unix or on Windows.
@@ -39,7 +49,9 @@ fn offset_in_lines(
     if !text.as_bytes().contains(&b'\r') {
         return offset_of(alloc, text, steps, part);
     }
-    let unix = without_returns(alloc, text)?;
+    let Ok(unix) = without_returns(alloc, text) else {
+        return Err(AllocError);
+    };
     let at = offset_of(alloc, unix.as_str(), steps, part)?;
     Ok(offset_with_returns(text, at))
 }

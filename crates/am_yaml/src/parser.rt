@@ -1,4 +1,7 @@
 //! What the readers of nodes share.
+ghost use Rattle.std.specs.Prelude.{◌≡◌};
+ghost use Rattle.am_yaml.specs.Scalars.{is_of_names, meaning_below as meaning_in, meaning_of as meaning_at};
+
 use crate::anchors::Anchors;
 use crate::cursor::{Cursor, is_gap};
 use crate::fault::{Reason, Stop};
@@ -6,6 +9,7 @@ use crate::members::{Key, Members};
 use crate::path::{Path, Step};
 use crate::plain::ScalarContext;
 use crate::resolve::{resolve, resolve_flag};
+use crate::rows::{Kind, Rows};
 use serde_json::Value;
 use std::alloc::Global;
 
@@ -64,6 +68,8 @@ pub(crate) struct Parser<'t> {
     pub(crate) cursor: Cursor<'t>,
     pub(crate) anchors: Anchors,
     pub(crate) path: Path<'t>,
+    /// The pieces that were read.
+    pub(crate) rows: Rows,
     /// The start of the innermost flow collection that isn't read to its end.
     pub(crate) open: Option<Cursor<'t>>,
     meaning: Meaning,
@@ -94,7 +100,9 @@ impl Properties<'_> {
 }
 
 /// What the scalars in the value of a key mean, which is in no value whose texts count.
-fn meaning_below(key: &str) -> Meaning {
+fn meaning_of(key: &str) -> Meaning
+    ensures { result ≡ meaning_at key.now }
+{
     if TEXTS.contains(&key) {
         Meaning::Texts
     } else if FLAGS.contains(&key) {
@@ -106,8 +114,20 @@ fn meaning_below(key: &str) -> Meaning {
     }
 }
 
+/// What the scalars in the value of a key mean, in a value where they mean this.
+pub(crate) fn meaning_below(around: Meaning, key: &str) -> Meaning
+    ensures { result ≡ meaning_in around key.now }
+{
+    match around {
+        Meaning::Core | Meaning::Flag => meaning_of(key),
+        other => other,
+    }
+}
+
 /// Whether a name of an anchor may have this byte. Readers differ on others.
-fn is_name(byte: u8) -> bool {
+pub(crate) fn is_name(byte: u8) -> bool
+    ensures { result ≡ is_of_names byte }
+{
     byte.is_ascii_alphanumeric() || byte == b'_' || byte == b'-'
 }
 
@@ -119,6 +139,7 @@ impl<'t> Parser<'t> {
             cursor: Cursor::new(text),
             anchors: Anchors::new(alloc),
             path: Path::new(steps),
+            rows: Rows::new(alloc),
             open: None,
             meaning: Meaning::Core,
             may_repeat: false,
@@ -141,10 +162,7 @@ impl<'t> Parser<'t> {
     /// Notes what the scalars in the value of a key mean, and returns what they meant before.
     pub(crate) fn begin_value(&mut self, key: &str) -> Meaning {
         let before = self.meaning;
-        self.meaning = match before {
-            Meaning::Core | Meaning::Flag => meaning_below(key),
-            other => other,
-        };
+        self.meaning = meaning_below(before, key);
         before
     }
 
@@ -203,6 +221,7 @@ impl<'t> Parser<'t> {
                 reason: Reason::Tag,
             });
         }
+        self.rows.add(Kind::Tag, at, self.cursor.at())?;
         self.cursor.skip_blanks();
         Ok(Some(at))
     }
@@ -217,6 +236,7 @@ impl<'t> Parser<'t> {
         if !is_gap(self.cursor.byte()) {
             return Err(self.cursor.stop(Reason::Anchor));
         }
+        self.rows.add(Kind::Anchor, at, self.cursor.at())?;
         self.cursor.skip_blanks();
         Ok(Some(Anchor { at, name }))
     }
@@ -263,6 +283,7 @@ impl<'t> Parser<'t> {
     pub(crate) fn alias(&mut self, levels: usize) -> Result<Value, Stop> {
         let at = self.cursor.at();
         let name = self.name(Reason::Alias)?;
+        self.rows.add(Kind::Alias, at, self.cursor.at())?;
         let wants_texts = self.meaning == Meaning::Texts;
         self.anchors.copy(name, at, levels, wants_texts)
     }
@@ -272,6 +293,7 @@ impl<'t> Parser<'t> {
     pub(crate) fn plain_value(&mut self, context: ScalarContext) -> Result<Value, Stop> {
         let at = self.cursor.at();
         let text = self.plain(context)?;
+        self.rows.add(Kind::Scalar, at, self.cursor.at())?;
         let resolved = match self.meaning {
             Meaning::Tagged => return Ok(Value::String(text)),
             Meaning::Flag => resolve_flag(text.as_str()),
@@ -287,11 +309,34 @@ impl<'t> Parser<'t> {
     }
 
     /// The value of a node of which nothing is written but its properties.
-    pub(crate) fn empty_value(&self, properties: Properties<'_>) -> Value {
+    pub(crate) fn empty_value(&mut self, properties: Properties<'_>) -> Result<Value, Stop> {
+        let none = self.no_value()?;
         if properties.tag.is_some() {
-            Value::String(String::new(self.alloc))
+            Ok(Value::String(String::new(self.alloc)))
         } else {
-            Value::Null
+            Ok(none)
         }
+    }
+
+    /// The value of a node of which nothing is written.
+    pub(crate) fn no_value(&mut self) -> Result<Value, Stop> {
+        let at = self.cursor.at();
+        self.rows.add(Kind::Empty, at, at)?;
+        Ok(Value::Null)
+    }
+
+    /// Reads a scalar in quotes where a value is.
+    pub(crate) fn quoted_value(&mut self) -> Result<Value, Stop> {
+        let at = self.cursor.at();
+        let text = self.quoted()?;
+        self.rows.add(Kind::Scalar, at, self.cursor.at())?;
+        Ok(Value::String(text))
+    }
+
+    /// Goes over one byte, which is a piece of this kind.
+    pub(crate) fn sign(&mut self, kind: Kind) -> Result<(), Stop> {
+        let at = self.cursor.at();
+        self.cursor.step();
+        self.rows.add(kind, at, self.cursor.at())
     }
 }

@@ -1,9 +1,10 @@
 //! Reading a text.
-ghost use Rattle.std.specs.Prelude.{◌≡◌, ◌≢◌, ◌<◌, ◌≤◌, ◌↔◌, ℕ, drop, length, IfErr, IfOk};
+ghost use Rattle.std.specs.Prelude.{◌≡◌, ◌≢◌, ◌<◌, ◌≤◌, ◌↔◌, drop, length, string_bytes, IfErr, IfOk, IfSome};
 ghost use Rattle.serde_json.specs.Data.{depth};
 ghost use Rattle.serde_json.specs.View.{view};
 ghost use Rattle.am_yaml.specs.Fault.{AtLocation};
 ghost use Rattle.am_yaml.specs.Location.{IsLocationIn, IsLocationOf};
+ghost use Rattle.am_yaml.specs.Spelling.{IsSpelledIn, IsYamlOf, mark_of, without_returns as without_carriage_returns};
 
 use crate::block::Lead;
 use crate::cursor::END;
@@ -11,9 +12,12 @@ use crate::fault::{Reason, Stop, YamlFault};
 use crate::location::Location;
 use crate::measure::is_within;
 use crate::parser::{MAX_DEPTH, Parser};
+use crate::rows::Kind;
+use crate::scalars::byte_at;
+use crate::spelling::{spelled, string_of};
 use crate::unclosed::named;
 use serde_json::Value;
-use std::alloc::{AllocError, Global};
+use std::alloc::Global;
 
 /// How many bytes a text may have: 64 MiB.
 pub const MAX_INPUT: usize = 67_108_864;
@@ -22,12 +26,19 @@ pub const MAX_INPUT: usize = 67_108_864;
 pub fn read_yaml(alloc: Global, text: &str) -> Result<Value, YamlFault>
     ensures too_long { (result ≡ Err YamlFault.TooLong) ↔ (MAX_INPUT < length text.now) }
     ensures nests { IfOk result (λ value. depth (view value) ≤ MAX_DEPTH) }
+    ensures spelled { IfOk result (λ value. IsYamlOf text.now (view value)) }
     ensures placed { IfErr result (AtLocation (IsLocationIn text.now)) }
 {
     if text.len() > MAX_INPUT {
         return Err(YamlFault::TooLong);
     }
-    let text = without_mark(text);
+    let Some(text) = without_mark(text) else {
+        return Err(YamlFault::Refused {
+            line: 1,
+            column: 1,
+            reason: Reason::Character,
+        });
+    };
     match read_lines(alloc, text) {
         Ok(value) => Ok(value),
         Err(stop) => Err(fault_in(text, stop)),
@@ -35,21 +46,30 @@ pub fn read_yaml(alloc: Global, text: &str) -> Result<Value, YamlFault>
 }
 
 /// Returns the text behind a byte order mark, if it begins with one.
-pub(crate) fn without_mark(text: &str) -> &str
-    ensures { (mark : ℕ) × (mark ≤ 3) × (mark ≤ length text.now) × (result.now ≡ drop mark text.now) }
+pub(crate) fn without_mark(text: &str) -> Option<&str>
+    ensures { IfSome result (λ rest. (mark_of text.now ≤ 3) × (mark_of text.now ≤ length text.now)
+        × (rest.now ≡ drop (mark_of text.now) text.now)) }
 {
-    if !text.starts_with('\u{feff}') {
-        return text;
-    }
-    match text.get(3..) {
-        Some(rest) => rest,
-        None => text,
+    let mark = mark_in(text.as_bytes());
+    text.get(mark..)
+}
+
+/// How many bytes the byte order mark takes.
+fn mark_in(bytes: &[u8]) -> usize
+    ensures is { result ≡ mark_of bytes.now }
+    ensures few { result ≤ 3 }
+{
+    if byte_at(bytes, 0) == 239 && byte_at(bytes, 1) == 187 && byte_at(bytes, 2) == 191 {
+        3
+    } else {
+        0
     }
 }
 
 /// Reads a text whose lines end as they do on Unix or on Windows.
 fn read_lines(alloc: Global, text: &str) -> Result<Value, Stop>
-    ensures { IfOk result (λ value. depth (view value) ≤ MAX_DEPTH) }
+    ensures nests { IfOk result (λ value. depth (view value) ≤ MAX_DEPTH) }
+    ensures spelled { IfOk result (λ value. IsSpelledIn (without_carriage_returns text.now) (view value)) }
 {
     check_characters(text)?;
     if text.as_bytes().contains(&b'\r') {
@@ -82,12 +102,17 @@ fn check_characters(text: &str) -> Result<(), Stop> {
 }
 
 /// The text without its carriage returns.
-pub(crate) fn without_returns(alloc: Global, text: &str) -> Result<String, AllocError> {
-    let mut unix = String::new(alloc);
-    for part in text.split('\r') {
-        unix.push_str(part)?;
+pub(crate) fn without_returns(alloc: Global, text: &str) -> Result<String, Stop>
+    ensures { IfOk result (λ unix. string_bytes unix ≡ without_carriage_returns text.now) }
+{
+    let bytes = text.as_bytes();
+    let mut unix = Vec::new(alloc);
+    for byte in bytes {
+        if *byte != b'\r' {
+            unix.push(*byte)?;
+        }
     }
-    Ok(unix)
+    string_of(unix, 0)
 }
 
 /// The fault, at its offset in the text that still has its carriage returns.
@@ -117,13 +142,15 @@ pub(crate) fn offset_with_returns(text: &str, unix: usize) -> usize {
 
 /// Reads a text with one document.
 fn read_document(alloc: Global, text: &str) -> Result<Value, Stop>
-    ensures { IfOk result (λ value. depth (view value) ≤ MAX_DEPTH) }
+    ensures nests { IfOk result (λ value. depth (view value) ≤ MAX_DEPTH) }
+    ensures spelled { IfOk result (λ value. IsSpelledIn text.now (view value)) }
 {
     let mut parser = Parser::new(alloc, text, &[]);
-    let value = match parser.whole_document() {
-        Ok(value) => value,
+    match parser.whole_document() {
+        Ok(value) => drop(value),
         Err(stop) => return Err(named(stop, parser.open)),
-    };
+    }
+    let value = spelled(alloc, text.as_bytes(), parser.rows.as_slice())?;
     if !is_within(&value, MAX_DEPTH) {
         return Err(Stop::At {
             at: 0,
@@ -151,25 +178,27 @@ impl Parser<'_> {
             if self.cursor.byte() != b'-' {
                 return Err(self.cursor.stop(Reason::Document));
             }
-            self.skip_marker();
+            self.skip_marker()?;
             return self.node(Lead::Start, 0, MAX_DEPTH);
         }
         if self.cursor.byte() == END {
-            return Ok(Value::Null);
+            return self.no_value();
         }
         self.block(0, MAX_DEPTH)
     }
 
-    fn skip_marker(&mut self) {
+    fn skip_marker(&mut self) -> Result<(), Stop> {
+        let at = self.cursor.at();
         for _ in 0..3 {
             self.cursor.step();
         }
+        self.rows.add(Kind::Marker, at, self.cursor.at())
     }
 
     /// Refuses what is behind the document.
     fn end_document(&mut self) -> Result<(), Stop> {
         if self.cursor.is_marker() && self.cursor.byte() == b'.' {
-            self.skip_marker();
+            self.skip_marker()?;
             self.cursor.end_line()?;
         } else if self.cursor.is_marker() {
             return Err(self.cursor.stop(Reason::Document));

@@ -5,10 +5,10 @@ ghost use Rattle.am_judge.specs.Expectation.{has_in_scope};
 ghost use Rattle.am_judge.specs.ExpectationReport.{all_got, came_front, came_line, getter_text, got_alerts_text, got_by, got_if_shown};
 ghost use Rattle.am_judge.specs.ExpectationReport.{got_in, got_text, is_shown, nearest_text, none_text, resolved_word, unfitting_text};
 
-use crate::expectation::{count_fitting, fits, has_in_scope, is_in_scope};
-use crate::expectation_report::Question;
+use crate::expectation::{fits, has_in_scope, is_in_scope};
 use crate::expectation_report::differences::push_differences;
 use crate::expectation_report::nearest::nearest_of;
+use crate::judged::Question;
 use am_alerts::alert::Alert;
 use am_model::config::Config;
 use am_model::notice::Notice;
@@ -20,28 +20,21 @@ use am_timeline::groups::push_integration;
 use am_timeline::playback::Playback;
 use am_timeline::sent::{Sent, sent_of};
 use am_timeline::shown::push_text;
-use std::alloc::{AllocError, Global};
+use std::alloc::AllocError;
 
 /// Adds the notices that came: those that fit, or else those in scope, or else the nearest.
 pub(crate) fn push_got<C: TimeFormat>(
-    alloc: Global,
-    playbacks: &[Playback<'_>],
+    question: &Question<'_>,
     clock: &C,
-    expectation: &Expectation,
     out: &mut String,
 ) -> Result<(), AllocError>
     ensures { OnOk result (string_bytes out.new ≡ string_bytes out.old
-        ++ got_text playbacks.now (C.times clock.now) expectation.now) }
+        ++ got_text question.now.playbacks.now (C.times clock.now) question.now.expectation.now) }
 {
-    let question = Question {
-        alloc,
-        playbacks,
-        expectation,
-    };
-    if count_fitting(alloc, playbacks, expectation)? == 0 {
-        return push_unfitting(&question, clock, out);
+    if question.fitting == 0 {
+        return push_unfitting(question, clock, out);
     }
-    push_all_got(&question, true, clock, out)
+    push_all_got(question, true, clock, out)
 }
 
 /// Adds those in scope, or else the nearest.

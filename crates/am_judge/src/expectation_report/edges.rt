@@ -4,34 +4,26 @@ ghost use Rattle.am_judge.specs.ExpectationReport.{all_edges, edge_line, edge_te
 ghost use Rattle.am_judge.specs.ExpectationReport.{flushes_text};
 
 use crate::edge::{Flushes, Side, depends_on_edge, edge_of};
-use crate::expectation_report::Question;
 use crate::expectation_report::came::push_getter;
+use crate::judged::Question;
 use am_model::config::Config;
 use am_terms::clock::TimeFormat;
 use am_terms::event::Event;
-use am_terms::expectation::Expectation;
 use am_timeline::playback::Playback;
 use am_timeline::sent::{Sent, sent_of};
-use std::alloc::{AllocError, Global};
+use std::alloc::AllocError;
 
 /// Adds the repeats on the edge on which the answer to an expectation depends; nothing where it doesn't.
 pub(crate) fn push_edges<C: TimeFormat>(
-    alloc: Global,
-    playbacks: &[Playback<'_>],
+    question: &Question<'_>,
     clock: &C,
-    expectation: &Expectation,
     out: &mut String,
 ) -> Result<(), AllocError>
     ensures { OnOk result (string_bytes out.new ≡ string_bytes out.old
-        ++ edges_text playbacks.now (C.times clock.now) expectation.now) }
+        ++ edges_text question.now.playbacks.now (C.times clock.now) question.now.expectation.now) }
 {
-    if depends_on_edge(alloc, playbacks, expectation)? {
-        let question = Question {
-            alloc,
-            playbacks,
-            expectation,
-        };
-        return push_all_edges(&question, clock, out);
+    if depends_on_edge(question)? {
+        return push_all_edges(question, clock, out);
     }
     Ok(())
 }

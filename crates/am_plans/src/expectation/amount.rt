@@ -2,11 +2,11 @@
 ghost use Rattle.std.specs.Prelude.{◌≡◌, ◌&&◌, ◌||◌, IfErr, IfOk, None, OnOk, Some, false, true, is_some};
 ghost use Rattle.serde_json.specs.Find.{get_member};
 ghost use Rattle.serde_json.specs.View.{members_view};
-ghost use Rattle.am_cli.specs.Read.{Excludes, number_in};
+ghost use Rattle.am_json.specs.Read.{Excludes, number_in};
 ghost use Rattle.am_plans.specs.Expected.{IsAmountIn, amount_of, member_if, says_content};
 
-use am_cli::fault::{FaultKind, InputFault};
-use am_cli::reader::Object;
+use am_json::fault::{FaultKind, InputFault};
+use am_json::reader::Object;
 use am_terms::expectation::Amount;
 
 /// The amount that `none`, `never`, `count` or `at_most` says, of which one is said at most; at least one notice

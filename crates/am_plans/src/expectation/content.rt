@@ -6,7 +6,7 @@ ghost use Rattle.am_alerts.specs.Matcher.{compare_texts};
 ghost use Rattle.am_alerts.specs.declared.matcher.MatcherParts.{MatcherParts};
 ghost use Rattle.serde_json.specs.Find.{get_member};
 ghost use Rattle.serde_json.specs.View.{members_view, view};
-ghost use Rattle.am_cli.specs.Read.{Excludes};
+ghost use Rattle.am_json.specs.Read.{Excludes};
 ghost use Rattle.am_plans.specs.Expected.{AreFiringIn, AreMatchersIn, AreMatchersOf, AreResolvedIn, AreSetsIn, HasContentIn, HasNoRegex};
 ghost use Rattle.am_plans.specs.Expected.{member_if, reason_in};
 ghost use Rattle.am_plans.specs.Expected.{SaysExactly, said_or_of};
@@ -16,8 +16,8 @@ use am_alerts::labels::Labels;
 use am_alerts::limits::MAX_MATCHERS;
 use am_alerts::matcher::Matcher;
 use am_alerts::sequence::Sequence;
-use am_cli::fault::{FaultKind, InputFault};
-use am_cli::reader::{Object, Reader};
+use am_json::fault::{FaultKind, InputFault};
+use am_json::reader::{Object, Reader};
 use am_terms::expectation::{Content, SentReason, reason_named};
 
 /// What a notice has to say. `has` or `has_resolved`, as `when` says, is `of` where it isn't said; `exactly` says

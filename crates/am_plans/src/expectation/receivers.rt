@@ -6,8 +6,8 @@ ghost use Rattle.am_plans.specs.Expected.{some_has_target};
 ghost use Rattle.am_plans.specs.Configs.{configs_in};
 
 use crate::configs::Configs;
-use am_cli::fault::{FaultKind, InputFault};
-use am_cli::pointer::JsonPointer;
+use am_json::fault::{FaultKind, InputFault};
+use am_json::pointer::JsonPointer;
 use am_model::config::{Config, Integration, Receiver};
 use am_terms::dispatcher_change::DispatcherChange;
 use am_terms::expectation::Expectation;
@@ -52,13 +52,28 @@ fn later_has_target(later: &[DispatcherChange], expectation: &Expectation) -> bo
     later.iter().any(|dispatcher_change| has_target(&dispatcher_change.config, expectation))
 }
 
-/// Whether a receiver of the configuration has what an expectation names.
+/// Whether a receiver of the configuration has what an expectation names. A receiver that it names is looked up.
 fn has_target(config: &Config, expectation: &Expectation) -> bool
     ensures { result ≡ has_target config.now expectation.now }
 {
-    config
-        .receivers
-        .as_slice()
+    let receivers = &config.receivers;
+    match &expectation.receiver {
+        None => some_is_target(receivers.as_slice(), expectation),
+        Some(name) => match receivers.named(name.as_str()) {
+            None => false,
+            Some(first) => {
+                let has_more = receivers.has_twice();
+                has_integration(expectation, first)
+                    || (has_more && some_is_target(receivers.as_slice(), expectation))
+            }
+        },
+    }
+}
+
+fn some_is_target(receivers: &[Receiver], expectation: &Expectation) -> bool
+    ensures { result ≡ list_any (is_target expectation.now) receivers.now }
+{
+    receivers
         .iter()
         .any(|receiver| is_target(expectation, receiver))
 }

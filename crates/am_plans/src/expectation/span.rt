@@ -4,8 +4,8 @@ ghost use Rattle.std.specs.Prelude.{MatchOption, None, OnOk, Some, codes, nat_le
 ghost use Rattle.std.specs.Result.{result_ok};
 ghost use Rattle.serde_json.specs.Find.{get_member};
 ghost use Rattle.serde_json.specs.View.{members_view, view};
-ghost use Rattle.am_cli.specs.Decoding.{HasNone};
-ghost use Rattle.am_cli.specs.Read.{Excludes, duration_in, is_refusal};
+ghost use Rattle.am_json.specs.Decoding.{HasNone};
+ghost use Rattle.am_json.specs.Read.{Excludes, duration_in, is_refusal};
 ghost use Rattle.am_plans.specs.Expected.{IsAt, IsEndOf, IsFromTo, IsOwnSpan, IsSpanFrom, IsSpanIn};
 ghost use Rattle.am_plans.specs.Expected.{IsSpanWithin, HasNoRegexAt, does_as_said};
 ghost use Rattle.am_plans.specs.Expected.{first_insert, inserts, member_or, resolves_in};
@@ -14,9 +14,9 @@ use crate::alert::refuse;
 use crate::expectation::content::read_matchers;
 use am_alerts::alert::Alert;
 use am_alerts::matcher::{Matcher, all_match};
-use am_cli::duration::duration;
-use am_cli::fault::{FaultKind, InputFault};
-use am_cli::reader::{Object, Reader};
+use am_json::duration::duration;
+use am_json::fault::{FaultKind, InputFault};
+use am_json::reader::{Object, Reader};
 use am_terms::rehearsal::{Action, TimedAction};
 use std::alloc::{AllocError, Global};
 

@@ -2,13 +2,13 @@
 ghost use Rattle.std.specs.Prelude.{◌≡◌, ℕ, IfErr, IfOk, List, Option, codes};
 ghost use Rattle.serde_json.specs.Find.{get_member};
 ghost use Rattle.serde_json.specs.View.{members_view, view};
-ghost use Rattle.am_cli.specs.Read.{Excludes};
+ghost use Rattle.am_json.specs.Read.{Excludes};
 ghost use Rattle.am_plans.specs.Expected.{IsSplit, IsTargetIn, IsTargetOf, position_named};
 
 use crate::target::LAST_POSITION;
 use am_alerts::text::Text;
-use am_cli::fault::InputFault;
-use am_cli::reader::{Object, Reader};
+use am_json::fault::InputFault;
+use am_json::reader::{Object, Reader};
 
 /// The kind and the position of the integration, where they are said.
 pub(crate) fn read_target(item: &Object<'_, '_>) -> Result<(Option<Text>, Option<u32>), InputFault>

@@ -2,17 +2,17 @@
 ghost use Rattle.std.specs.Prelude.{None, IfErr, IfOk, IfSome, IsTrue, Option, codes};
 ghost use Rattle.serde_json.specs.View.{members_view, view};
 ghost use Rattle.am_alerts.specs.Matcher.{compare_texts};
-ghost use Rattle.am_cli.specs.Decoding.{HasIf, HasOr};
-ghost use Rattle.am_cli.specs.Read.{Excludes};
+ghost use Rattle.am_json.specs.Decoding.{HasIf, HasOr};
+ghost use Rattle.am_json.specs.Read.{Excludes};
 ghost use Rattle.am_mute.specs.Silence.{SilenceData};
 ghost use Rattle.am_scenario.specs.Decoding.{IsEnd, DecodesToAlert, DecodesToSilence};
 
 use am_alerts::alert::Alert;
 use am_alerts::matcher::Matcher;
-use am_cli::config::most_matchers;
-use am_cli::fault::{FaultKind, InputFault};
-use am_cli::labels::read_labels;
-use am_cli::reader::{FromJson, Object, Reader};
+use am_json::config::most_matchers;
+use am_json::fault::{FaultKind, InputFault};
+use am_json::labels::read_labels;
+use am_json::reader::{FromJson, Object, Reader};
 use am_mute::silence::Silence;
 
 /// A call of the board.

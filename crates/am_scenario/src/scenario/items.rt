@@ -8,11 +8,11 @@ ghost use Rattle.std.specs.List.{list_all};
 ghost use Rattle.std.specs.Result.{result_ok};
 ghost use Rattle.serde_json.specs.Find.{as_array, get};
 ghost use Rattle.serde_json.specs.View.{items_view, view};
-ghost use Rattle.am_cli.specs.Decoding.{DecodeEach, IsList};
-ghost use Rattle.am_cli.specs.Read.{Excludes, IsRefusedBy, is_refusal};
+ghost use Rattle.am_json.specs.Decoding.{DecodeEach, IsList};
+ghost use Rattle.am_json.specs.Read.{Excludes, IsRefusedBy, is_refusal};
 
-use am_cli::fault::{FaultKind, InputFault};
-use am_cli::pointer::JsonPointer;
+use am_json::fault::{FaultKind, InputFault};
+use am_json::pointer::JsonPointer;
 use serde_json::Value;
 use std::alloc::{AllocError, Global};
 

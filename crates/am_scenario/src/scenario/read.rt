@@ -6,9 +6,9 @@
 //! of a call are ignored.
 ghost use Rattle.std.specs.Prelude.{◌≡◌, ◌≤◌, ℕ, List, [], IfErr, IfOk, IsTrue, MatchOption, codes, length, vec_len};
 ghost use Rattle.std.specs.List.{list_all};
-ghost use Rattle.am_cli.specs.Decoding.{IsList, IsNumber, HasOr};
-ghost use Rattle.am_cli.specs.Read.{Excludes};
-ghost use Rattle.am_cli.specs.declared.reader.Mode.TheVariants.{Lenient};
+ghost use Rattle.am_json.specs.Decoding.{IsList, IsNumber, HasOr};
+ghost use Rattle.am_json.specs.Read.{Excludes};
+ghost use Rattle.am_json.specs.declared.reader.Mode.TheVariants.{Lenient};
 ghost use Rattle.am_pool.specs.declared.limits.TheConstants.{MAX_WORKERS};
 ghost use Rattle.am_scenario.specs.Decoding.{DecodesToLane, DecodesToPhase, DecodesToScenario};
 ghost use Rattle.am_scenario.specs.Decoding.{lane_compares_texts, phase_compares_texts, scenario_compares_texts};
@@ -19,10 +19,10 @@ ghost use Rattle.serde_json.specs.View.{members_view, view};
 use super::items::{FromOwned, into_array, into_member, read_items, read_list, under};
 use super::{Lane, LaneCall, MAX_LANES, Phase, Scenario, Script};
 use am_alerts::limits::MAX_TIME;
-use am_cli::config::read_config;
-use am_cli::fault::{FaultKind, InputFault};
-use am_cli::pointer::JsonPointer;
-use am_cli::reader::{FromJson, Object, Reader};
+use am_json::config::read_config;
+use am_json::fault::{FaultKind, InputFault};
+use am_json::pointer::JsonPointer;
+use am_json::reader::{FromJson, Object, Reader};
 use am_pool::MAX_WORKERS;
 use serde_json::Value;
 use std::alloc::Global;
@@ -89,7 +89,7 @@ fn read_phases(alloc: Global, scenario: Value) -> Result<Vec<Phase>, InputFault>
 }
 
 impl FromOwned for Phase {
-    ghost use Rattle.am_cli.specs.declared.reader.Mode.TheVariants.{Lenient};
+    ghost use Rattle.am_json.specs.declared.reader.Mode.TheVariants.{Lenient};
     ghost use Rattle.am_scenario.specs.Decoding.{DecodesToPhase, phase_compares_texts};
 
     ghost decodes_to = { λ value phase. DecodesToPhase Lenient value phase };
@@ -138,7 +138,7 @@ fn read_few_lanes(alloc: Global, lanes: Value) -> Result<Vec<Lane>, InputFault>
 }
 
 impl FromOwned for Lane {
-    ghost use Rattle.am_cli.specs.declared.reader.Mode.TheVariants.{Lenient};
+    ghost use Rattle.am_json.specs.declared.reader.Mode.TheVariants.{Lenient};
     ghost use Rattle.am_scenario.specs.Decoding.{DecodesToLane, lane_compares_texts};
 
     ghost decodes_to = { λ value lane. DecodesToLane Lenient value lane };
@@ -152,7 +152,7 @@ impl FromOwned for Lane {
 }
 
 impl FromOwned for LaneCall {
-    ghost use Rattle.am_cli.specs.declared.reader.Mode.TheVariants.{Lenient};
+    ghost use Rattle.am_json.specs.declared.reader.Mode.TheVariants.{Lenient};
     ghost use Rattle.am_scenario.specs.Decoding.{DecodesToCall, call_compares_texts};
 
     ghost decodes_to = { λ value call. DecodesToCall Lenient value call };

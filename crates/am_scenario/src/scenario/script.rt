@@ -3,8 +3,8 @@ ghost use Rattle.std.specs.Prelude.{◌≡◌};
 ghost use Rattle.am_scenario.specs.Scripts.{answer_to, at_once, sent_at};
 
 use am_alerts::limits::MAX_DURATION;
-use am_cli::fault::InputFault;
-use am_cli::reader::{FromJson, Reader};
+use am_json::fault::InputFault;
+use am_json::reader::{FromJson, Reader};
 use am_pool::Sent;
 use am_retry::Answer;
 

@@ -3,7 +3,7 @@ use Rattle.std.specs.Option.{option_copied}
 use Rattle.serde_json.specs.Data.{Members}
 use Rattle.serde_json.specs.Find.{as_object}
 use Rattle.serde_json.specs.View.{members_view, view}
-use Rattle.am_cli.specs.Read.{ObjectData}
+use Rattle.am_json.specs.Read.{ObjectData}
 use Rattle.am_config.proofs.Collecting.{some_read}
 use Rattle.am_config.specs.Routes.{HasRoutes, HasTimedRoutes}
 use Rattle.am_config.specs.Times.{TimesData}

@@ -1,7 +1,7 @@
 use Rattle.std.proofs.Common.{◌≡◌, ◌++◌, ◌∷◌, ◌∙◌, List, [], true, ap, sym, append_assoc, string_bytes}
 use Rattle.std.proofs.lemmas.List.{append-nil}
 use Rattle.serde_json.proofs.Views.{Entry}
-use Rattle.am_cli.specs.Read.{is_one_of}
+use Rattle.am_json.specs.Read.{is_one_of}
 use Rattle.am_config.proofs.Collecting.{all_named, filled, named_more}
 use Rattle.am_config.proofs.collected.only.Goals as goal
 

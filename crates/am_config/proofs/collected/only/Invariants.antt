@@ -2,7 +2,7 @@ use Rattle.std.proofs.Common.{◌≡◌, ◌++◌, List, string_bytes}
 use Rattle.std.specs.List.{list_all}
 use Rattle.std.specs.Prelude.{IsTrue}
 use Rattle.serde_json.proofs.Views.{Entry}
-use Rattle.am_cli.specs.Read.{is_one_of}
+use Rattle.am_json.specs.Read.{is_one_of}
 use Rattle.am_config.specs.Collects.{Collects}
 use Rattle.am_config.proofs.collected.only.Given as goal
 

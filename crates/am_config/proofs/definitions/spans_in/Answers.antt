@@ -2,7 +2,7 @@ use Rattle.std.proofs.Common.{◌≡◌, List, Some, map, subst}
 use Rattle.serde_json.specs.Find.{as_array}
 use Rattle.serde_json.specs.View.{items_view, view}
 use Rattle.am_alerts.specs.declared.spans.Span.{Span}
-use Rattle.am_cli.specs.Decoding.{IsObject}
+use Rattle.am_json.specs.Decoding.{IsObject}
 use Rattle.am_config.proofs.Timed.{array_decoded, ok_is, placed_each, some_is}
 use Rattle.am_config.specs.Times.{AreHeld, HasTimed, TimedData, timed_in}
 use Rattle.am_config.specs.declared.clocks.Placed.{Placed}

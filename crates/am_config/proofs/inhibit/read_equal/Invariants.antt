@@ -1,6 +1,6 @@
 use Rattle.std.proofs.Common.{take}
 use Rattle.serde_json.specs.View.{items_view}
-use Rattle.am_cli.specs.Decoding.{DecodeEach}
+use Rattle.am_json.specs.Decoding.{DecodeEach}
 use Rattle.am_config.specs.Collects.{Collects}
 use Rattle.am_config.specs.Rules.{IsLabelName}
 use Rattle.am_config.proofs.inhibit.read_equal.Given as goal

@@ -2,7 +2,7 @@ use Rattle.std.proofs.Common.{◌≡◌, ◌∙◌, Option, Some, Ok, MatchOptio
 use Rattle.serde_json.specs.Data.{Members}
 use Rattle.serde_json.specs.Find.{as_object}
 use Rattle.serde_json.specs.View.{members_view, view}
-use Rattle.am_cli.specs.Read.{ObjectData}
+use Rattle.am_json.specs.Read.{ObjectData}
 use Rattle.am_hours.specs.Reading.{times_of}
 use Rattle.am_config.proofs.Collecting.{some_read}
 use Rattle.am_config.specs.Said.{IsScalar, Says}

@@ -1,7 +1,7 @@
 use Rattle.std.proofs.Common.{◌≡◌, List, MatchOption, Option, Some, ℕ, subst}
 use Rattle.std.proofs.lemmas.Result.{IfOk-weaker}
 use Rattle.am_alerts.specs.declared.matcher.MatcherParts.{MatcherParts}
-use Rattle.am_cli.specs.MatcherText.{IsMatcherText}
+use Rattle.am_json.specs.MatcherText.{IsMatcherText}
 use Rattle.am_config.proofs.matchers.matcher_of_text.Goals as goal
 
 -- what is read of a text

@@ -1,7 +1,7 @@
 use Rattle.std.proofs.Common.{rules, ◌≡◌, ◌++◌, ◌∷◌, ◌∙◌, [], ap, map, string_bytes, sym, arith}
 use Rattle.std.proofs.lemmas.Str.Pattern.{split_parts}
 use Rattle.std.specs.Prelude.{None, Some}
-use Rattle.am_cli.specs.MatcherText.{Lacks}
+use Rattle.am_json.specs.MatcherText.{Lacks}
 use Rattle.am_config.specs.Matchers.{at_comma, pieces, trimmed, with_front}
 use Rattle.am_config.proofs.Pieces.{pieces_last, pieces_step, trimmed_last}
 use Rattle.am_config.proofs.matchers.split.Goals as goal

@@ -1,7 +1,7 @@
 use Rattle.std.proofs.Common.{◌<◌, length, subst, arith}
 use Rattle.serde_json.specs.View.{view}
 use Rattle.serde_json.specs.declared.value.Value.{Value}
-use Rattle.am_cli.specs.Decoding.{IsObject}
+use Rattle.am_json.specs.Decoding.{IsObject}
 use Rattle.am_config.proofs.Collecting.{each_more, some_read}
 use Rattle.am_config.specs.Receivers.{HasIntegration, kind_in}
 use Rattle.am_config.proofs.receiver.read_list.Goals as goal

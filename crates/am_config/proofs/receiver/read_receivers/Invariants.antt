@@ -1,6 +1,6 @@
 use Rattle.std.proofs.Common.{take}
 use Rattle.serde_json.specs.View.{items_view}
-use Rattle.am_cli.specs.Decoding.{DecodeEach, IsObject}
+use Rattle.am_json.specs.Decoding.{DecodeEach, IsObject}
 use Rattle.am_config.specs.Collects.{Collects}
 use Rattle.am_config.specs.Receivers.{HasReceiver}
 use Rattle.am_config.proofs.receiver.read_receivers.Given as goal

@@ -3,7 +3,7 @@ use Rattle.std.specs.Result.{result_ok}
 use Rattle.serde_json.specs.Find.{as_array}
 use Rattle.serde_json.specs.View.{members_view, view}
 use Rattle.serde_json.specs.declared.value.Value.{Value}
-use Rattle.am_cli.specs.Decoding.{IsObject}
+use Rattle.am_json.specs.Decoding.{IsObject}
 use Rattle.am_config.proofs.Collecting.{some_read}
 use Rattle.am_config.proofs.Matched.{array_kept}
 use Rattle.am_config.proofs.Routed.{routes_more, said_routes}

@@ -6,7 +6,7 @@ pub returns : goal.returns
 returns c = λ none.
     let like = c.in_ok-refuse_members-2.ensures none in
     let equal = c.in_ok-refuse_members.ensures like.0 in
-    let texts = c.in_ok-refuse_items.ensures equal.0 in (
+    let texts = c.in_ok-refuse_items.ensures.matchers equal.0 in (
       texts.0,
       record {
         equal = [];

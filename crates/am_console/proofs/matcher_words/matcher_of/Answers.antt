@@ -3,10 +3,10 @@ use Rattle.std.specs.Prelude.{IsTrue}
 use Rattle.std.proofs.lemmas.Result.{IfErr-weaker}
 use Rattle.am_alerts.specs.Matcher.{compares_texts}
 use Rattle.am_alerts.specs.declared.matcher.MatcherParts.{MatcherParts}
-use Rattle.am_cli.proofs.MatcherTexts.{one_text}
-use Rattle.am_cli.specs.Configured.{IsSound}
-use Rattle.am_cli.specs.MatcherText.{IsMatcherText}
-use Rattle.am_cli.specs.Translated.{IsTranslated}
+use Rattle.am_json.proofs.MatcherTexts.{one_text}
+use Rattle.am_json.specs.Configured.{IsSound}
+use Rattle.am_json.specs.MatcherText.{IsMatcherText}
+use Rattle.am_json.specs.Translated.{IsTranslated}
 use Rattle.am_console.specs.MatcherWords.{IsNoMatcher}
 use Rattle.am_console.proofs.matcher_words.matcher_of.Goals as goal
 

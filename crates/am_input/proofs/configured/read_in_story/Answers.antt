@@ -1,8 +1,8 @@
 use Rattle.std.proofs.Common.{codes}
 use Rattle.serde_json.specs.Find.{get_member}
 use Rattle.serde_json.specs.View.{members_view, view}
-use Rattle.am_cli.proofs.Decoding.{missing, decoded_in}
-use Rattle.am_cli.specs.Configured.{DecodesToConfig}
+use Rattle.am_json.proofs.Decoding.{missing, decoded_in}
+use Rattle.am_json.specs.Configured.{DecodesToConfig}
 use Rattle.am_input.proofs.Refusals.{one_on}
 use Rattle.am_input.specs.Configured.{DecodesPlainly}
 use Rattle.am_input.proofs.configured.read_in_story.Goals as goal

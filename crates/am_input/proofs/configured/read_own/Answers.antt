@@ -1,5 +1,5 @@
 use Rattle.serde_json.specs.View.{view}
-use Rattle.am_cli.proofs.Decoding.{handed_on}
+use Rattle.am_json.proofs.Decoding.{handed_on}
 use Rattle.am_input.specs.Configured.{DecodesWithoutRegexes}
 use Rattle.am_input.proofs.configured.read_own.Goals as goal
 

@@ -3,7 +3,7 @@ use Rattle.std.specs.Prelude.{IfErr, IsSomeAnd, IsTrue}
 use Rattle.serde_json.specs.Find.{as_object}
 use Rattle.serde_json.specs.View.{view}
 use Rattle.serde_json.specs.declared.value.Value.{Value}
-use Rattle.am_cli.specs.declared.reader.Mode.{Mode}
+use Rattle.am_json.specs.declared.reader.Mode.{Mode}
 use Rattle.am_input.specs.Configured.{DecodesPlainly}
 use Rattle.am_input.specs.DispatcherChanges.{is_ours}
 use Rattle.am_input.specs.Request.{RefusesAll}

@@ -4,13 +4,15 @@ use Rattle.serde_json.specs.Data.{Data, Members}
 use Rattle.serde_json.specs.Find.{as_object, get_member}
 use Rattle.serde_json.specs.View.{members_view, view}
 use Rattle.serde_json.specs.declared.value.Value.{Value}
-use Rattle.am_cli.proofs.Decoding.{unknown}
-use Rattle.am_cli.specs.Configured.{DecodesToConfig}
-use Rattle.am_cli.specs.Decoding.{Has, HasNone}
-use Rattle.am_cli.specs.declared.reader.Mode.{Mode}
-use Rattle.am_cli.specs.declared.reader.Mode.TheVariants.{Strict}
+use Rattle.am_json.proofs.Decoding.{unknown}
+use Rattle.am_json.specs.Configured.{DecodesToConfig}
+use Rattle.am_json.specs.Decoding.{Has, HasNone}
+use Rattle.am_json.specs.declared.reader.Mode.{Mode}
+use Rattle.am_json.specs.declared.reader.Mode.TheVariants.{Strict}
 use Rattle.am_input.proofs.Refusals.{one_on, passed_on}
 use Rattle.am_input.proofs.DecodedDispatcherChanges.{one_list, one_own}
+use Rattle.am_config.specs.declared.hours.Hours.{Hours}
+use Rattle.am_input.specs.Clocks.{AreClocksOf}
 use Rattle.am_input.specs.Configured.{IsConfigFor, IsReadOfTheirs, DecodesPlainly, file_in}
 use Rattle.am_input.specs.DispatcherChanges.{AreDispatcherChangesWithoutRegexes}
 use Rattle.am_input.specs.Request.{IsWithoutRegexes, Requests, end_for}
@@ -41,19 +43,20 @@ returns-clause-decoded g c =
 -- the configuration that is given is in `config`
 without_patterns : (d : Mode) (changes : Changes) (members : Members) (input : Input) → Requesting d changes input members → DecodesPlainly d members input.rehearsal.config
 without_patterns d changes members input decoded =
-    let decoded_of : IsConfigFor None d members input.rehearsal.config =
-    subst (λ (file : Option Data). IsConfigFor file d members input.rehearsal.config) decoded.1.own decoded.0.configures in (
-      found_none (Has (DecodesToConfig d) (codes "config") members input.rehearsal.config) (λ value. HasNone (codes "config") members × IsReadOfTheirs value input.rehearsal.config)
+    let Clocks = AreClocksOf input.rehearsal.until members in
+    let decoded_of : IsConfigFor Clocks None d members input.rehearsal.config =
+    subst (λ (file : Option Data). IsConfigFor Clocks file d members input.rehearsal.config) decoded.1.own decoded.0.configures in (
+      found_none (Has (DecodesToConfig d) (codes "config") members input.rehearsal.config) (λ value. HasNone (codes "config") members × IsReadOfTheirs Clocks value input.rehearsal.config)
           (get_member (codes "alertmanager") members) (sym decoded.1.ours) decoded_of,
       decoded.1.config,
     )
 
 -- and is the one that was read
-same_config : (d : Mode) (changes : Changes) (members : Members) (input : Input) (config : Config) → Requesting d changes input members
-    → IsConfigFor (file_in changes) d members config → input.rehearsal.config ≡ config
-same_config d changes members input config decoded read =
-    let read_of : IsConfigFor None d members config = subst (λ (file : Option Data). IsConfigFor file d members config) decoded.1.own read in
-    let has = found_none (Has (DecodesToConfig d) (codes "config") members config) (λ value. HasNone (codes "config") members × IsReadOfTheirs value config)
+same_config : (Clocks : Option Hours → Type 0) (d : Mode) (changes : Changes) (members : Members) (input : Input) (config : Config) → Requesting d changes input members
+    → IsConfigFor Clocks (file_in changes) d members config → input.rehearsal.config ≡ config
+same_config Clocks d changes members input config decoded read =
+    let read_of : IsConfigFor Clocks None d members config = subst (λ (file : Option Data). IsConfigFor Clocks file d members config) decoded.1.own read in
+    let has = found_none (Has (DecodesToConfig d) (codes "config") members config) (λ value. HasNone (codes "config") members × IsReadOfTheirs Clocks value config)
     (get_member (codes "alertmanager") members) (sym decoded.1.ours) read_of in
     let own = without_patterns d changes members input decoded in
     one_own d members input.rehearsal.config config own.1 own.0 has
@@ -140,7 +143,8 @@ returns-in_err-read_planned-clause-refused g c =
     c.in_err-read_planned.ensures.refused (c.in_ok-configured.ensures.timed requests.1.own requests.1.ours)
     (c.in_ok-handed.ensures.timed requests.1.own requests.1.ours x.dispatcher_changes.items handed) refusal x (
       requests.0,
-      same_config top.mode c.args.changes members x c.in_ok-configured.configured.config requests c.in_ok-configured.ensures.decoded,
+      same_config (AreClocksOf c.in_ok-until.until members) top.mode c.args.changes members x c.in_ok-configured.configured.config requests
+          (c.in_ok-configured.ensures.decoded c.in_ok-until.until c.in_ok-until.ensures.until),
       one_list top.mode (file_in c.args.changes) c.in_ok-until.until members x.dispatcher_changes.items c.in_ok-handed.handed.dispatcher_changes.items requests.1.own requests.1.ours handed
           c.in_ok-handed.ensures.decoded,
       requests.1,

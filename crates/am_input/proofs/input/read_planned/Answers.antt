@@ -3,9 +3,10 @@ use Rattle.std.specs.Prelude.{IsTrue}
 use Rattle.serde_json.specs.Data.{Members}
 use Rattle.serde_json.specs.Find.{get_member}
 use Rattle.serde_json.specs.View.{members_view}
-use Rattle.am_cli.proofs.Decoding.{handed_on}
-use Rattle.am_cli.specs.declared.reader.Mode.{Mode}
+use Rattle.am_json.proofs.Decoding.{handed_on}
+use Rattle.am_json.specs.declared.reader.Mode.{Mode}
 use Rattle.am_input.proofs.OnePlan.{one_plan}
+use Rattle.am_input.specs.Clocks.{AreClocksOf}
 use Rattle.am_input.specs.Configured.{IsConfigFor, file_in}
 use Rattle.am_input.specs.DispatcherChanges.{AreDispatcherChangesIn}
 use Rattle.am_plans.specs.Configs.{configs_of}
@@ -32,8 +33,10 @@ returns-clause-decoded c =
     let members = members_view c.args.top.now.members in
     record {
       known = c.requires.known;
-      configures = subst (λ (config : Config). IsConfigFor (file_in c.args.changes) c.args.top.now.mode members config)
-          (sym c.in_ok-rehearsal.ensures.config) c.requires.configures;
+      configures = subst (λ (u : ℕ). IsConfigFor (AreClocksOf u members) (file_in c.args.changes) c.args.top.now.mode members c.in_ok-rehearsal.rehearsal.config)
+          (sym c.in_ok-rehearsal.ensures.until)
+          (subst (λ (config : Config). IsConfigFor (AreClocksOf c.args.until members) (file_in c.args.changes) c.args.top.now.mode members config)
+          (sym c.in_ok-rehearsal.ensures.config) c.requires.configures);
       hands_over = subst (λ (u : ℕ). AreDispatcherChangesIn c.args.top.now.mode (file_in c.args.changes) u members c.args.handed.dispatcher_changes.items)
           (sym c.in_ok-rehearsal.ensures.until) c.requires.hands_over;
       zones = c.in_ok-read_zones.ensures.decoded;

@@ -2,8 +2,8 @@ use Rattle.std.proofs.Common.{◌≡◌, ℕ, List, Option, Some, codes, subst, 
 use Rattle.serde_json.specs.Data.{Members}
 use Rattle.serde_json.specs.Find.{get_member}
 use Rattle.serde_json.specs.View.{members_view}
-use Rattle.am_cli.proofs.Decoding.{handed_on}
-use Rattle.am_cli.specs.declared.reader.Mode.{Mode}
+use Rattle.am_json.proofs.Decoding.{handed_on}
+use Rattle.am_json.specs.declared.reader.Mode.{Mode}
 use Rattle.am_input.specs.Request.{DecodesToStart, output_for}
 use Rattle.am_input.specs.declared.input.Requested.{Requested}
 use Rattle.am_input.specs.declared.input.Output.{Output}

@@ -1,7 +1,7 @@
 use Rattle.std.proofs.Common.{codes, refl}
 use Rattle.serde_json.specs.Find.{get_member}
 use Rattle.serde_json.specs.View.{members_view, view}
-use Rattle.am_cli.proofs.Decoding.{handed_on}
+use Rattle.am_json.proofs.Decoding.{handed_on}
 use Rattle.am_input.proofs.Starts.{no_text_starts, none_starts}
 use Rattle.am_input.specs.Request.{DecodesToStart}
 use Rattle.am_input.proofs.time.start.Goals as goal

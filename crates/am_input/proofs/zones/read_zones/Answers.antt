@@ -3,7 +3,7 @@ use Rattle.std.specs.Prelude.{⊤, ◌≤◌}
 use Rattle.serde_json.proofs.Views.{members_len-members_view}
 use Rattle.serde_json.specs.Find.{get_member}
 use Rattle.serde_json.specs.View.{members_view, view}
-use Rattle.am_cli.proofs.Decoding.{handed_on}
+use Rattle.am_json.proofs.Decoding.{handed_on}
 use Rattle.am_input.proofs.Listed.{as_listed, listed_in}
 use Rattle.am_input.specs.Zones.{AreZonesIn}
 use Rattle.am_input.specs.declared.zones.TheConstants.{MAX_ZONES}

@@ -5,9 +5,9 @@ use Rattle.am_judge.proofs.junit.junit_text.Goals as goal
 
 pub returns : goal.returns
 returns g c =
-    let playbacks = c.args.playbacks.now in
+    let playbacks = c.args.judged.now.playbacks.now in
     let times = g.C.TimeFormat.times c.args.clock.now in
-    let xs = c.args.expectations.now in
+    let xs = c.args.judged.now.expectations.now in
     let unmet = c.in_ok-unmet.unmet in
     let head : List ℕ = suite_head (length xs) (length (unmet_from playbacks 0 xs)) in
     let cases : List ℕ = cases_text playbacks times 0 xs in

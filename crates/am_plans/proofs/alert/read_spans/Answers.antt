@@ -3,10 +3,10 @@ use Rattle.std.specs.Prelude.{IsTrue}
 use Rattle.serde_json.specs.Data.{Data, Members}
 use Rattle.serde_json.specs.Find.{get_member}
 use Rattle.serde_json.specs.View.{members_view, view}
-use Rattle.am_cli.proofs.Decoding.{all_sure, found, handed_on, starved}
-use Rattle.am_cli.proofs.Once.{one_list}
-use Rattle.am_cli.specs.Decoding.{HasNone, IsList}
-use Rattle.am_cli.specs.declared.reader.Mode.{Mode}
+use Rattle.am_json.proofs.Decoding.{all_sure, found, handed_on, starved}
+use Rattle.am_json.proofs.Once.{one_list}
+use Rattle.am_json.specs.Decoding.{HasNone, IsList}
+use Rattle.am_json.specs.declared.reader.Mode.{Mode}
 use Rattle.am_plans.proofs.Spans.{one_span}
 use Rattle.am_plans.proofs.Decodings.{at_some, found_none}
 use Rattle.am_plans.specs.Decoding.{AreSpansIn, DecodesToSpan, IsSpan, follow}

@@ -3,8 +3,8 @@ use Rattle.std.proofs.lemmas.List.{map-append}
 use Rattle.std.specs.Prelude.{IsTrue}
 use Rattle.serde_json.specs.Data.{Data}
 use Rattle.serde_json.specs.View.{view}
-use Rattle.am_cli.proofs.Decoding.{handed_on, starved}
-use Rattle.am_cli.specs.declared.reader.Mode.{Mode}
+use Rattle.am_json.proofs.Decoding.{handed_on, starved}
+use Rattle.am_json.specs.declared.reader.Mode.{Mode}
 use Rattle.am_plans.proofs.Decodings.{true_false}
 use Rattle.am_plans.proofs.DispatcherChanges.{may_follow_of, may_one, one_item, plainly_follows}
 use Rattle.am_plans.specs.DispatcherChange.{DecodesTo, ItemData, item_of, may_follow}

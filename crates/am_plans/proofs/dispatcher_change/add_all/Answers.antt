@@ -3,9 +3,9 @@ use Rattle.std.specs.Prelude.{IsTrue}
 use Rattle.serde_json.specs.Data.{Members}
 use Rattle.serde_json.specs.Find.{get_member}
 use Rattle.serde_json.specs.View.{members_view, view}
-use Rattle.am_cli.proofs.Decoding.{found, narrowed}
-use Rattle.am_cli.specs.Decoding.{HasOr}
-use Rattle.am_cli.specs.declared.reader.Mode.{Mode}
+use Rattle.am_json.proofs.Decoding.{found, narrowed}
+use Rattle.am_json.specs.Decoding.{HasOr}
+use Rattle.am_json.specs.declared.reader.Mode.{Mode}
 use Rattle.am_plans.proofs.Decodings.{at_none, at_some}
 use Rattle.am_plans.proofs.DispatcherChanges.{adds_none, ok_more}
 use Rattle.am_plans.specs.DispatcherChange.{AddsItems, DecodesTo, IsListOrOne, ItemData, item_of, may_all_follow, name_of}

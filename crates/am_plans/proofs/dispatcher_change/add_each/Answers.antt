@@ -5,9 +5,9 @@ use Rattle.std.specs.Prelude.{IsTrue}
 use Rattle.serde_json.specs.Data.{Items}
 use Rattle.serde_json.specs.View.{items_view, view}
 use Rattle.serde_json.specs.declared.value.Value.{Value}
-use Rattle.am_cli.proofs.Decoding.{handed_on}
-use Rattle.am_cli.specs.Decoding.{DecodeEach}
-use Rattle.am_cli.specs.declared.reader.Mode.{Mode}
+use Rattle.am_json.proofs.Decoding.{handed_on}
+use Rattle.am_json.specs.Decoding.{DecodeEach}
+use Rattle.am_json.specs.declared.reader.Mode.{Mode}
 use Rattle.am_plans.proofs.DispatcherChanges.{adds_none, adds_then, may_parts, one_item, decoded_first}
 use Rattle.am_plans.proofs.Lists.{decode_next}
 use Rattle.am_plans.specs.DispatcherChange.{DecodesTo, ItemData, item_of, may_all_follow, may_follow}

@@ -1,6 +1,6 @@
 use Rattle.std.proofs.Common.{List, map, take}
 use Rattle.serde_json.specs.View.{items_view}
-use Rattle.am_cli.specs.Decoding.{DecodeEach}
+use Rattle.am_json.specs.Decoding.{DecodeEach}
 use Rattle.am_plans.specs.DispatcherChange.{AddsItems, DecodesTo, ItemData, item_of}
 use Rattle.am_plans.proofs.dispatcher_change.add_each.Given as goal
 

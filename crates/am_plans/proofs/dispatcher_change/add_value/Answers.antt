@@ -3,8 +3,8 @@ use Rattle.std.proofs.lemmas.Bool.{and_parts}
 use Rattle.std.specs.Prelude.{IsTrue}
 use Rattle.serde_json.specs.Data.{Data}
 use Rattle.serde_json.specs.View.{items_view, view}
-use Rattle.am_cli.specs.Decoding.{DecodeEach}
-use Rattle.am_cli.specs.declared.reader.Mode.{Mode}
+use Rattle.am_json.specs.Decoding.{DecodeEach}
+use Rattle.am_json.specs.declared.reader.Mode.{Mode}
 use Rattle.am_plans.proofs.DispatcherChanges.{as_list, as_one, excludes_more, in_list, in_one, ok_more}
 use Rattle.am_plans.specs.DispatcherChange.{AddsItems, DecodesTo, IsListOrOne, ItemData, item_of, may_all_follow, may_follow}
 use Rattle.am_plans.specs.declared.dispatcher_change.DispatcherChangeItem.{DispatcherChangeItem}

@@ -1,8 +1,8 @@
 use Rattle.std.proofs.Common.{rules, ◌≡◌, ◌++◌, ◌∙◌, ℕ, List, [], true, ap, codes, map, subst, sym}
 use Rattle.serde_json.specs.Find.{get_member}
 use Rattle.serde_json.specs.View.{members_view}
-use Rattle.am_cli.proofs.Decoding.{handed_on}
-use Rattle.am_cli.proofs.Once.{one_or}
+use Rattle.am_json.proofs.Decoding.{handed_on}
+use Rattle.am_json.proofs.Once.{one_or}
 use Rattle.am_model.specs.Lists.{in_order}
 use Rattle.am_plans.proofs.DispatcherChanges.{adds_then, may_parts, one_list_or_one, one_reload, sorted_items}
 use Rattle.am_plans.specs.DispatcherChange.{AddsItems, AreItemsIn, DecodesToReload, IsListOrOne, ItemData, at_cmp, item_of, may_all_follow}

@@ -3,9 +3,9 @@ use Rattle.std.specs.Prelude.{IsSomeAnd, IsTrue}
 use Rattle.serde_json.specs.Data.{Data, Members}
 use Rattle.serde_json.specs.Find.{as_object}
 use Rattle.serde_json.specs.View.{members_view, view}
-use Rattle.am_cli.proofs.Decoding.{found, handed_on, unknown}
-use Rattle.am_cli.specs.Read.{has_only}
-use Rattle.am_cli.specs.declared.reader.Mode.{Mode}
+use Rattle.am_json.proofs.Decoding.{found, handed_on, unknown}
+use Rattle.am_json.specs.Read.{has_only}
+use Rattle.am_json.specs.declared.reader.Mode.{Mode}
 use Rattle.am_plans.proofs.Decodings.{none_and, some_and}
 use Rattle.am_plans.specs.Expected.{IsExpectedIn, IsExpectedOf, HasNoRegex, HasNoRegexIn, field_names}
 use Rattle.am_terms.specs.declared.expectation.Expectation.{Expectation}

@@ -5,9 +5,9 @@ use Rattle.serde_json.specs.Data.{Data, Items}
 use Rattle.serde_json.specs.Find.{as_array}
 use Rattle.serde_json.specs.View.{items_view, view}
 use Rattle.serde_json.specs.declared.value.Value.{Value}
-use Rattle.am_cli.proofs.Decoding.{handed_on, missing, starved}
-use Rattle.am_cli.specs.Decoding.{DecodeEach}
-use Rattle.am_cli.specs.declared.reader.Mode.{Mode}
+use Rattle.am_json.proofs.Decoding.{handed_on, missing, starved}
+use Rattle.am_json.specs.Decoding.{DecodeEach}
+use Rattle.am_json.specs.declared.reader.Mode.{Mode}
 use Rattle.am_model.specs.declared.config.Config.{Config}
 use Rattle.am_plans.specs.Configs.{configs_in}
 use Rattle.am_plans.specs.Expected.{AreExpectedIn, HaveNoRegexIn, IsKnownIn, HasNoRegexIn}

@@ -1,6 +1,6 @@
 use Rattle.std.proofs.Common.{◌≡◌, length, take}
 use Rattle.serde_json.specs.View.{items_view}
-use Rattle.am_cli.specs.Decoding.{DecodeEach}
+use Rattle.am_json.specs.Decoding.{DecodeEach}
 use Rattle.am_plans.specs.Configs.{configs_in}
 use Rattle.am_plans.specs.Expected.{IsKnownIn}
 use Rattle.am_plans.proofs.expectation.read_list.Given as goal

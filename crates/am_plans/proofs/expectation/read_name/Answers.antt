@@ -1,7 +1,7 @@
 use Rattle.std.proofs.Common.{◌≡◌, ℕ, List, Option, Some}
 use Rattle.serde_json.specs.Find.{as_str, get_member}
 use Rattle.serde_json.specs.View.{members_view, view}
-use Rattle.am_cli.proofs.Decoding.{handed_on, starved}
+use Rattle.am_json.proofs.Decoding.{handed_on, starved}
 use Rattle.am_plans.proofs.Decodings.{if_there, none_read}
 use Rattle.am_plans.specs.Expected.{member_if}
 use Rattle.am_plans.proofs.expectation.read_name.Goals as goal

@@ -2,8 +2,8 @@ use Rattle.std.proofs.Common.{◌≡◌, true, codes}
 use Rattle.std.specs.Prelude.{IsTrue}
 use Rattle.serde_json.specs.Find.{get_member}
 use Rattle.serde_json.specs.View.{members_view, view}
-use Rattle.am_cli.proofs.Decoding.{found, narrowed, sure}
-use Rattle.am_cli.specs.Decoding.{HasOr, IsAnswer}
+use Rattle.am_json.proofs.Decoding.{found, narrowed, sure}
+use Rattle.am_json.specs.Decoding.{HasOr, IsAnswer}
 use Rattle.am_retry.specs.declared.outcome.Answer.{Answer}
 use Rattle.am_retry.specs.declared.outcome.Answer.TheVariants.{Again}
 use Rattle.am_plans.proofs.outage.read_answer.Goals as goal

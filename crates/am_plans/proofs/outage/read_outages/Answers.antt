@@ -3,10 +3,10 @@ use Rattle.std.specs.Prelude.{IsTrue}
 use Rattle.serde_json.specs.Data.{Members}
 use Rattle.serde_json.specs.Find.{get_member}
 use Rattle.serde_json.specs.View.{members_view}
-use Rattle.am_cli.proofs.Decoding.{all_sure, handed_on, starved}
-use Rattle.am_cli.proofs.Once.{one_list, one_or}
-use Rattle.am_cli.specs.Decoding.{IsList, HasOr}
-use Rattle.am_cli.specs.declared.reader.Mode.{Mode}
+use Rattle.am_json.proofs.Decoding.{all_sure, handed_on, starved}
+use Rattle.am_json.proofs.Once.{one_list, one_or}
+use Rattle.am_json.specs.Decoding.{IsList, HasOr}
+use Rattle.am_json.specs.declared.reader.Mode.{Mode}
 use Rattle.am_model.specs.declared.config.Config.{Config}
 use Rattle.am_plans.specs.Configs.{configs_in}
 use Rattle.am_plans.proofs.Decodings.{list_made, true_false}

@@ -3,7 +3,7 @@ use Rattle.std.proofs.lemmas.Bool.{and_from}
 use Rattle.std.specs.List.{list_all}
 use Rattle.serde_json.specs.Find.{get_member}
 use Rattle.serde_json.specs.View.{members_view}
-use Rattle.am_cli.proofs.Decoding.{all_sure, handed_on}
+use Rattle.am_json.proofs.Decoding.{all_sure, handed_on}
 use Rattle.am_plans.proofs.Makes.{alert_inserted, all_decoded_or, silence_set}
 use Rattle.am_plans.specs.Decoding.{DecodesToAlert, DecodesToSilence}
 use Rattle.am_plans.specs.Planned.{ArePlannedWithoutRegexes, may_insert_all, may_set}

@@ -5,8 +5,8 @@ use Rattle.serde_json.specs.Data.{Data, Members}
 use Rattle.serde_json.specs.Find.{get_member}
 use Rattle.serde_json.specs.View.{members_view}
 use Rattle.serde_json.specs.declared.value.Value.{Value}
-use Rattle.am_cli.proofs.Decoding.{handed_on, missing}
-use Rattle.am_cli.specs.Decoding.{Has, HasIf, HasOr, IsDuration}
+use Rattle.am_json.proofs.Decoding.{handed_on, missing}
+use Rattle.am_json.specs.Decoding.{Has, HasIf, HasOr, IsDuration}
 use Rattle.am_plans.specs.Decoding.{DecodesToSpan}
 use Rattle.am_plans.proofs.silence.read_span.Goals as goal
 

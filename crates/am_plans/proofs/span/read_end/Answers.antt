@@ -5,9 +5,9 @@ use Rattle.serde_json.specs.Data.{Data, Members}
 use Rattle.serde_json.specs.Find.{get_member}
 use Rattle.serde_json.specs.View.{members_view, view}
 use Rattle.serde_json.specs.declared.value.Value.{Value}
-use Rattle.am_cli.proofs.Decoding.{found, handed_on}
-use Rattle.am_cli.specs.Decoding.{HasIf, IsDuration}
-use Rattle.am_cli.specs.Read.{duration_in}
+use Rattle.am_json.proofs.Decoding.{found, handed_on}
+use Rattle.am_json.specs.Decoding.{HasIf, IsDuration}
+use Rattle.am_json.specs.Read.{duration_in}
 use Rattle.am_plans.proofs.Decodings.{ends_early, none_if}
 use Rattle.am_plans.proofs.span.read_end.Goals as goal
 

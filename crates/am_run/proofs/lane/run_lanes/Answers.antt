@@ -3,19 +3,18 @@ use Rattle.am_run.specs.LaneStates.{Ran}
 use Rattle.am_run.specs.declared.lane.LaneState.{LaneState}
 use Rattle.am_run.proofs.lemmas.lanes.LaneStates.{by_index}
 use denote.Param.Send.{IsSync}
-use Rattle.am_desk.proofs.Crossing.{crossing}
-use Rattle.am_desk.proofs.pass.Pass.TheSendSync as pass
-use Rattle.am_run.proofs.lemmas.lanes.Crossing.{call_send}
+use Rattle.am_desk.proofs.Crossing.{every, desk_sync}
+use Rattle.am_run.proofs.lemmas.lanes.Crossing.{state_send}
 use Rattle.am_run.proofs.lane.run_lanes.Goals as goal
 
 pub for_each_mut-requires-send-T : goal.for_each_mut-requires-send-T
 for_each_mut-requires-send-T g c κs within =
-    search (crossing, pass.the_send, call_send) depth 60 fits 10000
+    search (every, state_send) depth 40 fits 10000
 
 pub for_each_mut-requires-sync-F : goal.for_each_mut-requires-sync-F
 for_each_mut-requires-sync-F g c κs within =
     let sync_r : IsSync g.row.R = record { shared = c.type_bounds.sync-R.shared } in
-    search (crossing, pass.the_send, call_send) depth 60 fits 10000
+    search (every, desk_sync) depth 40 fits 10000
 
 pub returns : goal.returns
 returns g c =

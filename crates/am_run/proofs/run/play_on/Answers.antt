@@ -3,11 +3,11 @@ use Rattle.std.specs.String.{string_bytes}
 use Rattle.std.proofs.lemmas.List.{length-map}
 use Rattle.std.proofs.lemmas.Result.{IfErr-weaker, IfOk-weaker}
 use Rattle.std.specs.Prelude.{IsTrue}
-use Rattle.am_cli.specs.Read.{IsRefusedBy, is_refusal}
-use Rattle.am_cli.specs.declared.fault.InputFault.{InputFault}
+use Rattle.am_json.specs.Read.{IsRefusedBy, is_refusal}
+use Rattle.am_json.specs.declared.fault.InputFault.{InputFault}
 use Rattle.am_model.specs.Config.{config_fault}
 use Rattle.am_run.specs.IsCauseOfFull.{IsStuck}
-use Rattle.am_cli.specs.declared.fault.FaultKind.TheVariants.{Full}
+use Rattle.am_json.specs.declared.fault.FaultKind.TheVariants.{Full}
 use Rattle.am_desk.proofs.Crossing.{every}
 use Rattle.am_desk.specs.Plans.{Plan}
 use Rattle.am_desk.specs.Terms.{terms}

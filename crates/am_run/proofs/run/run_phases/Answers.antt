@@ -5,8 +5,8 @@ use Rattle.std.proofs.lemmas.List.FromFn.{length-enumerate_from}
 use Rattle.std.proofs.lemmas.Iterator.Adapters.{YieldsList-from_vec}
 use Rattle.std.proofs.lemmas.Iterator.Consumers.{YieldsList-end, YieldsList-from_enumerate, YieldsList-turn}
 use Rattle.std.specs.Prelude.{IsTrue}
-use Rattle.am_cli.specs.Read.{is_refusal}
-use Rattle.am_cli.specs.declared.fault.InputFault.{InputFault}
+use Rattle.am_json.specs.Read.{is_refusal}
+use Rattle.am_json.specs.declared.fault.InputFault.{InputFault}
 use Rattle.am_run.specs.Runs.{HasRun, lanes_of}
 use Rattle.am_run.specs.Stops.{PassesStop}
 use Rattle.am_scenario.specs.declared.scenario.Phase.{Phase}

@@ -3,7 +3,7 @@ use Rattle.std.proofs.lemmas.List.{take_all}
 use Rattle.serde_json.specs.Find.{as_array}
 use Rattle.serde_json.specs.View.{items_view, view}
 use Rattle.serde_json.specs.declared.value.Value.{Value}
-use Rattle.am_cli.specs.Decoding.{DecodeEach, IsObject}
+use Rattle.am_json.specs.Decoding.{DecodeEach, IsObject}
 use Rattle.am_config.proofs.Listed.{adds_definition}
 use Rattle.am_config.proofs.Timed.{array_decoded, some_is}
 use Rattle.am_config.specs.Times.{HasDefinition}

@@ -3,9 +3,9 @@ use Rattle.std.specs.Prelude.{IsTrue}
 use Rattle.serde_json.specs.Data.{Data}
 use Rattle.serde_json.specs.Find.{as_object, get_member}
 use Rattle.serde_json.specs.View.{members_view, view}
-use Rattle.am_cli.proofs.Decoding.{as_decoded, as_decoded_in, handed_on, in_object, missing, decoded_in, unknown}
-use Rattle.am_cli.specs.Configured.{DecodesToLabels}
-use Rattle.am_cli.specs.declared.reader.Mode.{Mode}
+use Rattle.am_json.proofs.Decoding.{as_decoded, as_decoded_in, handed_on, in_object, missing, decoded_in, unknown}
+use Rattle.am_json.specs.Configured.{DecodesToLabels}
+use Rattle.am_json.specs.declared.reader.Mode.{Mode}
 use Rattle.am_plans.specs.Decoding.{DecodesToAlert, HasAlert}
 use Rattle.am_plans.specs.declared.alert.AlertItem.{AlertItem}
 use Rattle.am_plans.proofs.alert.AlertItemFromJson.read.Goals as goal

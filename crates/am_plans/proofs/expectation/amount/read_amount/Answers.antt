@@ -1,7 +1,7 @@
 use Rattle.std.proofs.Common.{◌≡◌, ◌∙◌, ◌&&◌, ◌||◌, Bool, Some, codes, false, ap, subst, sym}
 use Rattle.serde_json.specs.Find.{as_bool, get_member}
 use Rattle.serde_json.specs.View.{members_view}
-use Rattle.am_cli.proofs.Decoding.{decoded_or, handed_on, refused_or}
+use Rattle.am_json.proofs.Decoding.{decoded_or, handed_on, refused_or}
 use Rattle.am_plans.proofs.Decodings.{none_read, one_flag, same_some, true_false}
 use Rattle.am_plans.specs.Expected.{IsAmountIn, amount_of, says_content}
 use Rattle.am_plans.proofs.expectation.amount.read_amount.Goals as goal

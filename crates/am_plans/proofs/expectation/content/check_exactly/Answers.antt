@@ -2,8 +2,8 @@ use Rattle.std.proofs.Common.{◌≡◌, ◌≢◌, Some, None, codes}
 use Rattle.serde_json.specs.Data.{Data, Members}
 use Rattle.serde_json.specs.Find.{get_member}
 use Rattle.serde_json.specs.View.{members_view, view}
-use Rattle.am_cli.proofs.Decoding.{found}
-use Rattle.am_cli.specs.Decoding.{HasNone}
+use Rattle.am_json.proofs.Decoding.{found}
+use Rattle.am_json.specs.Decoding.{HasNone}
 use Rattle.am_plans.proofs.Decodings.{failed, fails_less}
 use Rattle.am_plans.specs.Expected.{SaysExactly}
 use Rattle.am_plans.proofs.expectation.content.check_exactly.Goals as goal

@@ -1,8 +1,8 @@
 use Rattle.std.proofs.Common.{Bool, not, codes, subst, sym}
 use Rattle.serde_json.specs.Data.{Members}
 use Rattle.serde_json.specs.View.{members_view}
-use Rattle.am_cli.proofs.Decoding.{handed_on}
-use Rattle.am_cli.specs.declared.reader.Mode.{Mode}
+use Rattle.am_json.proofs.Decoding.{handed_on}
+use Rattle.am_json.specs.declared.reader.Mode.{Mode}
 use Rattle.am_plans.proofs.Decodings.{none_read, same_some}
 use Rattle.am_plans.proofs.NoRegex.{no_regex_said}
 use Rattle.am_plans.specs.Expected.{AreMatchersIn, HasContentIn, HasNoRegex, said_or_of}

@@ -4,7 +4,7 @@ use Rattle.serde_json.specs.Data.{Data}
 use Rattle.serde_json.specs.Find.{get_member}
 use Rattle.serde_json.specs.View.{members_view}
 use Rattle.am_alerts.specs.declared.labels.Label.{Label}
-use Rattle.am_cli.proofs.Decoding.{narrowed}
+use Rattle.am_json.proofs.Decoding.{narrowed}
 use Rattle.am_plans.specs.Expected.{AreFiringIn, AreSetsIn}
 use Rattle.am_plans.proofs.expectation.content.read_firing.Goals as goal
 

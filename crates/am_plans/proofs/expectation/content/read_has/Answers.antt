@@ -5,8 +5,8 @@ use Rattle.serde_json.specs.Data.{Members}
 use Rattle.serde_json.specs.View.{members_view, view}
 use Rattle.am_alerts.specs.Matcher.{compare_texts}
 use Rattle.am_alerts.specs.declared.matcher.MatcherParts.{MatcherParts}
-use Rattle.am_cli.proofs.Decoding.{handed_on}
-use Rattle.am_cli.specs.declared.reader.Mode.{Mode}
+use Rattle.am_json.proofs.Decoding.{handed_on}
+use Rattle.am_json.specs.declared.reader.Mode.{Mode}
 use Rattle.am_plans.proofs.NoRegex.{said_of, said_other, said_own}
 use Rattle.am_plans.specs.Expected.{AreMatchersIn, AreMatchersOf, said_or_of}
 use Rattle.am_plans.proofs.expectation.content.read_has.Goals as goal

@@ -5,10 +5,10 @@ use Rattle.serde_json.specs.Find.{as_array}
 use Rattle.serde_json.specs.View.{view}
 use Rattle.am_alerts.specs.Matcher.{compare_texts}
 use Rattle.am_alerts.specs.declared.matcher.MatcherParts.{MatcherParts}
-use Rattle.am_cli.proofs.Decoding.{handed_on}
-use Rattle.am_cli.proofs.Members.{decoded_count}
-use Rattle.am_cli.specs.Configured.{DecodesToMatcher}
-use Rattle.am_cli.specs.declared.reader.Mode.{Mode}
+use Rattle.am_json.proofs.Decoding.{handed_on}
+use Rattle.am_json.proofs.Members.{decoded_count}
+use Rattle.am_json.specs.Configured.{DecodesToMatcher}
+use Rattle.am_json.specs.declared.reader.Mode.{Mode}
 use Rattle.am_plans.specs.Expected.{AreMatchersOf}
 use Rattle.am_plans.proofs.expectation.content.read_matchers.Goals as goal
 

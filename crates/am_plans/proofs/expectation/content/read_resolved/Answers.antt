@@ -2,7 +2,7 @@ use Rattle.std.proofs.Common.{◌≡◌, List, [], Option, Some, codes}
 use Rattle.serde_json.specs.Find.{get_member}
 use Rattle.serde_json.specs.View.{members_view}
 use Rattle.am_alerts.specs.declared.labels.Label.{Label}
-use Rattle.am_cli.proofs.Decoding.{narrowed}
+use Rattle.am_json.proofs.Decoding.{narrowed}
 use Rattle.am_plans.proofs.Decodings.{found_none}
 use Rattle.am_plans.specs.Expected.{AreResolvedIn, AreSetsIn}
 use Rattle.am_plans.proofs.expectation.content.read_resolved.Goals as goal

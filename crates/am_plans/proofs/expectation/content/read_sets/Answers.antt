@@ -3,10 +3,10 @@ use Rattle.serde_json.specs.Data.{Data}
 use Rattle.serde_json.specs.Find.{get_member}
 use Rattle.serde_json.specs.View.{members_view, view}
 use Rattle.am_alerts.specs.declared.labels.Label.{Label}
-use Rattle.am_cli.proofs.Decoding.{all_sure, handed_on}
-use Rattle.am_cli.specs.Configured.{DecodesToLabels}
-use Rattle.am_cli.specs.Decoding.{IsList}
-use Rattle.am_cli.specs.declared.reader.Mode.{Mode}
+use Rattle.am_json.proofs.Decoding.{all_sure, handed_on}
+use Rattle.am_json.specs.Configured.{DecodesToLabels}
+use Rattle.am_json.specs.Decoding.{IsList}
+use Rattle.am_json.specs.declared.reader.Mode.{Mode}
 use Rattle.am_plans.specs.Expected.{AreSetsIn}
 use Rattle.am_plans.proofs.expectation.content.read_sets.Goals as goal
 

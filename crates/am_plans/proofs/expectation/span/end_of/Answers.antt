@@ -1,7 +1,7 @@
 use Rattle.std.proofs.Common.{◌+◌, ℕ, Option, arith, refl, subst, sym}
 use Rattle.std.specs.Prelude.{IsSomeAnd}
 use Rattle.serde_json.specs.View.{view}
-use Rattle.am_cli.specs.Read.{duration_in}
+use Rattle.am_json.specs.Read.{duration_in}
 use Rattle.am_plans.proofs.Decodings.{failed}
 use Rattle.am_plans.proofs.ExpectedSpans.{no_end_of}
 use Rattle.am_plans.specs.Expected.{IsEndOf}

@@ -1,6 +1,6 @@
 use Rattle.std.proofs.Common.{ℕ, sym}
 use Rattle.serde_json.specs.View.{members_view, view}
-use Rattle.am_cli.proofs.Decoding.{handed_on}
+use Rattle.am_json.proofs.Decoding.{handed_on}
 use Rattle.am_plans.proofs.Decodings.{none_read}
 use Rattle.am_plans.specs.Expected.{IsAt}
 use Rattle.am_plans.proofs.expectation.span.read_at.Goals as goal

@@ -1,7 +1,7 @@
 use Rattle.std.proofs.Common.{◌≡◌, ◌≤◌, ℕ, MatchOption, codes, subst, sym}
 use Rattle.serde_json.specs.Find.{get_member}
 use Rattle.serde_json.specs.View.{members_view}
-use Rattle.am_cli.proofs.Decoding.{handed_on}
+use Rattle.am_json.proofs.Decoding.{handed_on}
 use Rattle.am_plans.proofs.Decodings.{none_read, same_some}
 use Rattle.am_plans.specs.Expected.{IsFromTo}
 use Rattle.am_plans.proofs.expectation.span.read_from_to.Goals as goal

@@ -1,6 +1,6 @@
 use Rattle.std.proofs.Common.{ℕ}
 use Rattle.serde_json.specs.View.{members_view}
-use Rattle.am_cli.proofs.Decoding.{handed_on, narrowed}
+use Rattle.am_json.proofs.Decoding.{handed_on, narrowed}
 use Rattle.am_plans.specs.Expected.{IsOwnSpan, IsSpanFrom}
 use Rattle.am_plans.proofs.expectation.span.read_own_span.Goals as goal
 

@@ -1,8 +1,8 @@
 use Rattle.std.proofs.Common.{ℕ, codes}
 use Rattle.serde_json.specs.Find.{get_member}
 use Rattle.serde_json.specs.View.{members_view, view}
-use Rattle.am_cli.proofs.Decoding.{handed_on, narrowed}
-use Rattle.am_cli.specs.Decoding.{HasNone}
+use Rattle.am_json.proofs.Decoding.{handed_on, narrowed}
+use Rattle.am_json.specs.Decoding.{HasNone}
 use Rattle.am_plans.proofs.Decodings.{found_none}
 use Rattle.am_plans.proofs.ExpectedSpans.{DecodesSpan, DecodesWithin, together_with_within}
 use Rattle.am_plans.specs.Expected.{IsOwnSpan, IsSpanWithin}

@@ -1,7 +1,7 @@
 use Rattle.std.proofs.Common.{ℕ, codes}
 use Rattle.serde_json.specs.Find.{get_member}
 use Rattle.serde_json.specs.View.{members_view, view}
-use Rattle.am_cli.proofs.Decoding.{found, narrowed}
+use Rattle.am_json.proofs.Decoding.{found, narrowed}
 use Rattle.am_plans.proofs.Decodings.{found_none}
 use Rattle.am_plans.specs.Expected.{IsAt, IsFromTo, IsSpanFrom}
 use Rattle.am_plans.proofs.expectation.span.read_times.Goals as goal

@@ -2,8 +2,8 @@ use Rattle.std.proofs.Common.{◌≡◌, ◌≤◌, ◌∙◌, ℕ, Some, MatchO
 use Rattle.serde_json.specs.Data.{Members}
 use Rattle.serde_json.specs.Find.{get_member}
 use Rattle.serde_json.specs.View.{members_view, view}
-use Rattle.am_cli.proofs.Decoding.{found, handed_on}
-use Rattle.am_cli.specs.Read.{duration_in}
+use Rattle.am_json.proofs.Decoding.{found, handed_on}
+use Rattle.am_json.specs.Read.{duration_in}
 use Rattle.am_plans.proofs.Decodings.{found_none, none_read, or_found, same_some}
 use Rattle.am_plans.specs.Expected.{member_or}
 use Rattle.am_plans.proofs.expectation.span.read_to.Goals as goal

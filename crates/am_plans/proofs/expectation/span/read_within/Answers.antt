@@ -3,8 +3,8 @@ use Rattle.std.specs.Prelude.{IsSomeAnd}
 use Rattle.serde_json.specs.Find.{get_member}
 use Rattle.serde_json.specs.View.{members_view, view}
 use Rattle.am_alerts.specs.declared.matcher.MatcherParts.{MatcherParts}
-use Rattle.am_cli.proofs.Decoding.{as_decoded_in, handed_on, missing, decoded_in}
-use Rattle.am_cli.specs.Read.{duration_in}
+use Rattle.am_json.proofs.Decoding.{as_decoded_in, handed_on, missing, decoded_in}
+use Rattle.am_json.specs.Read.{duration_in}
 use Rattle.am_plans.proofs.Decodings.{none_read, same_some}
 use Rattle.am_plans.proofs.ExpectedSpans.{DecodesWithin, are_listed, one_of}
 use Rattle.am_plans.specs.Expected.{AreMatchersOf, IsEndOf, first_insert}

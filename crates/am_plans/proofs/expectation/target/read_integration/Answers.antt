@@ -2,8 +2,8 @@ use Rattle.std.proofs.Common.{◌≡◌, ◌<◌, ◌∙◌, ℕ, false, List, O
 use Rattle.serde_json.specs.Data.{Data}
 use Rattle.serde_json.specs.Find.{as_str}
 use Rattle.serde_json.specs.View.{view}
-use Rattle.am_cli.proofs.Decoding.{handed_on, starved}
-use Rattle.am_cli.specs.Read.{number_in}
+use Rattle.am_json.proofs.Decoding.{handed_on, starved}
+use Rattle.am_json.specs.Read.{number_in}
 use Rattle.am_model.specs.declared.config.TheConstants.{MAX_INTEGRATIONS}
 use Rattle.am_plans.proofs.Decodings.{is_there}
 use Rattle.am_plans.specs.declared.target.TheConstants.{LAST_POSITION}

@@ -2,7 +2,7 @@ use Rattle.std.proofs.Common.{ℕ, List, Option, codes, subst, sym}
 use Rattle.serde_json.specs.Data.{Data}
 use Rattle.serde_json.specs.Find.{get_member}
 use Rattle.serde_json.specs.View.{members_view, view}
-use Rattle.am_cli.proofs.Decoding.{narrowed}
+use Rattle.am_json.proofs.Decoding.{narrowed}
 use Rattle.am_plans.specs.Expected.{IsTargetIn, IsTargetOf}
 use Rattle.am_plans.proofs.expectation.target.read_target.Goals as goal
 

@@ -3,9 +3,9 @@ use Rattle.std.specs.Prelude.{IsTrue}
 use Rattle.serde_json.specs.Data.{Data}
 use Rattle.serde_json.specs.Find.{as_object, get_member}
 use Rattle.serde_json.specs.View.{members_view, view}
-use Rattle.am_cli.proofs.Decoding.{as_decoded, decoded_or, handed_on, in_object, missing, refused_or, unknown}
-use Rattle.am_cli.specs.Read.{duration_in, number_in}
-use Rattle.am_cli.specs.declared.reader.Mode.{Mode}
+use Rattle.am_json.proofs.Decoding.{as_decoded, decoded_or, handed_on, in_object, missing, refused_or, unknown}
+use Rattle.am_json.specs.Read.{duration_in, number_in}
+use Rattle.am_json.specs.declared.reader.Mode.{Mode}
 use Rattle.am_plans.proofs.Decodings.{found_if, if_found}
 use Rattle.am_plans.specs.Decoding.{DecodesToOutage, HasOutage}
 use Rattle.am_plans.specs.declared.outage.OutageItem.{OutageItem}

@@ -4,13 +4,13 @@ use Rattle.serde_json.specs.Data.{Data}
 use Rattle.serde_json.specs.Find.{as_array, as_object, get_member}
 use Rattle.serde_json.specs.View.{members_view, view}
 use Rattle.am_alerts.specs.Matcher.{compare_texts}
-use Rattle.am_cli.proofs.Decoding.{as_listed, as_decoded, decoded_or, handed_on, in_object, listed_in, missing, refused_or, unknown}
-use Rattle.am_cli.proofs.Members.{decoded_count}
-use Rattle.am_cli.proofs.Once.{one_or, one_read}
-use Rattle.am_cli.specs.Configured.{DecodesToMatcher}
-use Rattle.am_cli.specs.Decoding.{HasOr, IsDuration, IsList}
-use Rattle.am_cli.specs.Read.{duration_in}
-use Rattle.am_cli.specs.declared.reader.Mode.{Mode}
+use Rattle.am_json.proofs.Decoding.{as_listed, as_decoded, decoded_or, handed_on, in_object, listed_in, missing, refused_or, unknown}
+use Rattle.am_json.proofs.Members.{decoded_count}
+use Rattle.am_json.proofs.Once.{one_or, one_read}
+use Rattle.am_json.specs.Configured.{DecodesToMatcher}
+use Rattle.am_json.specs.Decoding.{HasOr, IsDuration, IsList}
+use Rattle.am_json.specs.Read.{duration_in}
+use Rattle.am_json.specs.declared.reader.Mode.{Mode}
 use Rattle.am_plans.specs.Decoding.{DecodesToSilence, HasSilence}
 use Rattle.am_plans.specs.declared.silence.SilenceItem.{SilenceItem}
 use Rattle.am_plans.proofs.silence.SilenceItemFromJson.read.Goals as goal

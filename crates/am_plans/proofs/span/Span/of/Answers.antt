@@ -2,10 +2,10 @@ use Rattle.std.proofs.Common.{◌≡◌, ◌<◌, ℕ, codes, subst}
 use Rattle.std.specs.Prelude.{IfSome}
 use Rattle.serde_json.specs.Find.{get_member}
 use Rattle.serde_json.specs.View.{members_view}
-use Rattle.am_cli.proofs.Decoding.{decoded_or, handed_on, refused_or}
-use Rattle.am_cli.proofs.Once.{one_or, one_read}
-use Rattle.am_cli.specs.Decoding.{IsDuration}
-use Rattle.am_cli.specs.Read.{duration_in}
+use Rattle.am_json.proofs.Decoding.{decoded_or, handed_on, refused_or}
+use Rattle.am_json.proofs.Once.{one_or, one_read}
+use Rattle.am_json.specs.Decoding.{IsDuration}
+use Rattle.am_json.specs.Read.{duration_in}
 use Rattle.am_plans.specs.Decoding.{DecodesToSpan}
 use Rattle.am_plans.proofs.span.Span.of.Goals as goal
 

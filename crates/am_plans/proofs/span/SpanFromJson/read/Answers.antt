@@ -3,8 +3,8 @@ use Rattle.std.specs.Prelude.{IsTrue}
 use Rattle.serde_json.specs.Data.{Data}
 use Rattle.serde_json.specs.Find.{as_object}
 use Rattle.serde_json.specs.View.{members_view, view}
-use Rattle.am_cli.proofs.Decoding.{as_decoded, handed_on, in_object, missing, unknown}
-use Rattle.am_cli.specs.declared.reader.Mode.{Mode}
+use Rattle.am_json.proofs.Decoding.{as_decoded, handed_on, in_object, missing, unknown}
+use Rattle.am_json.specs.declared.reader.Mode.{Mode}
 use Rattle.am_plans.specs.Decoding.{HasSpan, IsSpan}
 use Rattle.am_plans.specs.declared.span.Span.{Span}
 use Rattle.am_plans.proofs.span.SpanFromJson.read.Goals as goal

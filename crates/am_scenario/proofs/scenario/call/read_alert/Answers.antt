@@ -4,12 +4,12 @@ use Rattle.serde_json.specs.Find.{as_object, get_member}
 use Rattle.serde_json.specs.View.{members_view, view}
 use Rattle.am_alerts.specs.AlertData.{AlertData, alert_fault, alert_of}
 use Rattle.am_alerts.specs.declared.labels.Label.{Label}
-use Rattle.am_cli.proofs.Decoding.{as_decoded, as_decoded_in, decoded_by, in_object}
-use Rattle.am_cli.proofs.Made.{made_is, made_well, unmade}
-use Rattle.am_cli.specs.Configured.{DecodesToLabels}
-use Rattle.am_cli.specs.Decoding.{IsNumber}
-use Rattle.am_cli.specs.Read.{ObjectData}
-use Rattle.am_cli.specs.declared.reader.Mode.{Mode}
+use Rattle.am_json.proofs.Decoding.{as_decoded, as_decoded_in, decoded_by, in_object}
+use Rattle.am_json.proofs.Made.{made_is, made_well, unmade}
+use Rattle.am_json.specs.Configured.{DecodesToLabels}
+use Rattle.am_json.specs.Decoding.{IsNumber}
+use Rattle.am_json.specs.Read.{ObjectData}
+use Rattle.am_json.specs.declared.reader.Mode.{Mode}
 use Rattle.am_scenario.proofs.Calls.{same_fault}
 use Rattle.am_scenario.specs.Decoding.{DecodesToAlert, HasAlert}
 use Rattle.am_scenario.proofs.scenario.call.read_alert.Goals as goal

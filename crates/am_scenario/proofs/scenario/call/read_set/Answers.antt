@@ -5,12 +5,12 @@ use Rattle.serde_json.specs.Find.{as_object, get_member}
 use Rattle.serde_json.specs.View.{members_view, view}
 use Rattle.am_alerts.specs.Matcher.{compare_texts}
 use Rattle.am_alerts.specs.declared.matcher.MatcherParts.{MatcherParts}
-use Rattle.am_cli.proofs.Decoding.{as_listed, as_decoded, decoded_by, handed_on, in_object, listed_in}
-use Rattle.am_cli.proofs.Made.{made_is, made_well, unmade}
-use Rattle.am_cli.specs.Configured.{DecodesToMatcher, most_matchers}
-use Rattle.am_cli.specs.Decoding.{IsNumber}
-use Rattle.am_cli.specs.Read.{ObjectData}
-use Rattle.am_cli.specs.declared.reader.Mode.{Mode}
+use Rattle.am_json.proofs.Decoding.{as_listed, as_decoded, decoded_by, handed_on, in_object, listed_in}
+use Rattle.am_json.proofs.Made.{made_is, made_well, unmade}
+use Rattle.am_json.specs.Configured.{DecodesToMatcher, most_matchers}
+use Rattle.am_json.specs.Decoding.{IsNumber}
+use Rattle.am_json.specs.Read.{ObjectData}
+use Rattle.am_json.specs.declared.reader.Mode.{Mode}
 use Rattle.am_mute.specs.Silence.{SilenceData, silence_of, silence_fault}
 use Rattle.am_scenario.proofs.Calls.{one_silence}
 use Rattle.am_scenario.specs.Decoding.{DecodesToSilence, HasSilence}

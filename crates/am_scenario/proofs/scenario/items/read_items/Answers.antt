@@ -6,9 +6,9 @@ use Rattle.std.specs.List.{list_all}
 use Rattle.std.specs.Prelude.{IsTrue}
 use Rattle.serde_json.specs.View.{items_view}
 use Rattle.serde_json.specs.declared.value.Value.{Value}
-use Rattle.am_cli.specs.Decoding.{DecodeEach}
-use Rattle.am_cli.proofs.Decoding.{handed_on, starved}
-use Rattle.am_cli.proofs.Members.{decode_more, decoded_at}
+use Rattle.am_json.specs.Decoding.{DecodeEach}
+use Rattle.am_json.proofs.Decoding.{handed_on, starved}
+use Rattle.am_json.proofs.Members.{decode_more, decoded_at}
 use Rattle.am_scenario.proofs.scenario.items.read_items.Goals as goal
 
 pub loop-value-preserved : goal.loop-value-preserved

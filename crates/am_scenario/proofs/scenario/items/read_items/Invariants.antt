@@ -1,6 +1,6 @@
 use Rattle.std.proofs.Common.{◌≡◌, length, vec_len}
 use Rattle.serde_json.specs.View.{items_view}
-use Rattle.am_cli.specs.Decoding.{DecodeEach}
+use Rattle.am_json.specs.Decoding.{DecodeEach}
 use Rattle.am_scenario.proofs.scenario.items.read_items.Given as goal
 
 -- as many items as values so far, and what these say

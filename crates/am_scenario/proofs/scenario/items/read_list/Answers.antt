@@ -4,8 +4,8 @@ use Rattle.std.specs.List.{list_all}
 use Rattle.std.specs.Prelude.{IsTrue}
 use Rattle.serde_json.specs.Find.{as_array}
 use Rattle.serde_json.specs.View.{items_view, view}
-use Rattle.am_cli.proofs.Decoding.{handed_on, missing, narrowed}
-use Rattle.am_cli.specs.Decoding.{DecodeEach, IsList}
+use Rattle.am_json.proofs.Decoding.{handed_on, missing, narrowed}
+use Rattle.am_json.specs.Decoding.{DecodeEach, IsList}
 use Rattle.am_scenario.proofs.Lists.{as_list, of_list}
 use Rattle.am_scenario.proofs.scenario.items.read_list.Goals as goal
 

@@ -4,10 +4,10 @@ use Rattle.std.specs.List.{list_all}
 use Rattle.std.specs.Prelude.{IsTrue}
 use Rattle.serde_json.specs.Find.{as_array}
 use Rattle.serde_json.specs.View.{items_view, view}
-use Rattle.am_cli.proofs.Decoding.{handed_on, missing, narrowed}
-use Rattle.am_cli.proofs.Members.{decoded_values}
-use Rattle.am_cli.specs.Decoding.{DecodeEach, IsList}
-use Rattle.am_cli.specs.declared.reader.Mode.TheVariants.{Lenient}
+use Rattle.am_json.proofs.Decoding.{handed_on, missing, narrowed}
+use Rattle.am_json.proofs.Members.{decoded_values}
+use Rattle.am_json.specs.Decoding.{DecodeEach, IsList}
+use Rattle.am_json.specs.declared.reader.Mode.TheVariants.{Lenient}
 use Rattle.am_scenario.proofs.Lists.{as_list, of_list}
 use Rattle.am_scenario.specs.Decoding.{DecodesToLane, lane_compares_texts}
 use Rattle.am_scenario.specs.declared.scenario.Lane.{Lane}

@@ -4,9 +4,9 @@ use Rattle.std.specs.List.{list_all}
 use Rattle.std.specs.Prelude.{IsTrue, MatchOption}
 use Rattle.serde_json.specs.Find.{get}
 use Rattle.serde_json.specs.View.{view}
-use Rattle.am_cli.proofs.Decoding.{found, narrowed}
-use Rattle.am_cli.specs.Decoding.{IsList}
-use Rattle.am_cli.specs.declared.reader.Mode.TheVariants.{Lenient}
+use Rattle.am_json.proofs.Decoding.{found, narrowed}
+use Rattle.am_json.specs.Decoding.{IsList}
+use Rattle.am_json.specs.declared.reader.Mode.TheVariants.{Lenient}
 use Rattle.am_scenario.proofs.Lists.{listed, refused_under, decoded_under}
 use Rattle.am_scenario.specs.Decoding.{DecodesToLane, lane_compares_texts}
 use Rattle.am_scenario.specs.declared.scenario.Lane.{Lane}

@@ -5,11 +5,11 @@ use Rattle.serde_json.specs.Data.{Data, Members}
 use Rattle.serde_json.specs.Find.{as_object, get_member}
 use Rattle.serde_json.specs.View.{members_view, view}
 use Rattle.serde_json.specs.declared.value.Value.{Value}
-use Rattle.am_cli.proofs.Decoding.{all_sure, as_decoded, as_decoded_in, found, handed_on, decoded_in}
-use Rattle.am_cli.proofs.Members.{first, second}
-use Rattle.am_cli.specs.Configured.{DecodesToConfig, config_compares_texts}
-use Rattle.am_cli.specs.declared.reader.Mode.{Mode}
-use Rattle.am_cli.specs.declared.reader.Mode.TheVariants.{Lenient}
+use Rattle.am_json.proofs.Decoding.{all_sure, as_decoded, as_decoded_in, found, handed_on, decoded_in}
+use Rattle.am_json.proofs.Members.{first, second}
+use Rattle.am_json.specs.Configured.{DecodesToConfig, config_compares_texts}
+use Rattle.am_json.specs.declared.reader.Mode.{Mode}
+use Rattle.am_json.specs.declared.reader.Mode.TheVariants.{Lenient}
 use Rattle.am_scenario.proofs.Lists.{among_members, out_of_members}
 use Rattle.am_scenario.specs.Decoding.{DecodesToPhase, DecodesToScenario, HasScenario, phase_compares_texts, scenario_compares_texts}
 use Rattle.am_scenario.specs.declared.scenario.Scenario.{Scenario}

@@ -3,9 +3,9 @@ use Rattle.std.specs.Prelude.{IsTrue}
 use Rattle.serde_json.specs.Data.{Data}
 use Rattle.serde_json.specs.Find.{as_object}
 use Rattle.serde_json.specs.View.{members_view, view}
-use Rattle.am_cli.proofs.Decoding.{handed_on, in_object}
-use Rattle.am_cli.specs.Read.{ObjectData}
-use Rattle.am_cli.specs.declared.reader.Mode.{Mode}
+use Rattle.am_json.proofs.Decoding.{handed_on, in_object}
+use Rattle.am_json.specs.Read.{ObjectData}
+use Rattle.am_json.specs.declared.reader.Mode.{Mode}
 use Rattle.am_scenario.proofs.Calls.{inserted_by, set_by}
 use Rattle.am_scenario.specs.Decoding.{DecodesToCall, HasCall, call_compares_texts}
 use Rattle.am_scenario.specs.declared.scenario.call.LaneCall.{LaneCall}

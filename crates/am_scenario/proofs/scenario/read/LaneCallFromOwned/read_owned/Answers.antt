@@ -4,9 +4,9 @@ use Rattle.std.specs.Prelude.{IsTrue}
 use Rattle.serde_json.specs.Data.{Data}
 use Rattle.serde_json.specs.View.{view}
 use Rattle.serde_json.specs.declared.value.Value.{Value}
-use Rattle.am_cli.proofs.Decoding.{narrowed}
-use Rattle.am_cli.specs.declared.reader.Mode.{Mode}
-use Rattle.am_cli.specs.declared.reader.Mode.TheVariants.{Lenient}
+use Rattle.am_json.proofs.Decoding.{narrowed}
+use Rattle.am_json.specs.declared.reader.Mode.{Mode}
+use Rattle.am_json.specs.declared.reader.Mode.TheVariants.{Lenient}
 use Rattle.am_scenario.specs.Decoding.{DecodesToCall, call_compares_texts}
 use Rattle.am_scenario.specs.declared.scenario.call.LaneCall.{LaneCall}
 use Rattle.am_scenario.proofs.scenario.read.LaneCallFromOwned.read_owned.Goals as goal

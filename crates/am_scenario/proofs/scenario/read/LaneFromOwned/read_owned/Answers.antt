@@ -1,8 +1,8 @@
 use Rattle.std.specs.Prelude.{IsTrue}
 use Rattle.serde_json.specs.Data.{Data}
 use Rattle.serde_json.specs.View.{view}
-use Rattle.am_cli.proofs.Decoding.{handed_on}
-use Rattle.am_cli.specs.declared.reader.Mode.TheVariants.{Lenient}
+use Rattle.am_json.proofs.Decoding.{handed_on}
+use Rattle.am_json.specs.declared.reader.Mode.TheVariants.{Lenient}
 use Rattle.am_scenario.specs.Decoding.{DecodesToLane, lane_compares_texts}
 use Rattle.am_scenario.specs.declared.scenario.Lane.{Lane}
 use Rattle.am_scenario.proofs.scenario.read.LaneFromOwned.read_owned.Goals as goal

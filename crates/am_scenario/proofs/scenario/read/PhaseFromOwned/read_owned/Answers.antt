@@ -4,9 +4,9 @@ use Rattle.serde_json.specs.Data.{Data}
 use Rattle.serde_json.specs.Find.{as_bool, as_object, get_member}
 use Rattle.serde_json.specs.View.{members_view, view}
 use Rattle.serde_json.specs.declared.value.Value.{Value}
-use Rattle.am_cli.proofs.Decoding.{as_decoded, decoded_by, decoded_or, handed_on, in_object}
-use Rattle.am_cli.specs.Decoding.{IsNumber}
-use Rattle.am_cli.specs.declared.reader.Mode.TheVariants.{Lenient}
+use Rattle.am_json.proofs.Decoding.{as_decoded, decoded_by, decoded_or, handed_on, in_object}
+use Rattle.am_json.specs.Decoding.{IsNumber}
+use Rattle.am_json.specs.declared.reader.Mode.TheVariants.{Lenient}
 use Rattle.am_scenario.proofs.Lists.{among_members, out_of_members}
 use Rattle.am_scenario.specs.Decoding.{DecodesToLane, DecodesToPhase, HasPhase, phase_compares_texts}
 use Rattle.am_scenario.specs.declared.scenario.Phase.{Phase}

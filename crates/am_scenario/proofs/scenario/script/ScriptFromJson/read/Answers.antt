@@ -3,8 +3,8 @@ use Rattle.std.specs.Prelude.{IsTrue}
 use Rattle.serde_json.specs.Data.{Data}
 use Rattle.serde_json.specs.Find.{as_object, get_member}
 use Rattle.serde_json.specs.View.{members_view, view}
-use Rattle.am_cli.proofs.Decoding.{all_sure, found, handed_on}
-use Rattle.am_cli.specs.Decoding.{IsList}
+use Rattle.am_json.proofs.Decoding.{all_sure, found, handed_on}
+use Rattle.am_json.specs.Decoding.{IsList}
 use Rattle.am_scenario.specs.Decoding.{DecodesToPlanned, DecodesToScript, HasScript}
 use Rattle.am_scenario.specs.declared.scenario.script.Script.{Script}
 use Rattle.am_scenario.proofs.scenario.script.ScriptFromJson.read.Goals as goal

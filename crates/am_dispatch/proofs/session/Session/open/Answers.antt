@@ -1,5 +1,0 @@
-use Rattle.am_dispatch.proofs.Opening.{lacking}
-use Rattle.am_dispatch.proofs.session.Session.open.Goals as goal
-
-pub returns-in_err-names-clause-refused : goal.returns-in_err-names-clause-refused
-returns-in_err-names-clause-refused c = lacking _ c.args.config c.from_residual-in_err-names.ensures.1

@@ -1,0 +1,11 @@
+pub mod Asked
+pub mod CheckedParts
+pub mod Clocks
+pub mod Forms
+pub mod Members
+pub mod NamedPieces
+pub mod Once
+pub mod OneLine
+pub mod Pieces
+pub mod Refusing
+pub mod Splitting

@@ -1,5 +1,0 @@
-use Rattle.am_rehearsal.proofs.Keeping.{have_inputs}
-use Rattle.am_rehearsal.proofs.law.plays_have_their_inputs.Goals as goal
-
-pub returns : goal.returns
-returns c = have_inputs

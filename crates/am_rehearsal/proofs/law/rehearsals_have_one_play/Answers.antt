@@ -1,5 +1,0 @@
-use Rattle.am_rehearsal.proofs.OnePlay.{one_play}
-use Rattle.am_rehearsal.proofs.law.rehearsals_have_one_play.Goals as goal
-
-pub returns : goal.returns
-returns c = one_play

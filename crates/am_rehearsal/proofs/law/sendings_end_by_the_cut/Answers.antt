@@ -1,5 +1,0 @@
-use Rattle.am_rehearsal.proofs.CutOff.{sendings_end}
-use Rattle.am_rehearsal.proofs.law.sendings_end_by_the_cut.Goals as goal
-
-pub returns : goal.returns
-returns c = sendings_end

@@ -1,5 +1,0 @@
-use Rattle.am_rehearsal.proofs.Calling.{own_is}
-use Rattle.am_rehearsal.proofs.previewing.own.Goals as goal
-
-pub returns-in-Flush : goal.returns-in-Flush
-returns-in-Flush c = own_is c.args.begun c.in-Flush.ticket c.new.result c.in-Flush.is c.new.ensures

@@ -1,5 +1,0 @@
-use Rattle.std.proofs.Common.{length}
-use Rattle.am_rehearse.proofs.render.+add_logbooks.Given as goal
-
-abbrev pub decreases-add_logbooks : goal.decreases-add_logbooks
-decreases-add_logbooks l = length l.played.now

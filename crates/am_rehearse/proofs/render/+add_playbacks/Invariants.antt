@@ -1,5 +1,0 @@
-use Rattle.std.proofs.Common.{length}
-use Rattle.am_rehearse.proofs.render.+add_playbacks.Given as goal
-
-abbrev pub decreases-add_playbacks : goal.decreases-add_playbacks
-decreases-add_playbacks l = length l.logs.now

@@ -1,0 +1,10 @@
+pub mod Answering
+pub mod Inserting
+pub mod Leaving
+pub mod Making
+pub mod Names
+pub mod Opening
+pub mod Pieces
+pub mod Remarks
+pub mod Rising
+pub mod Rows

@@ -43,6 +43,28 @@ func TestBoardsThatDontKeepToTheProtocol(t *testing.T) {
 	}
 }
 
+// TestValuesOfAnswers: other fields of an answer, and spaces in it, change nothing. What isn't JSON is no answer.
+func TestValuesOfAnswers(t *testing.T) {
+	for line, wanted := range map[string]int64{
+		"{\"summary\":{\"alerts\":7}}\n":                7,
+		"{\"summary\":{\"alerts\":7}}":                  7,
+		"{\"summary\":{\"alerts\":7},\"more\":{}}\n":    7,
+		"{\"summary\": {\"alerts\": 7} }\n":             7,
+		"{\"more\":{},\"summary\":{\"alerts\":7}}\n":    7,
+		"{\"summary\":{\"alerts\":1},\"summary\":{}}\n": 0,
+		"{\"summary\":{\"alerts\":7},}\n":               -1,
+		"{\"summary\":{\"alerts\":7}}}\n":               -1,
+		"{\"summary\":{\"alerts\":7}\n":                 -1,
+		"{\"summary\":{\"alerts\":\"x\"}}\n":            -1,
+		"{\"summary\":}\n":                              -1,
+	} {
+		var got summary
+		if err := summaryCall().decode([]byte(line), &got); (err != nil) != (wanted < 0) || err == nil && got.Alerts != wanted {
+			t.Errorf("%q: %v, %v", line, got, err)
+		}
+	}
+}
+
 func TestAnswersComeInOrder(t *testing.T) {
 	b, _ := open(t, realBoard(t), 10*time.Second)
 	c, _ := configCall(planOf(t, oneReceiver).value)

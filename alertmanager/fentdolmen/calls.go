@@ -138,18 +138,22 @@ func (c call) appendLine(out []byte, now int64) []byte {
 	return append(append(out, c.args...), "}}\n"...)
 }
 
-// fits reports whether a line can be an answer to the call.
-func (c call) fits(line []byte) bool {
-	if bytes.HasPrefix(line, errorField) || c.answers == nil {
-		return true
-	}
+// field returns where the value of an answer's first field begins: 0 if that isn't one of the call's.
+func (c call) field(line []byte) int {
 	for _, it := range c.answers {
 		if n := len(it); len(line) > n+4 && line[0] == '{' && line[1] == '"' && string(line[2:2+n]) == it && line[2+n] == '"' && line[3+n] == ':' {
-			return true
+			return n + 4
 		}
 	}
-	return false
+	return 0
 }
+
+// fits reports whether a line can be an answer to the call.
+func (c call) fits(line []byte) bool {
+	return bytes.HasPrefix(line, errorField) || c.answers == nil || c.field(line) > 0
+}
+
+var endOfAnswer = []byte("}\n")
 
 // decode reads the value of an answer, whose first field is one of the call's. A refusal is an error.
 func (c call) decode(line []byte, into interface{}) error {
@@ -162,6 +166,10 @@ func (c call) decode(line []byte, into interface{}) error {
 		return &got.Error
 	}
 	if into == nil {
+		return nil
+	}
+	// Nearly all answers have one field. Else what is between is no value, and is read below.
+	if from := c.field(line); from > 0 && bytes.HasSuffix(line[from:], endOfAnswer) && json.Unmarshal(line[from:len(line)-len(endOfAnswer)], into) == nil {
 		return nil
 	}
 	var got map[string]json.RawMessage
@@ -191,6 +199,26 @@ func (l *labelList) take(labels model.LabelSet) {
 		*l = append(*l, struct{ name, value string }{string(name), string(value)})
 	}
 	sort.Sort(l)
+}
+
+// fingerprint is Alertmanager's of the set. That of its package would put the labels in order once more.
+func (l *labelList) fingerprint() model.Fingerprint {
+	sum := uint64(hashStart)
+	for _, it := range *l {
+		sum = hashed(hashed(sum, it.name), it.value)
+	}
+	return model.Fingerprint(sum)
+}
+
+// hashStart and hashPrime are those of FNV-1a with 64 bits.
+const hashStart, hashPrime = 14695981039346656037, 1099511628211
+
+// hashed is a hash after a text, and the byte that ends it.
+func hashed(sum uint64, text string) uint64 {
+	for i := 0; i < len(text); i++ {
+		sum = (sum ^ uint64(text[i])) * hashPrime
+	}
+	return (sum ^ uint64(model.SeparatorByte)) * hashPrime
 }
 
 // appendTo appends the list as an object.

@@ -47,15 +47,16 @@ func subjectsOf(alerts []*types.Alert) []subject {
 	out, total := make([]subject, len(alerts)), 0
 	for i, a := range alerts {
 		size, err := sizeOf(a.Labels)
-		if out[i] = (subject{labels: a.Labels, name: a.Fingerprint(), err: err}); err == nil {
+		if out[i] = (subject{labels: a.Labels, err: err}); err == nil {
 			total += len(labelsField) + len("{}") + size + len(`"":"",`)*len(a.Labels)
 		}
 	}
 	texts, list := make([]byte, 0, total), labelList{}
 	for i := range out {
-		if it := &out[i]; it.err == nil {
+		it := &out[i]
+		list.take(it.labels)
+		if it.name = list.fingerprint(); it.err == nil {
 			from := len(texts)
-			list.take(it.labels)
 			texts = list.appendTo(append(texts, labelsField...))
 			it.text = texts[from:]
 		}

@@ -87,7 +87,7 @@ func (d *dispatcher) sendNotice(ctx context.Context, f *sending, n notice) {
 	ctx = notify.WithFiringAlerts(ctx, make([]uint64, len(n.Firing)))
 	ctx = notify.WithResolvedAlerts(ctx, make([]uint64, len(n.Resolved)))
 	err := d.cluster.waitForPeers(ctx, f.turn, d.logger)
-	isSentByPeer := err == nil && d.isSentByPeer(f, n)
+	isSentByPeer := err == nil && d.cluster.peer != nil && d.isSentByPeer(f, n)
 	if err == nil && !isSentByPeer {
 		_, _, err = notify.NewRetryStage(integrations[n.Integration], f.route.RouteOpts.Receiver, d.sends).Exec(ctx, d.logger, alerts...)
 	}

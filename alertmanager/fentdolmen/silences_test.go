@@ -45,12 +45,14 @@ func TestSilencesReachTheBoard(t *testing.T) {
 			t.Fatal(err)
 		}
 	}
+	time.Sleep(2 * time.Millisecond) // (the silence can begin at the next millisecond of the board's clock, and end so)
 	if got := begun(t, d); got != 1 {
 		t.Errorf("%d groups are flushed with a notice", got)
 	}
 	if err := d.silences.Expire(id); err != nil {
 		t.Fatal(err)
 	}
+	time.Sleep(2 * time.Millisecond)
 	if err := d.load(d.session().plan); err != nil { // (a new board hasn't what is over)
 		t.Fatal(err)
 	}

@@ -8,12 +8,14 @@
 - `growth`: inputs that would make a flush, a preview or a judgement grow with the square of their size: one of twice the size takes
   at most three times the time and the memory. So do calls while many flushes are open. So do inputs whose labels would collide if
   hashes started from a seed that everybody knows (lib/collisions.py).
+- `open`: `begin`, `next_due`, `note` and `finish` take at most twice as long while 20,000 flushes are open as they take with one.
 """
 import json
 import re
 import subprocess
 import sys
 import tempfile
+from collections.abc import Callable
 from pathlib import Path
 from typing import NamedTuple
 
@@ -28,6 +30,8 @@ from lib.stories import HOOK, config
 SHORT = 0.5
 # How much more twice the input may take.
 MOST = 3
+# How much more calls may take while many flushes are open.
+EVEN = 2
 # How often an input that takes too much is tried: what else the machine does adds time, and takes none away.
 TRIES = 3
 
@@ -256,6 +260,20 @@ def teams(count: int) -> Json:
     }
 
 
+def last_named(count: int) -> Json:
+    """A story with so many receivers whose names have one length, and the greatest number of expectations, each of the last one."""
+    last = f"team{count - 1:06}"
+    return {
+        "alertmanager": {
+            "route": {"receiver": last, "group_by": ["alertname"]},
+            "receivers": [{"name": f"team{team:06}", "webhook_configs": [{"url": "http://localhost/"}]} for team in range(count)],
+        },
+        "until": "1h",
+        "alerts": [{"labels": {"alertname": "A"}}],
+        "expect": [{"receiver": last}] * 1024,
+    }
+
+
 def ruled(count: int) -> Json:
     """A story with so many inhibition rules, and 64 alerts, each of which a rule of its own mutes."""
     rules = [{"source_matchers": ['kind="node"'], "target_matchers": [f'host="h{rule}"'], "equal": ["cluster"]} for rule in range(count)]
@@ -273,7 +291,7 @@ def ruled(count: int) -> Json:
 
 MADE = {
     "two-sided": two_sided, "silenced": silenced, "expected": expected, "restarted": restarted, "hung": hung,
-    "flapping": flapping, "teams": teams, "ruled": ruled,
+    "flapping": flapping, "teams": teams, "last named": last_named, "ruled": ruled,
 }
 # What makes the lines of an input.
 LINES = {"opened": opened, "set again": set_again, "loaded": loaded}
@@ -289,6 +307,7 @@ GROWTH = [
     ("rows of the log, each under a route of its own", "loaded", 8000, "am_dispatch"),
     ("groups whose receiver hangs for an hour", "hung", 2000, "am_rehearse"),
     ("receivers, of which every fifth has a route", "teams", 512, "am_rehearse"),
+    ("as many expectations as may be, of the last receiver", "last named", 1024, "am_rehearse"),
     ("inhibition rules, and alerts that they mute", "ruled", 2048, "am_rehearse"),
     ("label sets that would collide", "label sets", 16000, "am_dispatch"),
     ("values of sources that would collide", "sources", 8000, "am_dispatch"),
@@ -303,11 +322,42 @@ GROWTH = [
 ]
 
 
+def lines_of(calls: list[Json]) -> str:
+    """The text of lines."""
+    return "".join(json.dumps(it) + "\n" for it in calls)
+
+
 def text_of(made: str, count: int) -> str:
     """The input of a size."""
     if made in LINES:
-        return "".join(json.dumps(line) + "\n" for line in LINES[made](count))
+        return lines_of(LINES[made](count))
     return json.dumps(MADE[made](count)) if made in MADE else collisions.text(made, count)
+
+
+# How many flushes are open, and how often another group is flushed meanwhile.
+OPEN, CYCLES = 20_000, 50_000
+
+
+def cycles(is_open: bool) -> Json:
+    """Lines: so many groups are flushed, and one group again and again, with a notice that succeeds each time. The flushes of the others
+    stay open meanwhile, until long after they are due again, or are finished before, and aren't due again. The calls are the same."""
+    hook = [{"url": "http://localhost/"}]
+    often = {"receiver": "team", "matchers": ['alertname="often"'], "group_interval": "1ms", "repeat_interval": "1ms"}
+    times = {"group_wait": "0s", "group_interval": "5m" if is_open else "10000h"}
+    root = {"receiver": "team", "group_by": ["alertname"], **times, "routes": [often]}
+    own = {"route": root, "receivers": [{"name": "team", "webhook_configs": hook}]}
+    names = [f"A{number}" for number in range(OPEN)]
+    begins: list[Json] = [{"begin": {"now": 0}} for _ in names]
+    finishes: list[Json] = [{"finish": {"now": 0, "ticket": number}} for number in range(1, OPEN + 1)]
+    flushes = begins if is_open else [call for pair in zip(begins, finishes) for call in pair]
+    lines: list[Json] = [{"alertmanager": own}, *({"insert": {"now": 0, "labels": {"alertname": it}}} for it in names), *flushes]
+    lines += [{"insert": {"now": 0, "labels": {"alertname": "often"}}}]
+    for number in range(CYCLES):
+        now, ticket = {"now": 10**9 + 2 * number}, {"ticket": OPEN + 1 + number}
+        report = {"report": {**ticket, "integration": 0, "outcome": "delivered"}}
+        lines += [{"begin": now}, {"next_due": {}}, report, {"note": {**now, **ticket, "integration": 0}}, {"finish": {**now, **ticket}}]
+    later = [{"finish": {"now": 2 * 10**9, "ticket": number}} for number in range(1, OPEN + 1)]
+    return [*lines, *(later if is_open else [])]
 
 
 class Growth(NamedTuple):
@@ -325,10 +375,10 @@ class Growth(NamedTuple):
         return Growth(self.end, min(self.seconds, other.seconds), min(self.memory, other.memory)) if self.end == other.end else other
 
 
-def cost_of(program: Program, made: str, count: int) -> Growth:
-    """What a program makes of an input of a size."""
+def cost_of(program: Program, text: str) -> Growth:
+    """What a program makes of an input."""
     with tempfile.NamedTemporaryFile("w", suffix=".json") as file, tempfile.TemporaryFile() as answers:
-        file.write(text_of(made, count))
+        file.write(text)
         file.flush()
         words = ["play", file.name] if program.crate == "am_rehearse" else []
         found = program.cost(*words, stdin=Path(file.name), stdout=answers.fileno(), stderr=subprocess.DEVNULL)
@@ -346,16 +396,32 @@ def is_linear(once: Growth, twice: Growth) -> bool:
 def growth(told: Report, programs: Programs) -> None:
     """Runs programs on an input of a size and of twice the size."""
     for name, made, size, crate in filter(lambda it: told.concerns(it[0]), GROWTH):
-        program = programs[crate]
-        once, twice = cost_of(program, made, size), cost_of(program, made, 2 * size)
-        for _ in range(TRIES - 1):
-            if is_linear(once, twice):
-                break
-            once, twice = once.least(cost_of(program, made, size)), twice.least(cost_of(program, made, 2 * size))
+        once, twice = costs_of(programs[crate], (text_of(made, size), text_of(made, 2 * size)), is_linear)
         told.holds(name, is_linear(once, twice), f"{size}: {once}", f"{2 * size}: {twice}")
 
 
-PARTS = {"patterns": patterns, "lists": lists, "growth": growth}
+def costs_of(program: Program, texts: tuple[str, str], is_good: Callable[[Growth, Growth], bool]) -> tuple[Growth, Growth]:
+    """What a program makes of two inputs: the least of some runs, unless the first is good."""
+    one, other = (cost_of(program, it) for it in texts)
+    for _ in range(TRIES - 1):
+        if is_good(one, other):
+            break
+        one, other = one.least(cost_of(program, texts[0])), other.least(cost_of(program, texts[1]))
+    return one, other
+
+
+def is_even(closed: Growth, opened: Growth) -> bool:
+    """Whether a program reads both inputs to their end, and takes about as long for the other."""
+    return closed.end == opened.end == "status 0" and opened.seconds <= EVEN * max(closed.seconds, SHORT)
+
+
+def open_flushes(told: Report, programs: Programs) -> None:
+    """Makes the same calls with one open flush and with many."""
+    closed, opened = costs_of(programs["am_dispatch"], (lines_of(cycles(False)), lines_of(cycles(True))), is_even)
+    told.holds(f"calls while {OPEN} flushes are open", is_even(closed, opened), f"with one: {closed}", f"with {OPEN}: {opened}")
+
+
+PARTS = {"patterns": patterns, "lists": lists, "growth": growth, "open": open_flushes}
 
 if __name__ == "__main__":
     report.main(__file__, PARTS, ("am_run", "am_rehearse", "am_dispatch"), __doc__)

@@ -28,6 +28,8 @@ from lib.stories import PLAY, milliseconds, rehearse
 
 EXAMPLES, REHEARSALS = ROOT / "examples", ROOT / "examples/rehearsals"
 RUNS, SCHEMA = ROOT / ".ci/data/commands.runs", ROOT / "docs/rehearsal.schema.json"
+# How many lines of what a run says of its end are shown.
+SAID = 5
 
 
 # Stories.
@@ -74,6 +76,12 @@ def shown(status: int, text: str) -> str:
     return f"{text}= {status}\n"
 
 
+def with_words(ran: Ran, wanted: int) -> str:
+    """What a run gave, for a report: where its status isn't this, also the last lines on standard error."""
+    said = ran.err.splitlines()[-SAID:] if ran.status != wanted else []
+    return shown(ran.status, ran.out) + "".join(f"! {it}\n" for it in said)
+
+
 # The stored outputs.
 
 def outputs(told: Report, programs: Programs) -> None:
@@ -82,10 +90,11 @@ def outputs(told: Report, programs: Programs) -> None:
     program = programs["am_rehearse"]
     for name in filter(told.concerns, names()):
         store(told, program, name)
-        wanted = shown(status_of(name), text_of(name))
+        status = status_of(name)
+        wanted = shown(status, text_of(name))
         for file in forms(name):
             for how, ran in (("", rehearse(program, "", "play", str(file))), (", as JSON", rehearse(program, as_json(program, file)))):
-                told.same(file.name + how, wanted, shown(ran.status, ran.out), path_of(stored_of(name)), "am-rehearse")
+                told.same(file.name + how, wanted, with_words(ran, status), path_of(stored_of(name)), "am-rehearse")
             told.same(f"{file.name}, its value", value_of(program, name), json.loads(as_json(program, file)))
         if value_of(program, name).get("output", "timeline") == "timeline":
             notices_alone(told, program, name)
@@ -117,7 +126,7 @@ def notices_alone(told: Report, program: Program, name: str) -> None:
         ("delivered notices", delivered, rehearse(program, "", "play", file, "--output", "notices", "--no-failures")),
         ("notices by its own output", notices, rehearse(program, own)),
     ]:
-        told.same(f"{name}, {how}", shown(status, wanted), shown(ran.status, ran.out), path_of(stored_of(name)), "am-rehearse")
+        told.same(f"{name}, {how}", shown(status, wanted), with_words(ran, status), path_of(stored_of(name)), "am-rehearse")
 
 
 def folded(full: str, objects: list[Json]) -> str:

@@ -4,8 +4,9 @@
 - `types`: mypy finds each function typed, as pyproject.toml says.
 - `python`: flake8 has nothing to say, as .flake8 says.
 - `shell`: nor has shellcheck.
+- `lines`: a line of a crate's src/ or specs/ has at most 140 characters, except one that is a text.
 
-Each is Debian's package of its name. One that isn't there is skipped; where CI is set it is installed, and fails if it can't be.
+The first three are Debian's packages. One that isn't there is skipped; where CI is set it is installed, and fails if it can't be.
 """
 import os
 import re
@@ -21,12 +22,15 @@ from lib.program import ROOT
 from lib.report import Programs, Report
 
 # Where Python is: folders of modules, and programs. The example in examples/live, except replay, is left out.
-PYTHON = (".ci/lib", ".ci/checks", ".ci/gate", "tools/programs.py", "tools/completions.py", "tools/timed.py", "examples/pager.py")
-SCRIPTS = ("rehearse", ".ci/first-answer", "tools/am-dispatch", "tools/am-run", "tools/amtool", "tools/measure", "tools/package",
-           "tools/peer-bench", "tools/picture", "examples/live/replay")
+PYTHON = (".ci/lib", ".ci/checks", ".ci/gate", "tools/programs.py", "tools/completions.py", "tools/timed.py", "examples/pager.py",
+          "examples/library/fentdolmen.py")
+SCRIPTS = ("rehearse", ".ci/first-answer", "tools/am-dispatch", "tools/am-run", "tools/amtool", "tools/library", "tools/measure",
+           "tools/package", "tools/peer-bench", "tools/picture", "examples/live/replay")
 # Where programs for a shell are.
 PROGRAMS = ("*", ".ci/*", "tools/*")
 TOOLS = ("mypy", "flake8", "shellcheck")
+# How many characters a line of a crate has at most.
+WIDTH = 140
 # How many lines of a tool are shown.
 SHOWN = 60
 
@@ -79,7 +83,17 @@ def shell(told: Report, _: Programs) -> None:
     run(told, "shell", "shellcheck", *files)
 
 
-PARTS = {"types": types, "python": python, "shell": shell}
+def lines(told: Report, _: Programs) -> None:
+    """No line of code and definitions is too wide to be read."""
+    files = sorted(it for part in ("src", "specs") for it in ROOT.glob(f"crates/*/{part}/**/*") if it.suffix in (".rt", ".antt"))
+    told.at_least(900, len(files), "files of code and definitions")
+    wide = [f"{file.relative_to(ROOT)}:{number}: {len(line)} characters, and {WIDTH} are the most"
+            for file in files for number, line in enumerate(file.read_text(encoding="utf-8").split("\n"), 1)
+            if len(line) > WIDTH and '"' not in line]
+    told.holds("lines", not wide, *wide[:SHOWN])
+
+
+PARTS = {"types": types, "python": python, "shell": shell, "lines": lines}
 
 if __name__ == "__main__":
     report.main(__file__, PARTS, (), __doc__)

@@ -34,7 +34,7 @@ AFTER = [
     "checks/am_run.py examples", "checks/am_run.py statuses", "checks/am_run.py lengths", "checks/formats.py routes",
     "checks/formats.py hours", "checks/rehearse.py commands", "checks/formats.py yaml", "checks/rejects.py",
     "checks/rehearse.py notices", "checks/rehearse.py dispatchers", "checks/rehearse.py statuses", "checks/rehearse.py schema",
-    "checks/patterns.py listed", "checks/dispatch.py",
+    "checks/patterns.py listed", "checks/dispatch.py", "checks/library.py",
     "checks/live.py", "checks/live_rehearsals.py", "checks/programs.py", "checks/package.py",
     "checks/steps.py", "checks/pages.py quotes",
 ]

@@ -25,4 +25,4 @@ def crates() -> dict[str, list[str]]:
     """The crates in the order of crates.txt, each with the libraries that it uses."""
     with open(f"{ROOT}/crates.txt", encoding="utf-8") as file:
         parts = [it.partition(":") for it in file if it.strip() and not it.startswith("#")]
-    return {name: rest.split() for name, _, rest in parts}
+    return {name.split()[0]: rest.split() for name, _, rest in parts}

@@ -57,6 +57,10 @@ def built(crate: str) -> Path:
     be there: the gate has just built it."""
     path = ROOT / "crates" / crate / "out" / crate
     if os.environ.get("BUILT") != "yes" and not (os.access(path, os.X_OK) and programs.is_proved(crate, path)):
+        kept = programs.place_of(crate)
+        such = f", such as {kept.relative_to(ROOT)}" if kept and kept.is_file() else ""
+        print(f"{crate}: `rt run` proves and builds it, in minutes or hours; a check also takes the path of a program{such}",
+              file=sys.stderr, flush=True)
         with open(ROOT / "crates" / crate / "stdin", "rb") as given:
             ran = subprocess.run(["rt", "run"], cwd=ROOT / "crates" / crate, stdin=given, stdout=subprocess.PIPE,
                                  stderr=subprocess.STDOUT, text=True, errors="backslashreplace", check=False)

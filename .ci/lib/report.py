@@ -12,7 +12,7 @@ import shlex
 import sys
 import threading
 import traceback
-from collections.abc import Callable, Mapping
+from collections.abc import Callable, Iterable, Mapping
 from pathlib import Path
 
 from .program import ROOT, Program
@@ -103,10 +103,18 @@ class Report:
     def fails(self, name: str, *lines: str) -> None:
         """A case failed: what its lines say, and the command that repeats it."""
         if self.wants(name):
-            with self.lock:
-                self.failed += 1
-                again = f"again: {self.command} {self.part} {shlex.quote(name)}{self.asked}"
-                print("\n".join([f"differs {name}", *lines, again]), flush=True)
+            self.tell(name, lines, [name])
+
+    def stops(self, why: str) -> None:
+        """The part didn't end. That is printed whatever cases were chosen."""
+        self.tell("a case that didn't end", [why], self.cases)
+
+    def tell(self, name: str, lines: Iterable[str], cases: list[str]) -> None:
+        """Prints what failed, and the command that repeats it with these cases."""
+        with self.lock:
+            self.failed += 1
+            again = f"again: {self.command} {shlex.join([self.part, *cases])}{self.asked}"
+            print("\n".join([f"differs {name}", *lines, again]), flush=True)
 
     def differs(self, name: str, expected: object, got: object, stored: str = "expected", program: str = "got") -> None:
         """A case failed: how what it gave differs from what it had to give."""
@@ -221,6 +229,6 @@ def main(file: str, parts: Mapping[str, Part], crates: tuple[str, ...], about: s
             part(report, programs)
         except Exception:
             # (the other parts run)
-            report.fails("a case that didn't end", traceback.format_exc())
+            report.stops(traceback.format_exc())
         results.append(report.end())
     sys.exit(not all(results))

@@ -82,7 +82,7 @@ def refusal_of(crate: str, edit: Edit, said: list[str]) -> tuple[bool, str]:
     told = [it for it in said[before + 1 : at] if re.match(r"note: src/\S+: it is not proved", it)]
     told += [it for it in said if it.startswith(folders_of(edit)) and ": error" in it and not re.search(NAMES_ALONE, it)]
     # (a goal that had an answer has none left that fits)
-    told += [verdict] * bool(re.match(r"no proof: expected answers in \S+; search did not prove", verdict))
+    told += [verdict] * bool(re.match(r"no proof: expected answers in \S+; `?search`? did not prove", verdict))
     return bool(told), told[0] if told else "a file of its proof names what the edit took away, so no contract was tried"
 
 

@@ -96,7 +96,7 @@ def calls_in(file: Path) -> list[tuple[str, str, Call]]:
             owner, of_trait = head[1], "trait " in line or " for " in line
         elif line == "}":
             owner = ""
-        elif (call := re.match(r"( *)(pub )?(?:const )?fn (\w+)", line)) and (call[2] or (owner and of_trait)):
+        elif (call := re.match(r"( *)(pub )?(?:const |extern \"C\" )?fn (\w+)", line)) and (call[2] or (owner and of_trait)):
             last = last_of(lines, at, call[1])
             front, clauses = split_contract(lines[at:last + 1], at + 1)
             is_law = bool(call[2] and not owner and re.fullmatch(r"pub fn \w+(<.*>)?\(\)", line) and lines[last] == "{}")

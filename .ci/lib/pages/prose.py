@@ -20,7 +20,7 @@ SENTENCE, PARAGRAPH = 25, 100
 # In words: what a page has at most, and those that have another budget.
 BUDGET, BUDGETS = 1800, {"README": 1200, "rules": 2400, "dispatch": 1900}
 # In characters: what a row of a table and another line have at most. In bytes: what all pages have.
-ROW, LINE, TOTAL = 300, 400, 165_000
+ROW, LINE, TOTAL = 300, 400, 169_000
 # The end of a sentence: behind it begins another, with a capital, a number or the name of a page.
 END = re.compile(r"[.!?][\"')\]*]*\s+(?=[\"'(\[*]*(?:[A-Z0-9]|[\w-]+\.md))")
 LINK = re.compile(r"\[([^\]]*)\]\(([^)\s]+)\)")
@@ -111,8 +111,8 @@ def link_fault(page: Path, text: str, target: str) -> str | None:
 
 
 def places_of(name: str) -> list[Path]:
-    """The files that a code span of a line `**Defined** ..` or `**Rejected** ..` names: a definition, a wrong body, an example, or a
-    program of the gate with its part."""
+    """The files that a code span of a line `**Defined** ..`, `**Rejected** ..` or `**Code** ..` names: a definition, a wrong body, an
+    example, a module, or a program of the gate with its part."""
     if re.fullmatch(r"am_\w+/\S+", name.replace(", ", ",")):
         edits = {it: ROOT / f"crates/{it.replace('/', '/wrong-bodies/', 1)}.edit" for it in spread(name)}
         return [edit if edit.exists() else spec_of(it) for it, edit in edits.items()]
@@ -120,12 +120,15 @@ def places_of(name: str) -> list[Path]:
 
 
 def named_faults(text: str) -> Found:
-    """What lines that say where a rule is defined, shown and broken name, and isn't there."""
+    """What lines that say where a rule is defined, shown, broken and decided name, and isn't there. A module alone, such as `plan.rt`, is
+    next to the one before it. Nothing in parentheses is a name."""
     found: Found = []
     for number, line in enumerate(text.splitlines(), 1):
-        for name in re.findall(r"`([^`]+)`", line) if line.startswith(("**Defined** in", "**Rejected**")) else []:
-            places = [] if name == "outlook" else places_of(name)
-            found += [(number, f"no {name}")] * (name != "outlook" and not (places and all(it.exists() for it in places)))
+        folder, names = ROOT, re.findall(r"`([^`]+)`", re.sub(r" \([^)]*\)", "", line))
+        for name in names if line.startswith(("**Defined** in", "**Rejected**", "**Code**")) else []:
+            places = [folder / name] if re.fullmatch(r"\w+\.rt", name) else places_of(name)
+            found += [(number, f"no {name}")] * (not (places and all(it.exists() for it in places)))
+            folder = places[0].parent if places else folder
     return found
 
 
@@ -205,6 +208,7 @@ def self_test() -> None:
            "[`a`](none.md)": "no file none.md", "[a](../../x)": "no file ../../x",
            "[a](story.md#no-such)": "no heading story.md#no-such", "**Defined** in `am_model/{Begin, None}`.": "no am_model/{Begin, None}",
            "**Defined** in `am_model/Begin`. **Shown** by `none.yml`.": "no none.yml",
+           "**Code**: `crates/am_board/src/{begin,note}.rt`, `plan.rt` (`what`), `none.rt`.": "no none.rt",
            row.replace("|\n", "word |\n"): "a row of 303 characters",
            "[a](https://example.org/" + "b" * 400 + ")\n": "a line of 425 characters",
            "| `no_such` | a body | edit in `am_desk`; type: `T` |": "no crates/am_desk/wrong-bodies/no_such.edit",

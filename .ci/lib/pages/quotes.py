@@ -33,7 +33,7 @@ from lib.pages.prose import pages
 
 PASSED = {r"\brt (?!run|try|version|doc)": "it proves for minutes, or changes the sources", r"\.ci/": "the gate runs it by itself",
           r"valgrind|/usr/bin/time|am_bench|tools/(measure|peer-bench)": "it measures for minutes",
-          r"tools/package": "the gate tries it by itself", r"\bgit ": "it would change the clone"}
+          r"tools/(package|library)|\bcc examples/library|\./play\b": "the gate tries it by itself", r"\bgit ": "it would change the clone"}
 TOOLS = ("jq", "yq", "amtool")
 FIRST = ["./rehearse play examples/disk-full.yml", "rt ci"]
 RUNS = re.compile(r"\brt (?:run|try)\b(?: --(?= ))?")

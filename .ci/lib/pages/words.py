@@ -16,7 +16,7 @@ AVOID = re.compile(r"\b(tell|tells|told|telling|may be|stands?|stood|laid|lays f
                    r"|but for|beside|want of|memory (is|was) refused|moments?|manners?|rooms?|(is|are|was|were) played|worked out"
                    r"|rightly|soundly)\b", re.IGNORECASE)
 # Names that aren't ours to choose: a function of the kit, a field of Webex receivers, and a field in lines of am-dispatch.
-KEPT = re.compile(r'\btells_all_ascii_digits\b|\broom_id\b|"moment"|/moment\b')
+KEPT = re.compile(r'\btells_all_ascii_digits\b|\bhandle_tells\b|\broom_id\b|"moment"|/moment\b')
 # Where scripts are, and what they are in. What has no such ending is one if its first line says so.
 SCRIPTS = ("alertmanager", "examples", "tools", ".ci")
 ENDINGS = (".py", ".go", ".c", ".yml")

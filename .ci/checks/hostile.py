@@ -15,6 +15,7 @@ import re
 import subprocess
 import sys
 import tempfile
+import time
 from collections.abc import Callable
 from pathlib import Path
 from typing import NamedTuple
@@ -32,8 +33,9 @@ SHORT = 0.5
 MOST = 3
 # How much more calls may take while many flushes are open.
 EVEN = 2
-# How often an input that takes too much is tried: what else the machine does adds time, and takes none away.
-TRIES = 3
+# How often an input that takes too much is tried: what else the machine does adds time, and takes none away. Two inputs that are
+# compared have more tries, with seconds between them: others on the machine seldom slow one of them down in each.
+TRIES, PAIRS, PAUSE = 3, 10, 2
 
 
 # Patterns.
@@ -401,11 +403,12 @@ def growth(told: Report, programs: Programs) -> None:
 
 
 def costs_of(program: Program, texts: tuple[str, str], is_good: Callable[[Growth, Growth], bool]) -> tuple[Growth, Growth]:
-    """What a program makes of two inputs: the least of some runs, unless the first is good."""
+    """What a program makes of two inputs: the least of some runs, as many as it takes until they are good."""
     one, other = (cost_of(program, it) for it in texts)
-    for _ in range(TRIES - 1):
+    for _ in range(PAIRS - 1):
         if is_good(one, other):
             break
+        time.sleep(PAUSE)
         one, other = one.least(cost_of(program, texts[0])), other.least(cost_of(program, texts[1]))
     return one, other
 

@@ -1,8 +1,8 @@
 #!/usr/bin/env python3
 """What tools/package makes works without the kit: unpacked from the archive the README's commands print what the page shows, and so they
 do from the Debian package. Versions say the commit and whether the programs are proved, manual pages and completions are there,
-live.py starts, and the same commit and programs give the same files. Where Go and Alertmanager's packages are, fentdolmen starts from the
-second Debian package, with the board of the first.
+live.py starts, and the same commit and programs give the same files. Where Go, Alertmanager's packages and prometheus-alertmanager are,
+fentdolmen starts from the second Debian package, with the board of the first.
 
 Where files were changed since the commit, or the programs aren't those of the gate (BUILT=yes), the package is an unproved one.
 """
@@ -23,6 +23,8 @@ from lib.report import Programs, Report
 # (the system's programs alone: no kit)
 PLAIN = {"PATH": "/usr/bin:/bin", "HOME": "/nonexistent"}
 SECOND = "fentdolmen-alertmanager_"
+# A notice that the second package has to have.
+NOTICE = Path("/usr/share/doc/prometheus-alertmanager/NOTICE")
 CONFIG = "route: {receiver: team}\nreceivers: [{name: team, webhook_configs: [{url: 'http://127.0.0.1:9/'}]}]\n"
 
 
@@ -171,7 +173,10 @@ def package(told: Report, _: Programs) -> None:
         made, again = (packages(work / it, *[] if is_proved else ["--unproved"]) for it in ("made", "again"))
         kinds = {"tar.gz", "sha256"} | ({"deb"} if output(["sh", "-c", "command -v dpkg-deb"])[0] == 0 else set())
         if "deb" in kinds and "skipped" not in output(["bash", "-c", ". alertmanager/environment"], ROOT)[1]:
-            kinds.add(SECOND)
+            if NOTICE.exists():
+                kinds.add(SECOND)
+            else:
+                told.skip("the second package", "prometheus-alertmanager isn't installed, so its licence isn't there")
         if not told.same("tools/package", sorted(kinds), sorted(made)):
             return
         is_same = all(made[it].read_bytes() == again[it].read_bytes() and made[it].name == again[it].name for it in kinds)

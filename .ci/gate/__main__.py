@@ -141,6 +141,8 @@ class Gate:
                     self.running[name].terminate()
             else:
                 os.environ["BUILT"] = "yes"
+                # (it installs what checks look for)
+                compiled.result()
                 self.checks(AFTER)
             for name, said in (("first-answer", first), ("alertmanager --prepare", compiled), ("wrong-bodies", tried)):
                 print(f"== .ci/{name}\n{said.result()}", end="", flush=True)

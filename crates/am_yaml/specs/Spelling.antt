@@ -241,7 +241,7 @@ mutual
         → column_of text dash ≡ column → IsNode text (Block (column + 1) (column + 1)) meaning (dash + 1) middle value to after
         → IsSequence text meaning column from before (values ++ value ∷ []) to after
 
-  -- Members with their keys in one column, put in one after another, and the members that were merged.
+  -- Members with their keys in one column, put in one after another, no two of one name, and the members that were merged.
   pub data IsMapping (text : List ℕ) : Meaning → ℕ → ℕ → Members → Members → Members → ℕ → Members → Type 0 where
     no_keys : (meaning : Meaning) (column from : ℕ) (anchors : Members)
         → IsMapping text meaning column from anchors no_members no_members from anchors
@@ -249,7 +249,7 @@ mutual
         (value : Data) → IsMapping text meaning column from before members merged at middle → IsGap text at start
         → column_of text start ≡ column → IsKey text false start name false behind
         → IsNode text (Block (column + 1) column) (meaning_below meaning name) behind middle value to after
-        → IsMapping text meaning column from before (put name value members) merged to after
+        → get_member name members ≡ None → IsMapping text meaning column from before (put name value members) merged to after
     merge_key : (meaning : Meaning) (column from at start behind to : ℕ) (before middle after members merged more : Members)
         (name : List ℕ) (value : Data) → IsMapping text meaning column from before members merged at middle → IsGap text at start
         → column_of text start ≡ column → IsKey text false start name true behind
@@ -273,7 +273,7 @@ mutual
     next_entry : (meaning : Meaning) (from at start behind to : ℕ) (before middle after members merged : Members) (name : List ℕ)
         (value : Data) → AreMembers text meaning from before members merged true at middle → IsGap text at start
         → IsKey text true start name false behind → IsNode text FlowValue (meaning_below meaning name) behind middle value to after
-        → AreMembers text meaning from before (put name value members) merged false to after
+        → get_member name members ≡ None → AreMembers text meaning from before (put name value members) merged false to after
     merge_entry : (meaning : Meaning) (from at start behind to : ℕ) (before middle after members merged more : Members) (name : List ℕ)
         (value : Data) → AreMembers text meaning from before members merged true at middle → IsGap text at start
         → IsKey text true start name true behind → IsNode text FlowValue (meaning_below meaning name) behind middle value to after

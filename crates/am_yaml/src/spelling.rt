@@ -1,7 +1,8 @@
 //! The check of what was read: the value is built again from the pieces that the parser left, and each step is one of YAML's rules.
-ghost use Rattle.std.specs.Prelude.{◌≡◌, ◌+◌, ◌<◌, ◌≤◌, ◌&&◌, true, IfOk, OnOk, Some, false, length, map, option_map, slice_index};
+ghost use Rattle.std.specs.Prelude.{◌≡◌, ◌+◌, ◌<◌, ◌≤◌, ◌&&◌, true, IfOk, OnOk, Some, None, false, length, map, option_map, slice_index};
 ghost use Rattle.std.specs.Prelude.{slice_range, string_bytes};
-ghost use Rattle.serde_json.specs.Data.{object};
+ghost use Rattle.serde_json.specs.Data.{object, put as with_member};
+ghost use Rattle.serde_json.specs.Find.{get_member};
 ghost use Rattle.serde_json.specs.View.{members_view, view};
 ghost use Rattle.am_yaml.specs.Behind.{AreFlowItemsBehind, AreFlowMembersBehind, AreItemsBehind, AreMembersBehind, ArePropertiesBehind};
 ghost use Rattle.am_yaml.specs.Behind.{IsFlat};
@@ -426,10 +427,24 @@ impl<'t> Spelling<'t> {
         let Some(name) = name else {
             return Ok(());
         };
-        match member_of(anchors, name) {
+        self.add(anchors, name, value.clone()?, at)
+    }
+
+    /// Puts in a member, whose name no other has.
+    fn add(
+        &self,
+        members: &mut Map<String, Value>,
+        name: &str,
+        value: Value,
+        at: usize,
+    ) -> Result<(), Stop>
+        ensures kept { OnOk result (members_view members.new.entries ≡ with_member name.now (view value) (members_view members.old.entries)) }
+        ensures is_new { OnOk result (get_member name.now (members_view members.old.entries) ≡ None) }
+    {
+        match member_of(members, name) {
             Some(_) => Err(unconfirmed(at)),
             None => {
-                put(anchors, self.alloc, name, value.clone()?)?;
+                put(members, self.alloc, name, value)?;
                 Ok(())
             }
         }
@@ -898,7 +913,7 @@ impl<'t> Spelling<'t> {
             self.merge(&mut fields.merged, &value, from)?;
             return Ok(next);
         }
-        put(&mut fields.own, self.alloc, key, value)?;
+        self.add(&mut fields.own, key, value, from)?;
         Ok(next)
     }
 
@@ -1081,7 +1096,7 @@ impl<'t> Spelling<'t> {
             self.merge(&mut fields.merged, &value, from)?;
             return Ok(next);
         }
-        put(&mut fields.own, self.alloc, key, value)?;
+        self.add(&mut fields.own, key, value, from)?;
         Ok(next)
     }
 }

@@ -1,8 +1,9 @@
-use Rattle.std.proofs.Common.{◌≡◌, ◌+◌, ◌++◌, ◌∷◌, ◌≤◌, ◌<◌, [], List, Bool, Option, Some, true, false, ℕ, Vec, Global, map, slice_index}
+use Rattle.std.proofs.Common.{◌≡◌, ◌+◌, ◌++◌, ◌∷◌, ◌≤◌, ◌<◌, [], List, Bool, Option, Some, None, true, false, ℕ, Vec, Global, map, slice_index}
 use Rattle.std.proofs.lemmas.List.{map-append}
 use Rattle.std.proofs.lemmas.Result.{IfOk-weaker}
 use Rattle.serde_json.proofs.Views.{Entry, view-Array}
 use Rattle.serde_json.specs.Data.{Data, Members, object, put}
+use Rattle.serde_json.specs.Find.{get_member}
 use Rattle.serde_json.specs.View.{members_view, view}
 use Rattle.serde_json.specs.declared.value.Value.{Value, Array}
 use Rattle.am_yaml.specs.Behind.{AreFlowItemsBehind, AreFlowMembersBehind, IsFlat}
@@ -37,11 +38,11 @@ comma_between text meaning true at to anchors fields merged is sign = λ from st
 
 member_behind : (text : List ℕ) (meaning : Meaning) (ready : Bool) (at start behind to : ℕ) (middle after fields merged : Members) (name : List ℕ)
     (value : Data) → ready ≡ true → IsGap text at start → IsKey text true start name false behind
-    → IsNode text FlowValue (meaning_below meaning name) behind middle value to after
+    → IsNode text FlowValue (meaning_below meaning name) behind middle value to after → get_member name fields ≡ None
     → AreFlowMembersBehind text meaning ready at middle fields merged (put name value fields) merged to after
-member_behind text meaning true at start behind to middle after fields merged name value is gap key item =
-    λ from begin before. next_entry _ _ _ _ _ _ _ _ _ _ _ _ _ before gap key item
-member_behind text meaning false at start behind to middle after fields merged name value is gap key item = λ from begin before. cc
+member_behind text meaning true at start behind to middle after fields merged name value is gap key item new =
+    λ from begin before. next_entry _ _ _ _ _ _ _ _ _ _ _ _ _ before gap key item new
+member_behind text meaning false at start behind to middle after fields merged name value is gap key item new = λ from begin before. cc
 
 merge_behind : (text : List ℕ) (meaning : Meaning) (ready : Bool) (at start behind to : ℕ) (middle after fields merged more : Members) (name : List ℕ)
     (value : Data) → ready ≡ true → IsGap text at start → IsKey text true start name true behind
@@ -164,8 +165,9 @@ member-returns-then-is_merge t c = λ from start before.
 pub member-returns : goal.member-returns
 member-returns t c = λ from start before.
     let item = rw (c.meaning_below.ensures, c.as_str-key.ensures.value) at c.in_ok-value.ensures in
-    rw (c.in_ok-put.ensures.ok, c.as_str-key.ensures.value)
-    (next_key _ _ _ _ _ _ _ _ _ _ _ _ _ _ before c.in_ok-gap.ensures c.in_ok-in_column.ensures (rw c.if-is_merge.false at c.in_ok-name.ensures) item)
+    let new = rw c.as_str-key.ensures.value at c.in_ok-add.ensures.is_new in
+    rw (c.in_ok-add.ensures.kept, c.as_str-key.ensures.value)
+    (next_key _ _ _ _ _ _ _ _ _ _ _ _ _ _ before c.in_ok-gap.ensures c.in_ok-in_column.ensures (rw c.if-is_merge.false at c.in_ok-name.ensures) item new)
 
 pub flow_item-returns-then-not-is_ready : goal.flow_item-returns-then-not-is_ready
 flow_item-returns-then-not-is_ready t c =
@@ -187,5 +189,6 @@ flow_member-returns-then-is_merge t c = λ from start before.
 pub flow_member-returns : goal.flow_member-returns
 flow_member-returns t c = λ from start before.
     let item = rw (c.meaning_below.ensures, c.as_str-key.ensures.value) at c.in_ok-value.ensures in
-    rw (c.in_ok-put.ensures.ok, c.as_str-key.ensures.value)
-    (member_behind _ _ _ _ _ _ _ _ _ _ _ _ _ c.if-not-is_ready.false c.in_ok-gap.ensures (rw c.if-is_merge.false at c.in_ok-name.ensures) item from start before)
+    let new = rw c.as_str-key.ensures.value at c.in_ok-add.ensures.is_new in
+    rw (c.in_ok-add.ensures.kept, c.as_str-key.ensures.value)
+    (member_behind _ _ _ _ _ _ _ _ _ _ _ _ _ c.if-not-is_ready.false c.in_ok-gap.ensures (rw c.if-is_merge.false at c.in_ok-name.ensures) item new from start before)

@@ -21,7 +21,8 @@ AreItemsBehind text meaning column at middle values values_now to after =
     → IsSequence text meaning column from before values_now to after
 
 -- the members of a mapping likewise
-abbrev pub AreMembersBehind : List ℕ → Meaning → ℕ → ℕ → Members → Members → Members → Members → Members → ℕ → Members → Type 0
+abbrev pub AreMembersBehind :
+    List ℕ → Meaning → ℕ → ℕ → Members → Members → Option Members → Members → Option Members → ℕ → Members → Type 0
 AreMembersBehind text meaning column at middle members merged members_now merged_now to after =
     (from : ℕ) (before : Members) → IsMapping text meaning column from before members merged at middle
     → IsMapping text meaning column from before members_now merged_now to after
@@ -33,7 +34,8 @@ AreFlowItemsBehind text meaning ready at middle values values_now to after =
     → AreItems text meaning from before values_now (not ready) to after
 
 -- members between braces likewise
-abbrev pub AreFlowMembersBehind : List ℕ → Meaning → Bool → ℕ → Members → Members → Members → Members → Members → ℕ → Members → Type 0
+abbrev pub AreFlowMembersBehind :
+    List ℕ → Meaning → Bool → ℕ → Members → Members → Option Members → Members → Option Members → ℕ → Members → Type 0
 AreFlowMembersBehind text meaning ready at middle members merged members_now merged_now to after =
     (from : ℕ) (before : Members) → AreMembers text meaning from before members merged ready at middle
     → AreMembers text meaning from before members_now merged_now (not ready) to after

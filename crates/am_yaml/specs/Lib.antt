@@ -12,8 +12,10 @@ pub mod Scalars
 pub mod Escapes
 -- the text between double quotes, as far as it was read
 pub mod EscapedLines
--- what a merge key adds to a mapping
+-- what a key adds to a mapping, and what a merge key does
 pub mod Merges
+-- the members of a mapping, as far as it was read
+pub mod Fields
 -- how a text in YAML spells a value
 pub mod Spelling
 -- the text of a literal or folded block scalar

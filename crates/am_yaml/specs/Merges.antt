@@ -1,5 +1,5 @@
--- What a merge key, `<<`, adds to a mapping.
-use Rattle.std.specs.Prelude.{ℕ, List, Option, Some, None, is_some, option_and_then, option_map, if◌then◌else◌}
+-- What a key adds to a mapping, and what a merge key, `<<`, does.
+use Rattle.std.specs.Prelude.{◌≡◌, ℕ, List, Bool, true, false, Option, Some, None, is_some, option_and_then, option_map, if◌then◌else◌}
 use Rattle.serde_json.specs.Data.{Data, null, boolean, number, string, array, object, Items, no_items, item, Members, no_members}
 use Rattle.serde_json.specs.Data.{member, put}
 use Rattle.serde_json.specs.Find.{as_object, get_member}
@@ -30,3 +30,14 @@ merged_with _ (number n) = None
 merged_with _ (string s) = None
 merged_with members (array items) = with_items members items
 merged_with members (object others) = Some (with_missing members others)
+
+-- A key with a value adds a member, whose name no other has. A merge key, which is the only one, merges the value.
+pub data Adds (name : List ℕ) (value : Data) : Bool → Members → Option Members → Members → Option Members → Type 0 where
+  adds_member : (members : Members) (merged : Option Members) → get_member name members ≡ None
+      → Adds name value false members merged (put name value members) merged
+  merges : (members merged : Members) → merged_with no_members value ≡ Some merged → Adds name value true members None members (Some merged)
+
+-- the members of a mapping, and of what it merges those whose names it doesn't have
+abbrev pub joined : Members → Option Members → Members
+joined members None = members
+joined members (Some merged) = with_missing members merged

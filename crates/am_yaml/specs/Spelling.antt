@@ -10,7 +10,7 @@ use Rattle.serde_json.specs.View.{items_of}
 use Rattle.am_yaml.specs.Blocks.{Lines, chomp_in, depth_in, is_indent_by, lines_of, signs_in, text_of}
 use Rattle.am_yaml.specs.Bytes.{IsGap, IsSign, are_blanks, column_of, is_space}
 use Rattle.am_yaml.specs.Escapes.{IsUnescaped}
-use Rattle.am_yaml.specs.Merges.{merged_with, with_missing}
+use Rattle.am_yaml.specs.Merges.{Adds, joined}
 use Rattle.am_yaml.specs.Scalars.{IsMeant, are_of_names, closes, ends_word, folded, is_indented, is_one_line, is_plain, is_quote}
 use Rattle.am_yaml.specs.Scalars.{is_block_sign, is_of_names, meaning_at, meaning_below, no_pairs, pairs_after}
 use Rattle.am_yaml.specs.declared.scalars.Quote.TheVariants.{Closed}
@@ -222,16 +222,16 @@ mutual
     sequence : (place : Place) (meaning : Meaning) (at column to : ℕ) (before after : Members) (values : List Data)
         → AllowsDashes place column → at < to → IsSequence text meaning column at before values to after
         → IsContent text place meaning false at before (array (items_of values)) to after
-    mapping : (place : Place) (meaning : Meaning) (at column to : ℕ) (before after members merged : Members) → AllowsKeys place column
-        → at < to → IsMapping text meaning column at before members merged to after
-        → IsContent text place meaning false at before (object (with_missing members merged)) to after
+    mapping : (place : Place) (meaning : Meaning) (at column to : ℕ) (before after members : Members) (merged : Option Members)
+        → AllowsKeys place column → at < to → IsMapping text meaning column at before members merged to after
+        → IsContent text place meaning false at before (object (joined members merged)) to after
     flow_sequence : (place : Place) (meaning : Meaning) (at start last to : ℕ) (before after : Members) (ready : Bool) (values : List Data)
         → Reaches text place at start → slice_index text start ≡ 91 → AreItems text meaning (start + 1) before values ready last after
         → IsFlowSign text 93 last to → IsContent text place meaning false at before (array (items_of values)) to after
-    flow_mapping : (place : Place) (meaning : Meaning) (at start last to : ℕ) (before after members merged : Members) (ready : Bool)
-        → Reaches text place at start → slice_index text start ≡ 123
+    flow_mapping : (place : Place) (meaning : Meaning) (at start last to : ℕ) (before after members : Members) (merged : Option Members)
+        (ready : Bool) → Reaches text place at start → slice_index text start ≡ 123
         → AreMembers text meaning (start + 1) before members merged ready last after → IsFlowSign text 125 last to
-        → IsContent text place meaning false at before (object (with_missing members merged)) to after
+        → IsContent text place meaning false at before (object (joined members merged)) to after
 
   -- items with their dashes in one column, in order
   pub data IsSequence (text : List ℕ) : Meaning → ℕ → ℕ → Members → List Data → ℕ → Members → Type 0 where
@@ -241,20 +241,17 @@ mutual
         → column_of text dash ≡ column → IsNode text (Block (column + 1) (column + 1)) meaning (dash + 1) middle value to after
         → IsSequence text meaning column from before (values ++ value ∷ []) to after
 
-  -- Members with their keys in one column, put in one after another, and the members that were merged.
-  pub data IsMapping (text : List ℕ) : Meaning → ℕ → ℕ → Members → Members → Members → ℕ → Members → Type 0 where
+  -- members with their keys in one column, one after another and none twice, and what was merged
+  pub data IsMapping (text : List ℕ) : Meaning → ℕ → ℕ → Members → Members → Option Members → ℕ → Members → Type 0 where
     no_keys : (meaning : Meaning) (column from : ℕ) (anchors : Members)
-        → IsMapping text meaning column from anchors no_members no_members from anchors
-    next_key : (meaning : Meaning) (column from at start behind to : ℕ) (before middle after members merged : Members) (name : List ℕ)
-        (value : Data) → IsMapping text meaning column from before members merged at middle → IsGap text at start
-        → column_of text start ≡ column → IsKey text false start name false behind
+        → IsMapping text meaning column from anchors no_members None from anchors
+    next_key : (meaning : Meaning) (column from at start behind to : ℕ) (before middle after members members_now : Members)
+        (merged merged_now : Option Members) (name : List ℕ) (merges : Bool) (value : Data)
+        → IsMapping text meaning column from before members merged at middle → IsGap text at start
+        → column_of text start ≡ column → IsKey text false start name merges behind
         → IsNode text (Block (column + 1) column) (meaning_below meaning name) behind middle value to after
-        → IsMapping text meaning column from before (put name value members) merged to after
-    merge_key : (meaning : Meaning) (column from at start behind to : ℕ) (before middle after members merged more : Members)
-        (name : List ℕ) (value : Data) → IsMapping text meaning column from before members merged at middle → IsGap text at start
-        → column_of text start ≡ column → IsKey text false start name true behind
-        → IsNode text (Block (column + 1) column) (meaning_below meaning name) behind middle value to after
-        → merged_with merged value ≡ Some more → IsMapping text meaning column from before members more to after
+        → Adds name value merges members merged members_now merged_now
+        → IsMapping text meaning column from before members_now merged_now to after
 
   -- items with a comma between two and perhaps behind the last; ready: an item can come next
   pub data AreItems (text : List ℕ) : Meaning → ℕ → Members → List Data → Bool → ℕ → Members → Type 0 where
@@ -267,18 +264,15 @@ mutual
         → AreItems text meaning from before values true to after
 
   -- members in the same way
-  pub data AreMembers (text : List ℕ) : Meaning → ℕ → Members → Members → Members → Bool → ℕ → Members → Type 0 where
-    no_entries : (meaning : Meaning) (from : ℕ) (anchors : Members)
-        → AreMembers text meaning from anchors no_members no_members true from anchors
-    next_entry : (meaning : Meaning) (from at start behind to : ℕ) (before middle after members merged : Members) (name : List ℕ)
-        (value : Data) → AreMembers text meaning from before members merged true at middle → IsGap text at start
-        → IsKey text true start name false behind → IsNode text FlowValue (meaning_below meaning name) behind middle value to after
-        → AreMembers text meaning from before (put name value members) merged false to after
-    merge_entry : (meaning : Meaning) (from at start behind to : ℕ) (before middle after members merged more : Members) (name : List ℕ)
-        (value : Data) → AreMembers text meaning from before members merged true at middle → IsGap text at start
-        → IsKey text true start name true behind → IsNode text FlowValue (meaning_below meaning name) behind middle value to after
-        → merged_with merged value ≡ Some more → AreMembers text meaning from before members more false to after
-    entry_comma : (meaning : Meaning) (from at to : ℕ) (before after members merged : Members)
+  pub data AreMembers (text : List ℕ) : Meaning → ℕ → Members → Members → Option Members → Bool → ℕ → Members → Type 0 where
+    no_entries : (meaning : Meaning) (from : ℕ) (anchors : Members) → AreMembers text meaning from anchors no_members None true from anchors
+    next_entry : (meaning : Meaning) (from at start behind to : ℕ) (before middle after members members_now : Members)
+        (merged merged_now : Option Members) (name : List ℕ) (merges : Bool) (value : Data)
+        → AreMembers text meaning from before members merged true at middle → IsGap text at start
+        → IsKey text true start name merges behind → IsNode text FlowValue (meaning_below meaning name) behind middle value to after
+        → Adds name value merges members merged members_now merged_now
+        → AreMembers text meaning from before members_now merged_now false to after
+    entry_comma : (meaning : Meaning) (from at to : ℕ) (before after members : Members) (merged : Option Members)
         → AreMembers text meaning from before members merged false at after → IsFlowSign text 44 at to
         → AreMembers text meaning from before members merged true to after
 

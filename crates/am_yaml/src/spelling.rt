@@ -1,12 +1,14 @@
 //! The check of what was read: the value is built again from the pieces that the parser left, and each step is one of YAML's rules.
-ghost use Rattle.std.specs.Prelude.{◌≡◌, ◌+◌, ◌<◌, ◌≤◌, ◌&&◌, true, IfOk, OnOk, Some, false, length, map, option_map, slice_index};
+ghost use Rattle.std.specs.Prelude.{◌≡◌, ◌+◌, ◌<◌, ◌≤◌, ◌&&◌, true, IfOk, OnOk, Some, None, false, length, map, option_map, slice_index};
 ghost use Rattle.std.specs.Prelude.{slice_range, string_bytes};
-ghost use Rattle.serde_json.specs.Data.{object};
+ghost use Rattle.serde_json.specs.Data.{no_members, object, put as with_member};
+ghost use Rattle.serde_json.specs.Find.{get_member};
 ghost use Rattle.serde_json.specs.View.{members_view, view};
 ghost use Rattle.am_yaml.specs.Behind.{AreFlowItemsBehind, AreFlowMembersBehind, AreItemsBehind, AreMembersBehind, ArePropertiesBehind};
 ghost use Rattle.am_yaml.specs.Behind.{IsFlat};
 ghost use Rattle.am_yaml.specs.Bytes.{IsGap, IsSign, are_blanks, column_of};
-ghost use Rattle.am_yaml.specs.Merges.{merged_with, with_missing};
+ghost use Rattle.am_yaml.specs.Fields.{merged_in, own_in};
+ghost use Rattle.am_yaml.specs.Merges.{Adds, joined as joined_members, merged_with};
 ghost use Rattle.am_yaml.specs.Scalars.{are_of_names as are_all_of_names, is_block_sign as is_a_block_sign, is_quote as is_a_quote};
 ghost use Rattle.am_yaml.specs.Scalars.{meaning_at as meaning_behind};
 ghost use Rattle.am_yaml.specs.Spelling.{AreProperties, HasNoMarker, IsContent, IsBlock, IsBlockEnd, IsDouble, IsEnd, IsEscaped};
@@ -67,7 +69,8 @@ struct Before<'t> {
 #[derive(Drop)]
 struct Fields {
     own: Map<String, Value>,
-    merged: Map<String, Value>,
+    /// What the merge key added, if there was one.
+    merged: Option<Map<String, Value>>,
 }
 
 /// A text and its pieces.
@@ -426,10 +429,25 @@ impl<'t> Spelling<'t> {
         let Some(name) = name else {
             return Ok(());
         };
-        match member_of(anchors, name) {
+        self.add(anchors, name, value.clone()?, at)
+    }
+
+    /// Puts in a member, whose name no other has.
+    fn add(
+        &self,
+        members: &mut Map<String, Value>,
+        name: &str,
+        value: Value,
+        at: usize,
+    ) -> Result<(), Stop>
+        ensures kept { OnOk result (members_view members.new.entries
+            ≡ with_member name.now (view value) (members_view members.old.entries)) }
+        ensures is_new { OnOk result (get_member name.now (members_view members.old.entries) ≡ None) }
+    {
+        match member_of(members, name) {
             Some(_) => Err(unconfirmed(at)),
             None => {
-                put(anchors, self.alloc, name, value.clone()?)?;
+                put(members, self.alloc, name, value)?;
                 Ok(())
             }
         }
@@ -850,7 +868,7 @@ impl<'t> Spelling<'t> {
         let column = self.first_column(floor, start)?;
         let mut fields = Fields {
             own: Map::new(self.alloc),
-            merged: Map::new(self.alloc),
+            merged: None,
         };
         let mut spot = start;
         for _ in 0..self.rows.len() {
@@ -876,8 +894,8 @@ impl<'t> Spelling<'t> {
     ) -> Result<Spot, Stop>
         requires { column < length self.now.text.now }
         ensures { IfOk result (λ next. AreMembersBehind self.now.text.now below.meaning column spot.at (members_view anchors.old.entries)
-            (members_view fields.old.own.entries) (members_view fields.old.merged.entries)
-            (members_view fields.new.own.entries) (members_view fields.new.merged.entries) next.at (members_view anchors.new.entries)) }
+            (own_in fields.old) (merged_in fields.old) (own_in fields.new) (merged_in fields.new)
+            next.at (members_view anchors.new.entries)) }
     {
         let row = self.row(spot)?;
         let (from, to) = (row.from(), row.to());
@@ -894,20 +912,40 @@ impl<'t> Spelling<'t> {
             levels: below.levels,
         };
         let (value, next) = self.node(around, anchors, behind)?;
-        if is_merge {
-            self.merge(&mut fields.merged, &value, from)?;
-            return Ok(next);
-        }
-        put(&mut fields.own, self.alloc, key, value)?;
+        self.put_in(fields, key, is_merge, value, from)?;
         Ok(next)
     }
 
-    /// Adds what a merge key at an offset adds.
-    fn merge(&self, merged: &mut Map<String, Value>, value: &Value, at: usize) -> Result<(), Stop>
-        ensures { OnOk result (merged_with (members_view merged.old.entries) (view value.now) ≡ Some (members_view merged.new.entries)) }
+    /// Puts in the value of a key at an offset: a member whose name no other has, or what the only merge key adds.
+    fn put_in(
+        &self,
+        fields: &mut Fields,
+        name: &str,
+        is_merge: bool,
+        value: Value,
+        at: usize,
+    ) -> Result<(), Stop>
+        ensures { OnOk result (Adds name.now (view value) is_merge (own_in fields.old) (merged_in fields.old)
+            (own_in fields.new) (merged_in fields.new)) }
     {
-        match merge(self.alloc, merged, value) {
-            Ok(()) => Ok(()),
+        if !is_merge {
+            self.add(&mut fields.own, name, value, at)?;
+            return Ok(());
+        }
+        if fields.merged.is_some() {
+            return Err(unconfirmed(at));
+        }
+        fields.merged = Some(self.merged(&value, at)?);
+        Ok(())
+    }
+
+    /// What a merge key at an offset adds.
+    fn merged(&self, value: &Value, at: usize) -> Result<Map<String, Value>, Stop>
+        ensures { IfOk result (λ merged. merged_with no_members (view value.now) ≡ Some (members_view merged.entries)) }
+    {
+        let mut merged = Map::new(self.alloc);
+        match merge(self.alloc, &mut merged, value) {
+            Ok(()) => Ok(merged),
             Err(MergeFault::Kind) => Err(unconfirmed(at)),
             Err(MergeFault::NoMemory) => Err(Stop::NoMemory),
         }
@@ -915,12 +953,16 @@ impl<'t> Spelling<'t> {
 
     /// The mapping of its own members and those that were merged.
     fn joined(&self, fields: Fields) -> Result<Value, Stop>
-        ensures { IfOk result (λ value. view value ≡ object (with_missing (members_view fields.own.entries)
-            (members_view fields.merged.entries))) }
+        ensures { IfOk result (λ value. view value ≡ object (joined_members (own_in fields) (merged_in fields))) }
     {
         let Fields { mut own, merged } = fields;
-        add_missing(self.alloc, &mut own, &merged)?;
-        Ok(Value::Object(own))
+        match merged {
+            Some(merged) => {
+                add_missing(self.alloc, &mut own, &merged)?;
+                Ok(Value::Object(own))
+            }
+            None => Ok(Value::Object(own)),
+        }
     }
 
     /// The value of a sequence in brackets.
@@ -1029,7 +1071,7 @@ impl<'t> Spelling<'t> {
         self.flow_sign(b'{', opening)?;
         let mut fields = Fields {
             own: Map::new(self.alloc),
-            merged: Map::new(self.alloc),
+            merged: None,
         };
         let mut is_ready = true;
         let mut spot = Spot {
@@ -1060,8 +1102,8 @@ impl<'t> Spelling<'t> {
     ) -> Result<Spot, Stop>
         ensures { IfOk result (λ next. AreFlowMembersBehind self.now.text.now below.meaning is_ready spot.at
             (members_view anchors.old.entries)
-            (members_view fields.old.own.entries) (members_view fields.old.merged.entries)
-            (members_view fields.new.own.entries) (members_view fields.new.merged.entries) next.at (members_view anchors.new.entries)) }
+            (own_in fields.old) (merged_in fields.old) (own_in fields.new) (merged_in fields.new)
+            next.at (members_view anchors.new.entries)) }
     {
         if !is_ready {
             return self.next_sign(b',', spot);
@@ -1077,11 +1119,7 @@ impl<'t> Spelling<'t> {
             levels: below.levels,
         };
         let (value, next) = self.node(around, anchors, behind)?;
-        if is_merge {
-            self.merge(&mut fields.merged, &value, from)?;
-            return Ok(next);
-        }
-        put(&mut fields.own, self.alloc, key, value)?;
+        self.put_in(fields, key, is_merge, value, from)?;
         Ok(next)
     }
 }

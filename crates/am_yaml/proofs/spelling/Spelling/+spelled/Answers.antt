@@ -1,16 +1,16 @@
-use Rattle.std.proofs.Common.{◌≡◌, ◌+◌, ◌++◌, ◌∷◌, ◌≤◌, ◌<◌, [], List, Bool, Option, Some, true, false, ℕ, Vec, Global, map, slice_index}
+use Rattle.std.proofs.Common.{◌≡◌, ◌+◌, ◌++◌, ◌∷◌, ◌≤◌, ◌<◌, [], List, Bool, Option, None, true, false, ℕ, Vec, Global, map, slice_index}
 use Rattle.std.proofs.lemmas.List.{map-append}
 use Rattle.std.proofs.lemmas.Result.{IfOk-weaker}
 use Rattle.serde_json.proofs.Views.{Entry, view-Array}
-use Rattle.serde_json.specs.Data.{Data, Members, object, put}
+use Rattle.serde_json.specs.Data.{Data, Members, object}
 use Rattle.serde_json.specs.View.{members_view, view}
 use Rattle.serde_json.specs.declared.value.Value.{Value, Array}
 use Rattle.am_yaml.specs.Behind.{AreFlowItemsBehind, AreFlowMembersBehind, IsFlat}
 use Rattle.am_yaml.specs.Bytes.{IsGap}
-use Rattle.am_yaml.specs.Merges.{merged_with, with_missing}
+use Rattle.am_yaml.specs.Merges.{Adds, joined}
 use Rattle.am_yaml.specs.Scalars.{meaning_below}
 use Rattle.am_yaml.specs.Spelling.{AreItems, AreMembers, AreProperties, IsContent, IsFlowSign, IsKey, IsMapping, IsNewName, IsNode, IsSequence, Reaches}
-use Rattle.am_yaml.specs.Spelling.{anchored, entry_comma, flow_mapping, flow_sequence, mapping, merge_entry, merge_key, next_entry, next_item, next_key}
+use Rattle.am_yaml.specs.Spelling.{anchored, entry_comma, flow_mapping, flow_sequence, mapping, next_entry, next_item, next_key}
 use Rattle.am_yaml.specs.Spelling.{next_part, no_entries, no_items, no_keys, no_parts, node, part_comma, sequence}
 use Rattle.am_yaml.specs.declared.parser.Meaning.{Meaning}
 use Rattle.am_yaml.specs.declared.spelling.Place.{Place}
@@ -30,43 +30,37 @@ item_behind text meaning true at to middle after values value is item = λ from 
 item_behind text meaning false at to middle after values value is item = λ from start before. cc
 
 -- and so between braces
-comma_between : (text : List ℕ) (meaning : Meaning) (ready : Bool) (at to : ℕ) (anchors fields merged : Members) → ready ≡ false
-    → IsFlowSign text 44 at to → AreFlowMembersBehind text meaning ready at anchors fields merged fields merged to anchors
+comma_between : (text : List ℕ) (meaning : Meaning) (ready : Bool) (at to : ℕ) (anchors fields : Members) (merged : Option Members)
+    → ready ≡ false → IsFlowSign text 44 at to → AreFlowMembersBehind text meaning ready at anchors fields merged fields merged to anchors
 comma_between text meaning false at to anchors fields merged is sign = λ from start before. entry_comma _ _ _ _ _ _ _ _ before sign
 comma_between text meaning true at to anchors fields merged is sign = λ from start before. cc
 
-member_behind : (text : List ℕ) (meaning : Meaning) (ready : Bool) (at start behind to : ℕ) (middle after fields merged : Members) (name : List ℕ)
-    (value : Data) → ready ≡ true → IsGap text at start → IsKey text true start name false behind
-    → IsNode text FlowValue (meaning_below meaning name) behind middle value to after
-    → AreFlowMembersBehind text meaning ready at middle fields merged (put name value fields) merged to after
-member_behind text meaning true at start behind to middle after fields merged name value is gap key item =
-    λ from begin before. next_entry _ _ _ _ _ _ _ _ _ _ _ _ _ before gap key item
-member_behind text meaning false at start behind to middle after fields merged name value is gap key item = λ from begin before. cc
-
-merge_behind : (text : List ℕ) (meaning : Meaning) (ready : Bool) (at start behind to : ℕ) (middle after fields merged more : Members) (name : List ℕ)
-    (value : Data) → ready ≡ true → IsGap text at start → IsKey text true start name true behind
-    → IsNode text FlowValue (meaning_below meaning name) behind middle value to after → merged_with merged value ≡ Some more
-    → AreFlowMembersBehind text meaning ready at middle fields merged fields more to after
-merge_behind text meaning true at start behind to middle after fields merged more name value is gap key item adds =
-    λ from begin before. merge_entry _ _ _ _ _ _ _ _ _ _ _ _ _ _ before gap key item adds
-merge_behind text meaning false at start behind to middle after fields merged more name value is gap key item adds = λ from begin before. cc
+member_behind : (text : List ℕ) (meaning : Meaning) (ready : Bool) (at start behind to : ℕ) (middle after fields fields_now : Members)
+    (merged merged_now : Option Members) (name : List ℕ) (merges : Bool) (value : Data) → ready ≡ true → IsGap text at start
+    → IsKey text true start name merges behind → IsNode text FlowValue (meaning_below meaning name) behind middle value to after
+    → Adds name value merges fields merged fields_now merged_now
+    → AreFlowMembersBehind text meaning ready at middle fields merged fields_now merged_now to after
+member_behind text meaning true at start behind to middle after fields fields_now merged merged_now name merges value is gap key item adds =
+    λ from begin before. next_entry _ _ _ _ _ _ _ _ _ _ _ _ _ _ _ _ before gap key item adds
+member_behind text meaning false at start behind to middle after fields fields_now merged merged_now name merges value is gap key item adds =
+    λ from begin before. cc
 
 -- a collection begins with no items and no fields
 no_items_yet : (text : List ℕ) (meaning : Meaning) (column at : ℕ) (anchors : Members) (items : List Value) → items ≡ []
     → IsSequence text meaning column at anchors (map view items) at anchors
 no_items_yet text meaning column at anchors items none = rw none (no_items _ _ _ _)
 
-no_fields_yet : (text : List ℕ) (meaning : Meaning) (column at : ℕ) (anchors : Members) (fields merged : List Entry) → fields ≡ [] → merged ≡ []
-    → IsMapping text meaning column at anchors (members_view fields) (members_view merged) at anchors
-no_fields_yet text meaning column at anchors fields merged none same = rw (none, same) (no_keys _ _ _ _)
+no_fields_yet : (text : List ℕ) (meaning : Meaning) (column at : ℕ) (anchors : Members) (fields : List Entry) → fields ≡ []
+    → IsMapping text meaning column at anchors (members_view fields) None at anchors
+no_fields_yet text meaning column at anchors fields none = rw none (no_keys _ _ _ _)
 
 no_flow_items_yet : (text : List ℕ) (meaning : Meaning) (at : ℕ) (anchors : Members) (items : List Value) → items ≡ []
     → AreItems text meaning at anchors (map view items) true at anchors
 no_flow_items_yet text meaning at anchors items none = rw none (no_parts _ _ _)
 
-no_flow_fields_yet : (text : List ℕ) (meaning : Meaning) (at : ℕ) (anchors : Members) (fields merged : List Entry) → fields ≡ [] → merged ≡ []
-    → AreMembers text meaning at anchors (members_view fields) (members_view merged) true at anchors
-no_flow_fields_yet text meaning at anchors fields merged none same = rw (none, same) (no_entries _ _ _)
+no_flow_fields_yet : (text : List ℕ) (meaning : Meaning) (at : ℕ) (anchors : Members) (fields : List Entry) → fields ≡ []
+    → AreMembers text meaning at anchors (members_view fields) None true at anchors
+no_flow_fields_yet text meaning at anchors fields none = rw none (no_entries _ _ _)
 
 -- and it ends as what is written of a node
 sequence_content : (text : List ℕ) (place : Place) (meaning inner : Meaning) (at column to end floor dashes : ℕ) (before after : Members)
@@ -77,12 +71,12 @@ sequence_content text place meaning inner at column to end floor dashes before a
     rw (is, ended, view-Array)
     (sequence (Block floor dashes) meaning at column to before after (map view items.items) least further (rw same at all))
 
-mapping_content : (text : List ℕ) (place : Place) (meaning inner : Meaning) (at column to end floor dashes : ℕ) (before after own merged : Members)
-    (value : Value) → place ≡ Block floor dashes → inner ≡ meaning → floor ≤ column → end ≡ to → at < to
-    → view value ≡ object (with_missing own merged) → IsMapping text inner column at before own merged to after
+mapping_content : (text : List ℕ) (place : Place) (meaning inner : Meaning) (at column to end floor dashes : ℕ) (before after own : Members)
+    (merged : Option Members) (value : Value) → place ≡ Block floor dashes → inner ≡ meaning → floor ≤ column → end ≡ to → at < to
+    → view value ≡ object (joined own merged) → IsMapping text inner column at before own merged to after
     → IsContent text place meaning false at before (view value) end after
-mapping_content text place meaning inner at column to end floor dashes before after own merged value is same least ended further joined all =
-    rw (is, ended, joined)
+mapping_content text place meaning inner at column to end floor dashes before after own merged value is same least ended further whole all =
+    rw (is, ended, whole)
     (mapping (Block floor dashes) meaning at column to before after own merged least further (rw same at all))
 
 flow_sequence_content : (text : List ℕ) (place : Place) (meaning inner : Meaning) (at start last to : ℕ) (before after : Members) (ready : Bool)
@@ -92,12 +86,12 @@ flow_sequence_content : (text : List ℕ) (place : Place) (meaning inner : Meani
 flow_sequence_content text place meaning inner at start last to before after ready items same reaches sign all closing =
     rw view-Array (flow_sequence place meaning at start last to before after ready (map view items.items) reaches sign (rw same at all) closing)
 
-flow_mapping_content : (text : List ℕ) (place : Place) (meaning inner : Meaning) (at start last to : ℕ) (before after own merged : Members)
-    (ready : Bool) (value : Value) → inner ≡ meaning → Reaches text place at start → slice_index text start ≡ 123
-    → view value ≡ object (with_missing own merged) → AreMembers text inner (start + 1) before own merged ready last after
+flow_mapping_content : (text : List ℕ) (place : Place) (meaning inner : Meaning) (at start last to : ℕ) (before after own : Members)
+    (merged : Option Members) (ready : Bool) (value : Value) → inner ≡ meaning → Reaches text place at start → slice_index text start ≡ 123
+    → view value ≡ object (joined own merged) → AreMembers text inner (start + 1) before own merged ready last after
     → IsFlowSign text 125 last to → IsContent text place meaning false at before (view value) to after
-flow_mapping_content text place meaning inner at start last to before after own merged ready value same reaches sign joined all closing =
-    rw joined (flow_mapping place meaning at start last to before after own merged ready reaches sign (rw same at all) closing)
+flow_mapping_content text place meaning inner at start last to before after own merged ready value same reaches sign whole all closing =
+    rw whole (flow_mapping place meaning at start last to before after own merged ready reaches sign (rw same at all) closing)
 
 -- a node names its value
 named_node : (text : List ℕ) (place : Place) (meaning : Meaning) (from at to : ℕ) (tag : Bool) (name : Option (List ℕ))
@@ -128,7 +122,7 @@ sequence-returns-then-eq t c =
     c.in_ok-end.ensures.0 c.in_ok-end.ensures.1 c.loop.invariant
 
 pub mapping-loop-init : goal.mapping-loop-init
-mapping-loop-init t c = no_fields_yet _ _ _ _ _ _ _ c.new.ensures.empty c.new-2.ensures.empty
+mapping-loop-init t c = no_fields_yet _ _ _ _ _ _ c.new.ensures.empty
 
 pub mapping-returns-then-eq : goal.mapping-returns-then-eq
 mapping-returns-then-eq t c =
@@ -144,7 +138,7 @@ flow_sequence-returns-then-eq t c =
     c.loop.invariant c.in_ok-end.ensures
 
 pub flow_mapping-loop-init : goal.flow_mapping-loop-init
-flow_mapping-loop-init t c = no_flow_fields_yet _ _ _ _ _ _ c.new.ensures.empty c.new-2.ensures.empty
+flow_mapping-loop-init t c = no_flow_fields_yet _ _ _ _ _ c.new.ensures.empty
 
 pub flow_mapping-returns-then-eq : goal.flow_mapping-returns-then-eq
 flow_mapping-returns-then-eq t c =
@@ -156,16 +150,11 @@ item-returns t c = λ from start before.
     rw (c.in_ok-push.ensures.items, map-append)
     (next_item _ _ _ _ _ _ _ _ _ _ _ before c.in_ok-gap.ensures c.in_ok-sign.ensures c.in_ok-in_column.ensures c.in_ok-value.ensures)
 
-pub member-returns-then-is_merge : goal.member-returns-then-is_merge
-member-returns-then-is_merge t c = λ from start before.
-    let item = rw (c.meaning_below.ensures, c.as_str-key.ensures.value) at c.in_ok-value.ensures in
-    merge_key _ _ _ _ _ _ _ _ _ _ _ _ _ _ _ before c.in_ok-gap.ensures c.in_ok-in_column.ensures (rw c.if-is_merge.true at c.in_ok-name.ensures) item c.in_ok-merge.ensures
-
 pub member-returns : goal.member-returns
 member-returns t c = λ from start before.
     let item = rw (c.meaning_below.ensures, c.as_str-key.ensures.value) at c.in_ok-value.ensures in
-    rw (c.in_ok-put.ensures.ok, c.as_str-key.ensures.value)
-    (next_key _ _ _ _ _ _ _ _ _ _ _ _ _ _ before c.in_ok-gap.ensures c.in_ok-in_column.ensures (rw c.if-is_merge.false at c.in_ok-name.ensures) item)
+    let adds = rw c.as_str-key.ensures.value at c.in_ok-put_in.ensures in
+    next_key _ _ _ _ _ _ _ _ _ _ _ _ _ _ _ _ _ before c.in_ok-gap.ensures c.in_ok-in_column.ensures c.in_ok-name.ensures item adds
 
 pub flow_item-returns-then-not-is_ready : goal.flow_item-returns-then-not-is_ready
 flow_item-returns-then-not-is_ready t c =
@@ -179,13 +168,8 @@ pub flow_member-returns-then-not-is_ready : goal.flow_member-returns-then-not-is
 flow_member-returns-then-not-is_ready t c =
     IfOk-weaker _ (λ n. IsFlowSign _ 44 _ n.at) _ (λ n sign. comma_between _ _ _ _ _ _ _ _ c.if-not-is_ready.true sign) c.next_sign.ensures
 
-pub flow_member-returns-then-is_merge : goal.flow_member-returns-then-is_merge
-flow_member-returns-then-is_merge t c = λ from start before.
-    let item = rw (c.meaning_below.ensures, c.as_str-key.ensures.value) at c.in_ok-value.ensures in
-    merge_behind _ _ _ _ _ _ _ _ _ _ _ _ _ _ c.if-not-is_ready.false c.in_ok-gap.ensures (rw c.if-is_merge.true at c.in_ok-name.ensures) item c.in_ok-merge.ensures from start before
-
 pub flow_member-returns : goal.flow_member-returns
 flow_member-returns t c = λ from start before.
     let item = rw (c.meaning_below.ensures, c.as_str-key.ensures.value) at c.in_ok-value.ensures in
-    rw (c.in_ok-put.ensures.ok, c.as_str-key.ensures.value)
-    (member_behind _ _ _ _ _ _ _ _ _ _ _ _ _ c.if-not-is_ready.false c.in_ok-gap.ensures (rw c.if-is_merge.false at c.in_ok-name.ensures) item from start before)
+    let adds = rw c.as_str-key.ensures.value at c.in_ok-put_in.ensures in
+    member_behind _ _ _ _ _ _ _ _ _ _ _ _ _ _ _ _ c.if-not-is_ready.false c.in_ok-gap.ensures c.in_ok-name.ensures item adds from start before

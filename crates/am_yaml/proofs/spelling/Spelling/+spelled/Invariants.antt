@@ -1,5 +1,6 @@
 use Rattle.std.proofs.Common.{◌+◌, ◌*◌, map}
 use Rattle.serde_json.specs.View.{members_view, view}
+use Rattle.am_yaml.specs.Fields.{merged_in, own_in}
 use Rattle.am_yaml.specs.Spelling.{AreItems, AreMembers, IsSequence, IsMapping}
 use Rattle.am_yaml.proofs.spelling.Spelling.+spelled.Given as goal
 
@@ -45,7 +46,7 @@ invariant-sequence-loop l =
 abbrev pub invariant-mapping-loop : goal.invariant-mapping-loop
 invariant-mapping-loop l =
     IsMapping l.self.text.now l.below.meaning l.column l.fn.start.at (members_view l.fn.anchors.entries)
-    (members_view l.fields.own.entries) (members_view l.fields.merged.entries) l.spot.at (members_view l.anchors.entries)
+    (own_in l.fields) (merged_in l.fields) l.spot.at (members_view l.anchors.entries)
 
 abbrev pub invariant-flow_sequence-loop : goal.invariant-flow_sequence-loop
 invariant-flow_sequence-loop l =
@@ -55,4 +56,4 @@ invariant-flow_sequence-loop l =
 abbrev pub invariant-flow_mapping-loop : goal.invariant-flow_mapping-loop
 invariant-flow_mapping-loop l =
     AreMembers l.self.text.now l.below.meaning (l.opening + 1) (members_view l.fn.anchors.entries)
-    (members_view l.fields.own.entries) (members_view l.fields.merged.entries) l.is_ready l.spot.at (members_view l.anchors.entries)
+    (own_in l.fields) (merged_in l.fields) l.is_ready l.spot.at (members_view l.anchors.entries)
